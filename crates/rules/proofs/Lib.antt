@@ -1,0 +1,2 @@
+-- What is proved of the rules.
+pub mod Fields

@@ -1,0 +1,34 @@
+-- Little-endian fields: numbers as bytes, the lowest first, and rows of them. Reading is total: past the end every byte is 0.
+use Prim.Native.Nat.{ℕ, zero, suc, _+_, _*_, _/_, _%_}
+use mathlib.Core.List.{List, [], _∷_, _++_}
+use lib.ListN.{getD}
+
+-- the k bytes from a place on
+unfoldable pub read : List ℕ → ℕ → ℕ → List ℕ
+read b at zero = []
+read b at (suc k) = getD b at 0 ∷ read b (at + 1) k
+
+-- the number that bytes spell
+unfoldable pub value : List ℕ → ℕ
+value [] = 0
+value (b ∷ bs) = b + 256 * value bs
+
+-- a number in k bytes
+unfoldable pub bytesOf : ℕ → ℕ → List ℕ
+bytesOf zero v = []
+bytesOf (suc k) v = v % 256 ∷ bytesOf k (v / 256)
+
+-- the number of k bytes at a place
+unfoldable pub get : ℕ → List ℕ → ℕ → ℕ
+get k b at = value (read b at k)
+
+-- a row of fields, written: the widths and the values
+unfoldable pub fields : List ℕ → List ℕ → List ℕ
+fields [] vs = []
+fields (w ∷ ws) [] = []
+fields (w ∷ ws) (v ∷ vs) = bytesOf w v ++ fields ws vs
+
+-- and read
+unfoldable pub fieldsAt : List ℕ → List ℕ → ℕ → List ℕ
+fieldsAt [] b at = []
+fieldsAt (w ∷ ws) b at = get w b at ∷ fieldsAt ws b (at + w)

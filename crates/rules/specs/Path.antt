@@ -1,0 +1,63 @@
+-- Paths: the components of a rooted path, the limits, and the check of one component.
+use Prim.Native.Nat.{ℕ, _+_}
+use mathlib.Core.Bool.{Bool, true, false, cond, not, _||_}
+use mathlib.Core.List.{List, [], _∷_}
+use lib.ListN.{length}
+use lib.Dec.{eqb, ltb}
+use Rattle.rules.specs.Bytes.{same, holds}
+
+abbrev pub slash : ℕ
+slash = 47
+
+abbrev pub dot : ℕ
+dot = 46
+
+-- a component, with the place of the path where it starts
+pub data Part : Type 0 where
+  name : ℕ → List ℕ → Part
+  parent : ℕ → Part
+
+abbrev pub onto : ℕ → List (List ℕ) → List (List ℕ)
+onto b [] = (b ∷ []) ∷ []
+onto b (p ∷ ps) = (b ∷ p) ∷ ps
+
+-- the parts between the slashes, empty ones too
+unfoldable pub pieces : List ℕ → List (List ℕ)
+pieces [] = [] ∷ []
+pieces (b ∷ s) = cond (eqb b slash) ([] ∷ pieces s) (onto b (pieces s))
+
+abbrev pub isDot : List ℕ → Bool
+isDot p = same p (dot ∷ [])
+
+abbrev pub isDots : List ℕ → Bool
+isDots p = same p (dot ∷ dot ∷ [])
+
+-- an empty part and `.` are dropped, `..` goes to the parent
+unfoldable pub sorted : ℕ → List ℕ → List Part → List Part
+sorted at p ps = cond (same p []) ps (cond (isDot p) ps (cond (isDots p) (parent at ∷ ps) (name at p ∷ ps)))
+
+-- of the pieces, the first of which stands at a place; a slash stands behind each
+unfoldable pub kept : ℕ → List (List ℕ) → List Part
+kept at [] = []
+kept at (p ∷ ps) = sorted at p (kept (at + length p + 1) ps)
+
+-- the components of the bytes s, which stand at a place of the path
+unfoldable pub components : ℕ → List ℕ → List Part
+components at s = kept at (pieces s)
+
+-- the path has its leading slash
+unfoldable pub rooted : List ℕ → Bool
+rooted [] = false
+rooted (b ∷ s) = eqb b slash
+
+unfoldable pub anyLonger : ℕ → List (List ℕ) → Bool
+anyLonger n [] = false
+anyLonger n (p ∷ ps) = ltb n (length p) || anyLonger n ps
+
+-- over a limit: 4,096 bytes, or 255 between slashes
+unfoldable pub tooLong : List ℕ → Bool
+tooLong s = ltb 4096 (length s) || anyLonger 255 (pieces s)
+
+-- what `validate_path_component` refuses: `.`, `..`, any slash, any byte 0
+unfoldable pub badComponent : List ℕ → Bool
+badComponent p = isDot p || isDots p || holds slash p || holds 0 p

@@ -1,0 +1,19 @@
+// The numbers of the trade (R1 to R8), for the code of the crates above; the rules themselves stand in specs/.
+
+pub const VFS_MAX_INO: u64 = 72057594037927935;
+
+pub const ROOT_ID: u64 = 1;
+
+pub const FIRST_NODE: u64 = 2;
+
+pub const MAX_NODES: usize = 1024;
+
+pub const MAX_NAME: usize = 255;
+
+pub const MAX_PATH: usize = 4096;
+
+pub const MAX_LINE: usize = 8192;
+
+pub const DIR_MODE: u32 = 16895;
+
+pub const BLOCK_SIZE: u32 = 4096;
