@@ -1,0 +1,99 @@
+-- Of every set of held indexes and every counter, one allocation is what demand 3 says. Assumes nothing.
+use mathlib.Core.Path.{_≡_, refl, sym, ap, _∙_}
+use mathlib.Core.Bool.{Bool, true, false, not, _&&_, true≢false, false≢true}
+use mathlib.Core.Logic.{_⊎_, inl, inr, ⊎-elim}
+use mathlib.Core.Option.{Option, none, some}
+use Prim.Native.Nat.{ℕ, suc, _+_, _-_, _%_, _≤_, _<_}
+use native.Mathlib.Omega.{arith}
+use native.Mathlib.Nat.{eq-zero-or-pos}
+use lib.ListN.{length}
+use lib.Dec.{eqb}
+use borrow.Author.Tests.{eq-eqb, ne-eqb, eqb-true, eqb-false, not-true, not-false}
+use Rattle.rules.specs.Round.{goingRound, untilTwice, visited, firstFree, freeOf, allocate}
+use Rattle.rules.specs.Allocation.{FirstFree, Exact}
+use Rattle.rules.proofs.Rows.{known}
+use Rattle.rules.proofs.Round.{meets, finds-none, spent, At, found-at, at-found}
+
+and-both : (a b : Bool) → (a && b) ≡ true → (a ≡ true) × (b ≡ true)
+and-both true b e = (refl, e)
+and-both false b e = absurd (false≢true e)
+
+module _ (held : ℕ → Bool) where
+  -- a free index is not 0 and not held
+  pub free-is : (k : ℕ) → freeOf held k ≡ true → (0 < k) × (held k ≡ false)
+  free-is k e =
+      let b = and-both (not (eqb k 0)) (not (held k)) e in
+      let z = eqb-false k 0 (not-true (eqb k 0) (b .0)) in
+      (⊎-elim (λ (w : k ≡ 0). absurd (z w)) (λ (p : 0 < k). p) (eq-zero-or-pos k), not-true (held k) (b .1))
+
+  pub is-free : (k : ℕ) → 0 < k → held k ≡ false → freeOf held k ≡ true
+  is-free k p e = rw (ne-eqb k 0 (λ z. omega arith), e)
+
+  -- one that is not free is 0 or held
+  pub not-free : (k : ℕ) → freeOf held k ≡ false → (k ≡ 0) ⊎ (held k ≡ true)
+  not-free k e =
+      ⊎-elim (λ (z : k ≡ 0). inl z)
+      (λ (p : 0 < k). ⊎-elim (λ (t : held k ≡ true). inr t) (λ (f : held k ≡ false). absurd (true≢false (sym (is-free k p f) ∙ e))) (known (held k)))
+      (eq-zero-or-pos k)
+
+  pub zero-held : (k : ℕ) → (k ≡ 0) ⊎ (held k ≡ true) → freeOf held k ≡ false
+  zero-held k (inl z) = rw (eq-eqb k 0 z)
+  zero-held k (inr t) = ⊎-elim (λ (z : k ≡ 0). rw (eq-eqb k 0 z)) (λ (p : 0 < k). rw (t, ne-eqb k 0 (λ z. omega arith))) (eq-zero-or-pos k)
+
+module _ (held : ℕ → Bool) (c : ℕ) (h : c < 256) where
+  handed-out : (k : ℕ) → allocate held c .found ≡ some k → (d : ℕ) × FirstFree held c k d
+  unfolding allocate untilTwice
+  handed-out k e = go (found-at (freeOf held) 257 c k h e)
+    where
+      go : (d : ℕ) × At (freeOf held) 257 c k d → (d : ℕ) × FirstFree held c k d
+      go (d, a) =
+          let f = free-is held k (a .is-free) in
+          let near : d < 256 =
+          ⊎-elim (λ (z : d ≡ 256).
+          let s : k ≡ (c + 0) % 256 = omega (arith, a .place) in
+          absurd (true≢false (sym (a .is-free) ∙ (ap (freeOf held) s ∙ a .before 0 (omega arith)))))
+          (λ (l : d < 256). l) (last d (a .within)) in
+          (d, record {
+            near = near;
+            place = a .place;
+            least = f .0;
+            most = omega (arith, a .place);
+            empty = f .1;
+            before = λ j l. not-free held ((c + j) % 256) (a .before j l);
+            counted = a .counted;
+          })
+        where
+          last : (d : ℕ) → d < 257 → (d ≡ 256) ⊎ (d < 256)
+          last d l = ⊎-elim (λ (z : 256 - d ≡ 0). inl (omega arith)) (λ (p : 0 < 256 - d). inr (omega arith)) (eq-zero-or-pos (256 - d))
+
+  taken-first : (k : ℕ) → (d : ℕ) × FirstFree held c k d → allocate held c .found ≡ some k
+  unfolding allocate untilTwice
+  taken-first k (d, a) =
+      let f : freeOf held ((c + d) % 256) ≡ true = ap (freeOf held) (sym (a .place)) ∙ is-free held k (a .least) (a .empty) in
+      at-found (freeOf held) 257 c d h (omega (arith, a .near)) f (λ j l. zero-held held ((c + j) % 256) (a .before j l)) ∙ ap {B = Option ℕ} some (sym (a .place))
+
+  all-held : allocate held c .found ≡ none → (j : ℕ) → 1 ≤ j → j ≤ 255 → held j ≡ true
+  unfolding allocate untilTwice
+  all-held e j p q =
+      let d = (j + 256 - c) % 256 in
+      let m = meets (freeOf held) 257 c d h (omega (arith, spent (freeOf held) 257 c e)) in
+      let same : (c + d) % 256 ≡ j = omega arith in
+      ⊎-elim (λ (f : freeOf held ((c + d) % 256) ≡ false).
+      ⊎-elim (λ (z : (c + d) % 256 ≡ 0). absurd (omega arith)) (λ (t : held ((c + d) % 256) ≡ true). rw same at t) (not-free held ((c + d) % 256) f))
+      (λ f. let z : _≡_ {A = ℕ} 0 1 = cc in absurd (omega arith)) (m .1)
+
+  none-found : ((j : ℕ) → 1 ≤ j → j ≤ 255 → held j ≡ true) → allocate held c .found ≡ none
+  unfolding allocate untilTwice
+  none-found all =
+      finds-none (freeOf held) 257 c h
+      (λ j l. zero-held held j (⊎-elim (λ (z : j ≡ 0). inl z) (λ (p : 0 < j). inr (all j p (omega arith))) (eq-zero-or-pos j)))
+
+  -- the theorem
+  pub exact : Exact held c
+  unfolding allocate untilTwice
+  exact = record {
+    handed-out = λ k. (handed-out k, taken-first k);
+    refused = (all-held, none-found);
+    refused-count = λ e. spent (freeOf held) 257 c e;
+    moved = refl;
+  }

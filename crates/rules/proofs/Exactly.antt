@@ -1,0 +1,197 @@
+-- Each call answers a number exactly if a test with that number holds and none before it does. Assumes nothing.
+use mathlib.Core.Path.{_≡_, refl}
+use mathlib.Core.Bool.{Bool, true, false, cond, not, _&&_, _||_, true≢false, false≢true}
+use mathlib.Core.List.{List, [], _∷_}
+use mathlib.Core.Option.{Option, none, some}
+use Prim.Native.Nat.{ℕ, _+_}
+use lib.Dec.{eqb, ltb}
+use Rattle.rules.specs.Numbers.{rootNumber, maxIno, maxNodes, storageFor, indexOf, numberOf, NOENT, INVAL, INODE, FULL, NOTFOUND, SMALL, BADOPT, BADMAP}
+use Rattle.rules.specs.Bytes.{holds}
+use Rattle.rules.specs.Utf8.{wellFormed}
+use Rattle.rules.specs.Path.{rooted, isDot, isDots}
+use Rattle.rules.specs.Ids.{badMapping}
+use Rattle.rules.specs.Tree.{Mount, isNone, parentIn, childIn}
+use Rattle.rules.specs.Instance.{Instance, tagOf, mountOf}
+use Rattle.rules.specs.Outcome.{Outcome, Row, _⇒_, firstOf, refused}
+use Rattle.rules.specs.Create.{Creation, Created, outside, unknown, badOptions, tooSmall, createRule}
+use Rattle.rules.specs.Mount.{Request, noRoom, allocation, mountAs, mountRule, restoreMountRule}
+use Rattle.rules.specs.Unmount.{badPath, reached, mountUnder, walkRule, unmounts, unmountAt, unmountRule, rootHeld, rootAt, rootRule}
+use Rattle.rules.specs.Lookup.{routeTag, routeTree, routeRule, entryOf, entryAt, lookupRule, remapRule}
+use Rattle.rules.specs.Listing.{ListRequest, listRule}
+use Rattle.rules.specs.Restore.{saveRule, restoreRule}
+use Rattle.rules.specs.Calls.{Call, mount, restore-mount, umount, set-remove-pseudo-root, path-walk, get-rootfs, route, lookup, readdir, remap-attr-id, options, initialized, save, restore, rule}
+use Rattle.rules.specs.Exactly.{Test, _⟼_, slotEmpty, mountTests, restoreMountTests, pathTests, tests, createTests, Exactly}
+use Rattle.rules.proofs.Rows.{Settles, decides, settled, passes, stops, settle, settle-last, settle-or}
+
+abbrev codeOf : Outcome → ℕ
+codeOf o = o .code
+
+-- the rows and the tests end together
+end : (o : Outcome) → o .code ≡ 0 → Settles (codeOf (firstOf [] o)) []
+end o e = settle-last codeOf o [] (settled (o .code) e)
+
+-- ---- mounts
+
+mount-as : (i : Instance) (r : Request) (k : Option ℕ)
+    → Settles (mountAs i r k .code) ((isNone k ⟼ FULL) ∷ (not (rooted (r .path)) ⟼ INVAL) ∷ (ltb maxIno (r .root) ⟼ INODE) ∷ [])
+unfolding mountAs
+mount-as i r none = stops _ _ _ refl
+mount-as i r (some k) = passes _ _ _ (settle codeOf _ _ _ _ _ _ refl (settle codeOf _ _ _ _ _ _ refl (end _ refl)))
+
+mount-settles : (i : Instance) (r : Request) → Settles (mountRule i r .code) (mountTests i r)
+unfolding mountRule noRoom allocation
+mount-settles i r =
+    settle codeOf _ _ _ _ _ _ refl (settle codeOf _ _ _ _ _ _ refl (settle codeOf _ _ _ _ _ _ refl (settle codeOf _ _ _ _ _ _ refl (settle-last codeOf _ _ (mount-as i r (allocation i .found))))))
+
+restored-settles : (i : Instance) (k : ℕ) (r : Request) → Settles (restoreMountRule i k r .code) (restoreMountTests i k r)
+unfolding restoreMountRule noRoom
+restored-settles i k r =
+    settle codeOf _ _ _ _ _ _ refl (settle codeOf _ _ _ _ _ _ refl (settle codeOf _ _ _ _ _ _ refl (settle codeOf _ _ _ _ _ _ refl (settle codeOf _ _ _ _ _ _ refl
+    (settle codeOf _ _ _ _ _ _ refl (settle codeOf _ _ _ _ _ _ refl (end _ refl)))))))
+
+-- ---- calls that take a path
+
+on-path : (i : Instance) (path : List ℕ) (o : Outcome) (ts : List Test) → Settles (o .code) ts
+    → Settles (firstOf ((badPath path ⇒ refused INVAL i) ∷ []) o .code) (pathTests path ts)
+unfolding badPath
+on-path i path o ts s =
+    settle-or _ (not (wellFormed path)) (not (rooted path)) INVAL ts (settle codeOf (not (wellFormed path) || not (rooted path)) _ [] o _ _ refl (settle-last codeOf o ts s))
+
+unmount-at : (i : Instance) (x : Option ℕ) (m : Option Mount)
+    → Settles (unmountAt i x m .code) ((isNone x ⟼ NOTFOUND) ∷ (isNone m ⟼ NOTFOUND) ∷ [])
+unfolding unmountAt unmounts
+unmount-at i none m = stops _ _ _ refl
+unmount-at i (some x) none = passes _ _ _ (stops _ _ _ refl)
+unmount-at i (some x) (some m) = passes _ _ _ (passes _ _ _ (settled _ refl))
+
+root-held : (i : Instance) (k : ℕ) (t : Option ℕ) → Settles (rootHeld i k t .code) ((isNone t ⟼ NOTFOUND) ∷ [])
+unfolding rootHeld
+root-held i k none = stops _ _ _ refl
+root-held i k (some t) = passes _ _ _ (settled _ refl)
+
+root-at : (i : Instance) (m : Option Mount) → Settles (rootAt i m .code) ((slotEmpty i m ⟼ NOTFOUND) ∷ [])
+unfolding rootAt
+root-at i none = passes _ _ _ (settled _ refl)
+root-at i (some m) = root-held i (m .index) (tagOf i (m .index))
+
+-- ---- routing and lookup
+
+route-tag : (i : Instance) (k x : ℕ) (t : Option ℕ) → Settles (routeTag i k x t .code) ((isNone t ⟼ NOENT) ∷ [])
+unfolding routeTag
+route-tag i k x none = stops _ _ _ refl
+route-tag i k x (some t) = passes _ _ _ (settled _ refl)
+
+route-tree : (i : Instance) (x : ℕ) (m : Option Mount)
+    → Settles (routeTree i x m .code) ((eqb x rootNumber && not (isNone m) && slotEmpty i m ⟼ NOENT) ∷ (false ⟼ NOENT) ∷ [])
+unfolding routeTree routeTag
+route-tree i x none = go (eqb x rootNumber)
+  where
+    go : (b : Bool) → Settles 0 ((b && false && false ⟼ NOENT) ∷ (false ⟼ NOENT) ∷ [])
+    go true = passes _ _ _ (passes _ _ _ (settled _ refl))
+    go false = passes _ _ _ (passes _ _ _ (settled _ refl))
+route-tree i x (some m) = go (eqb x rootNumber) (tagOf i (m .index))
+  where
+    go : (b : Bool) (t : Option ℕ) → Settles (cond b (routeTag i (m .index) (m .root) t) (routeTree i x none) .code) ((b && true && isNone t ⟼ NOENT) ∷ (false ⟼ NOENT) ∷ [])
+    go true none = stops _ _ _ refl
+    go true (some t) = passes _ _ _ (passes _ _ _ (settled _ refl))
+    go false t = passes _ _ _ (passes _ _ _ (settled _ refl))
+
+route-settles : (i : Instance) (x : ℕ) → Settles (routeRule i x .code) (tests i (route x))
+unfolding routeRule
+route-settles i x = go (eqb (indexOf x) 0)
+  where
+    go : (b : Bool)
+        → Settles (cond b (routeTree i (numberOf x) (i .tree .root)) (routeTag i (indexOf x) (numberOf x) (tagOf i (indexOf x))) .code)
+        ((b && (eqb (numberOf x) rootNumber && not (isNone (i .tree .root))) && slotEmpty i (i .tree .root) ⟼ NOENT) ∷ (not b && isNone (tagOf i (indexOf x)) ⟼ NOENT) ∷ [])
+    go true = route-tree i (numberOf x) (i .tree .root)
+    go false = passes _ _ _ (route-tag i (indexOf x) (numberOf x) (tagOf i (indexOf x)))
+
+entry-code : (i : Instance) (x : ℕ) (m : Option Mount) → entryOf i x m .code ≡ 0
+unfolding entryOf
+entry-code i x none = refl
+entry-code i x (some m) = refl
+
+entry-some : (i : Instance) (x : ℕ) → entryAt i (some x) .code ≡ 0
+unfolding entryAt
+entry-some i x = entry-code i x (mountOf (i .tree) x)
+
+entry-at : (i : Instance) (x : Option ℕ) → Settles (entryAt i x .code) ((isNone x ⟼ NOENT) ∷ [])
+unfolding entryAt
+entry-at i none = stops _ _ _ refl
+entry-at i (some x) = passes _ _ _ (settled _ (entry-code i x (mountOf (i .tree) x)))
+
+found-by : (i : Instance) (x y : ℕ) (z : Option ℕ) (b d : Bool)
+    → Settles (firstOf ((b ⇒ entryAt i (some x)) ∷ (d ⇒ entryAt i (some y)) ∷ []) (entryAt i z) .code) ((not b && not d && isNone z ⟼ NOENT) ∷ [])
+unfolding firstOf
+found-by i x y z true d = passes _ _ _ (settled _ (entry-some i x))
+found-by i x y z false true = passes _ _ _ (settled _ (entry-some i y))
+found-by i x y z false false = entry-at i z
+
+lookup-settles : (i : Instance) (x : ℕ) (p : List ℕ) → Settles (lookupRule i x p .code) (tests i (lookup x p))
+unfolding lookupRule
+lookup-settles i x p =
+    let nodes = i .tree .nodes in
+    settle codeOf _ _ _ _ _ _ refl
+    (settle-or _ (holds 0 p) (not (wellFormed p)) INVAL _
+    (settle codeOf (holds 0 p || not (wellFormed p)) _ _ _ _ _ refl (found-by i x (parentIn nodes x) (childIn nodes x p) (isDot p) (isDots p))))
+
+-- ---- listing, save, restore
+
+list-settles : (i : Instance) (q : ListRequest) → Settles (listRule i q .code) (tests i (readdir q))
+unfolding listRule
+list-settles i q = settle codeOf _ _ _ _ _ _ refl (settle codeOf _ _ _ _ _ _ refl (end _ refl))
+
+save-settles : (i : Instance) (n : ℕ) → Settles (saveRule i n .code) (tests i (save n))
+unfolding saveRule
+save-settles i n = settle codeOf _ _ _ _ _ _ refl (end _ refl)
+
+restore-settles : (i : Instance) (b : List ℕ) → Settles (restoreRule i b .code) (tests i (restore b))
+unfolding restoreRule unknown
+restore-settles i b =
+    settle codeOf _ _ _ _ _ _ refl (settle codeOf _ _ _ _ _ _ refl (settle codeOf _ _ _ _ _ _ refl (settle codeOf _ _ _ _ _ _ refl (end _ refl))))
+
+settles : (i : Instance) (c : Call) → Settles (rule i c .code) (tests i c)
+unfolding rule walkRule unmountRule rootRule remapRule
+settles i (mount r) = mount-settles i r
+settles i (restore-mount k r) = restored-settles i k r
+settles i (umount path) = on-path i path _ _ (unmount-at i (reached i path) (mountUnder i (reached i path)))
+settles i set-remove-pseudo-root = settled _ refl
+settles i (path-walk path) = on-path i path _ _ (settled _ refl)
+settles i (get-rootfs path) = on-path i path _ _ (root-at i (mountUnder i (reached i path)))
+settles i (route x) = route-settles i x
+settles i (lookup x p) = lookup-settles i x p
+settles i (readdir q) = list-settles i q
+settles i (remap-attr-id out uid gid) = settled _ refl
+settles i options = settled _ refl
+settles i initialized = settled _ refl
+settles i (save n) = save-settles i n
+settles i (restore b) = restore-settles i b
+
+-- ---- creation
+
+abbrev createdCode : Created → ℕ
+createdCode o = o .code
+
+three : (code : ℕ) (a b c : Bool) (k : ℕ) (ts : List Test) → Settles code ((a || b || c ⟼ k) ∷ ts) → Settles code ((a ⟼ k) ∷ (b ⟼ k) ∷ (c ⟼ k) ∷ ts)
+three code a b c k ts s = settle-or code a b k ((c ⟼ k) ∷ ts) (settle-or code (a || b) c k ts s)
+
+module _ (bytes : ℕ) (q : Creation) where
+  abbrev n : ℕ
+  n = q .capacity
+
+  maps : List Test
+  maps = (ltb 4294967295 (q .options .mapping .internal + q .options .mapping .range) ⟼ BADMAP) ∷ (ltb 4294967295 (q .options .mapping .external + q .options .mapping .range) ⟼ BADMAP) ∷ []
+
+  create-settles : Settles (createRule bytes q .code) (createTests bytes q)
+  unfolding createRule tooSmall badOptions unknown badMapping
+  create-settles =
+      three _ (ltb n 1) (ltb maxNodes n) (ltb bytes (storageFor n)) SMALL _
+      (settle createdCode (ltb n 1 || ltb maxNodes n || ltb bytes (storageFor n)) _ _ _ _ _ refl
+      (three _ (outside (q .known) (q .options .inOpts)) (outside (q .known) (q .options .outOpts)) (ltb 63 (q .options .flags)) BADOPT _
+      (settle createdCode (outside (q .known) (q .options .inOpts) || outside (q .known) (q .options .outOpts) || ltb 63 (q .options .flags)) _ _ _ _ _ refl
+      (settle-or _ (ltb 4294967295 (q .options .mapping .internal + q .options .mapping .range)) (ltb 4294967295 (q .options .mapping .external + q .options .mapping .range)) BADMAP _
+      (settle createdCode _ _ _ _ _ _ refl (settle-last createdCode _ [] (settled _ refl)))))))
+
+-- the theorem
+pub exactly : Exactly
+exactly = (λ i c. decides (tests i c) (rule i c .code) (settles i c), λ bytes q. decides (createTests bytes q) (createRule bytes q .code) (create-settles bytes q))

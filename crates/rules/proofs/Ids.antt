@@ -1,0 +1,91 @@
+-- The wrapped difference is the whole-number formula, and out and back is the identity. Assumes nothing.
+use mathlib.Core.Path.{_≡_, refl, sym, ap, _∙_}
+use mathlib.Core.Bool.{Bool, true, false, cond, _&&_, _||_, true≢false, false≢true}
+use mathlib.Core.Logic.{_⊎_, inl, inr, ⊎-elim}
+use Prim.Native.Nat.{ℕ, _+_, _-_, _%_, _^_, _≤_, _<_}
+use native.Mathlib.Omega.{arith}
+use lib.Dec.{leb, ltb}
+use borrow.Author.Tests.{leb-true, leb-false, ltb-true, ltb-false, le-leb, lt-leb, lt-ltb, le-ltb}
+use Rattle.rules.specs.Ids.{Mapping, turned, badMapping, inside, mapped, unmapped, wrapped, unwrapped}
+use Rattle.rules.proofs.Rows.{known}
+use Rattle.rules.proofs.Round.{le-or-lt}
+
+-- within the mapping's limits
+pub record Within (m : Mapping) : Type 0 where
+  pub low : m .internal + m .range < 2 ^ 32
+  pub high : m .external + m .range < 2 ^ 32
+
+or-neither : (a b : Bool) → (a || b) ≡ false → (a ≡ false) × (b ≡ false)
+or-neither true b e = absurd (true≢false e)
+or-neither false b e = (refl, e)
+
+pub within : (m : Mapping) → badMapping m ≡ false → Within m
+unfolding badMapping
+within m e =
+    let o = or-neither (ltb (2 ^ 32 - 1) (m .internal + m .range)) (ltb (2 ^ 32 - 1) (m .external + m .range)) e in
+    record { low = omega (arith, ltb-false (2 ^ 32 - 1) (m .internal + m .range) (o .0)); high = omega (arith, ltb-false (2 ^ 32 - 1) (m .external + m .range) (o .1)) }
+
+pub turned-good : (m : Mapping) → badMapping m ≡ false → badMapping (turned m) ≡ false
+unfolding badMapping
+turned-good m e =
+    let w = within m e in
+    rw (le-ltb (2 ^ 32 - 1) (m .external + m .range) (omega (arith, w .high)), le-ltb (2 ^ 32 - 1) (m .internal + m .range) (omega (arith, w .low)))
+
+-- ---- inside or not
+
+pub is-inside : (m : Mapping) (x : ℕ) → m .internal ≤ x → x < m .internal + m .range → inside m x ≡ true
+unfolding inside
+is-inside m x a b = rw (le-leb (m .internal) x a, lt-ltb x (m .internal + m .range) b)
+
+pub inside-is : (m : Mapping) (x : ℕ) → inside m x ≡ true → (m .internal ≤ x) × (x < m .internal + m .range)
+unfolding inside
+inside-is m x e = go (leb (m .internal) x) refl (ltb x (m .internal + m .range)) refl e
+  where
+    go : (a : Bool) → leb (m .internal) x ≡ a → (b : Bool) → ltb x (m .internal + m .range) ≡ b → (a && b) ≡ true → (m .internal ≤ x) × (x < m .internal + m .range)
+    go true p true q f = (leb-true (m .internal) x p, ltb-true x (m .internal + m .range) q)
+    go true p false q f = absurd (false≢true f)
+    go false p b q f = absurd (false≢true f)
+
+-- ---- the wrapped difference
+
+module _ (m : Mapping) (x : ℕ) (good : badMapping m ≡ false) (low : x < 2 ^ 32) where
+  same-test : (leb (m .internal) x && ltb (x - m .internal) (m .range)) ≡ inside m x
+  unfolding inside
+  same-test =
+      ⊎-elim (λ (l : m .internal ≤ x). rw (le-leb (m .internal) x l)
+      (⊎-elim (λ (k : m .internal + m .range ≤ x). rw (le-ltb (x - m .internal) (m .range) (omega arith), le-ltb x (m .internal + m .range) k))
+      (λ (k : x < m .internal + m .range). rw (lt-ltb (x - m .internal) (m .range) (omega arith), lt-ltb x (m .internal + m .range) k)) (le-or-lt (m .internal + m .range) x)))
+      (λ (l : x < m .internal). rw (lt-leb (m .internal) x l)) (le-or-lt (m .internal) x)
+
+  pub wrapped-whole : wrapped m x ≡ mapped m x
+  unfolding wrapped mapped
+  wrapped-whole = rw same-test (go (inside m x) refl)
+    where
+      go : (b : Bool) → inside m x ≡ b
+          → cond b ((x + (m .external + 2 ^ 32 - m .internal) % 2 ^ 32) % 2 ^ 32) x ≡ cond b (x - m .internal + m .external) x
+      go true e = omega (arith, inside-is m x e, within m good .low, within m good .high)
+      go false e = refl
+
+-- the theorem: what wraps is the formula in whole numbers, out and back
+pub unwrapped-whole : (m : Mapping) (x : ℕ) → badMapping m ≡ false → x < 2 ^ 32 → unwrapped m x ≡ unmapped m x
+unfolding unwrapped unmapped
+unwrapped-whole m x good low = wrapped-whole (turned m) x (turned-good m good) low
+
+-- ---- out and back
+
+mapped-in : (m : Mapping) (x : ℕ) → inside m x ≡ true → mapped m x ≡ x - m .internal + m .external
+unfolding mapped
+mapped-in m x e = rw e
+
+mapped-out : (m : Mapping) (x : ℕ) → inside m x ≡ false → mapped m x ≡ x
+unfolding mapped
+mapped-out m x e = rw e
+
+-- the theorem: on ids in the internal range or in neither
+pub out-and-back : (m : Mapping) (x : ℕ) → (inside m x ≡ true) ⊎ ((inside m x ≡ false) × (inside (turned m) x ≡ false)) → unmapped m (mapped m x) ≡ x
+unfolding unmapped
+out-and-back m x (inl e) =
+    let i = inside-is m x e in
+    let y = x - m .internal + m .external in
+    ap (mapped (turned m)) (mapped-in m x e) ∙ (mapped-in (turned m) y (is-inside (turned m) y (omega arith) (omega (arith, i .0, i .1))) ∙ omega (arith, i .0))
+out-and-back m x (inr (a, b)) = ap (mapped (turned m)) (mapped-out m x a) ∙ mapped-out (turned m) x b

@@ -1,0 +1,131 @@
+-- Calls that change nothing, and a way to prove a thing of every call: once for all of these, and once for each that changes something. Assumes nothing.
+use mathlib.Core.Path.{_≡_, refl}
+use mathlib.Core.Bool.{Bool, true, false, cond}
+use mathlib.Core.Logic.{_⊎_, inl, inr}
+use mathlib.Core.List.{List, [], _∷_}
+use mathlib.Core.Option.{Option, none, some}
+use Prim.Native.Nat.{ℕ}
+use native.Mathlib.Omega.{arith}
+use lib.Dec.{eqb}
+use Rattle.rules.specs.Numbers.{rootNumber, indexOf, numberOf, NOENT, INVAL, FULL, NOTFOUND, SMALL}
+use Rattle.rules.specs.Tree.{Mount, parentIn, childIn}
+use Rattle.rules.specs.Instance.{Instance, mountOf, tagOf, removing}
+use Rattle.rules.specs.Outcome.{Answer, nothing, Outcome, refused, says, writes}
+use Rattle.rules.specs.Mount.{Request, mountRule, restoreMountRule}
+use Rattle.rules.specs.Unmount.{reached, mountUnder, walkRule, unmountRule, rootHeld, rootAt, rootRule}
+use Rattle.rules.specs.Lookup.{routeTag, routeTree, routeRule, entryOf, entryAt, lookupRule, remapRule}
+use Rattle.rules.specs.Listing.{ListRequest, listRule}
+use Rattle.rules.specs.Restore.{saveRule, restoreRule}
+use Rattle.rules.specs.Calls.{Call, mount, restore-mount, umount, set-remove-pseudo-root, path-walk, get-rootfs, route, lookup, readdir, remap-attr-id, options, initialized, save, restore, rule}
+use Rattle.rules.proofs.Rows.{each-of, either}
+
+-- nothing is visited, and the instance stays; a refusal has no values
+pub record Still (i : Instance) (o : Outcome) : Type 0 where
+  pub visits : o .visits ≡ []
+  pub found : o .found ≡ none
+  pub after : o .after ≡ i
+  pub not-full : o .code ≡ FULL → ⊥
+  pub bare : (o .code ≡ 0) ⊎ ((o .answer ≡ nothing) × (o .written ≡ []))
+
+module _ (i : Instance) where
+  pub still-refused : (code : ℕ) → (code ≡ FULL → ⊥) → Still i (refused code i)
+  still-refused code h = record { visits = refl; found = refl; after = refl; not-full = h; bare = inr (refl, refl) }
+
+  pub still-says : (a : Answer) → Still i (says a i)
+  still-says a = record { visits = refl; found = refl; after = refl; not-full = λ e. omega arith; bare = inl refl }
+
+  still-writes : (bs : List ℕ) → Still i (writes bs i)
+  still-writes bs = record { visits = refl; found = refl; after = refl; not-full = λ e. omega arith; bare = inl refl }
+
+  pub inval-still : Still i (refused INVAL i)
+  inval-still = still-refused INVAL (λ e. omega arith)
+
+  pub noent-still : Still i (refused NOENT i)
+  noent-still = still-refused NOENT (λ e. omega arith)
+
+  pub notfound-still : Still i (refused NOTFOUND i)
+  notfound-still = still-refused NOTFOUND (λ e. omega arith)
+
+  walk-still : (path : List ℕ) → Still i (walkRule i path)
+  unfolding walkRule
+  walk-still path = each-of (Still i) _ _ (inval-still, still-says _)
+
+  root-held : (k : ℕ) (t : Option ℕ) → Still i (rootHeld i k t)
+  unfolding rootHeld
+  root-held k none = notfound-still
+  root-held k (some t) = still-says _
+
+  root-at : (m : Option Mount) → Still i (rootAt i m)
+  unfolding rootAt
+  root-at none = still-says _
+  root-at (some m) = root-held (m .index) (tagOf i (m .index))
+
+  root-still : (path : List ℕ) → Still i (rootRule i path)
+  unfolding rootRule
+  root-still path = each-of (Still i) _ _ (inval-still, root-at (mountUnder i (reached i path)))
+
+  route-tag : (k x : ℕ) (t : Option ℕ) → Still i (routeTag i k x t)
+  unfolding routeTag
+  route-tag k x none = noent-still
+  route-tag k x (some t) = still-says _
+
+  route-tree : (x : ℕ) (m : Option Mount) → Still i (routeTree i x m)
+  unfolding routeTree
+  route-tree x none = still-says _
+  route-tree x (some m) = either (Still i) (eqb x rootNumber) (λ e. route-tag (m .index) (m .root) (tagOf i (m .index))) (λ e. still-says _)
+
+  route-still : (x : ℕ) → Still i (routeRule i x)
+  unfolding routeRule
+  route-still x =
+      either (Still i) (eqb (indexOf x) 0) (λ e. route-tree (numberOf x) (i .tree .root)) (λ e. route-tag (indexOf x) (numberOf x) (tagOf i (indexOf x)))
+
+  entry-of : (x : ℕ) (m : Option Mount) → Still i (entryOf i x m)
+  unfolding entryOf
+  entry-of x none = still-says _
+  entry-of x (some m) = still-says _
+
+  entry-at : (x : Option ℕ) → Still i (entryAt i x)
+  unfolding entryAt
+  entry-at none = noent-still
+  entry-at (some x) = entry-of x (mountOf (i .tree) x)
+
+  lookup-still : (x : ℕ) (p : List ℕ) → Still i (lookupRule i x p)
+  unfolding lookupRule
+  lookup-still x p =
+      each-of (Still i) _ _
+      (noent-still, (inval-still, (entry-at (some x), (entry-at (some (parentIn (i .tree .nodes) x)), entry-at (childIn (i .tree .nodes) x p)))))
+
+  list-still : (q : ListRequest) → Still i (listRule i q)
+  unfolding listRule
+  list-still q = each-of (Still i) _ _ (still-writes _, (noent-still, still-writes _))
+
+  save-still : (n : ℕ) → Still i (saveRule i n)
+  unfolding saveRule
+  save-still n = each-of (Still i) _ _ (still-refused SMALL (λ e. omega arith), still-writes _)
+
+-- what holds of every call
+module _ (P : Instance → Call → Outcome → Type 0) where
+  pub record Cases : Type 0 where
+    pub still : (i : Instance) (c : Call) (o : Outcome) → Still i o → P i c o
+    pub mounts : (i : Instance) (r : Request) → P i (mount r) (mountRule i r)
+    pub restores-mount : (i : Instance) (k : ℕ) (r : Request) → P i (restore-mount k r) (restoreMountRule i k r)
+    pub unmounts : (i : Instance) (path : List ℕ) → P i (umount path) (unmountRule i path)
+    pub sets-removal : (i : Instance) → P i set-remove-pseudo-root (says nothing (removing i))
+    pub restores : (i : Instance) (b : List ℕ) → P i (restore b) (restoreRule i b)
+
+  pub every-call : Cases → (i : Instance) (c : Call) → P i c (rule i c)
+  unfolding rule remapRule
+  every-call h i (mount r) = h .mounts i r
+  every-call h i (restore-mount k r) = h .restores-mount i k r
+  every-call h i (umount path) = h .unmounts i path
+  every-call h i set-remove-pseudo-root = h .sets-removal i
+  every-call h i (path-walk path) = h .still i _ _ (walk-still i path)
+  every-call h i (get-rootfs path) = h .still i _ _ (root-still i path)
+  every-call h i (route x) = h .still i _ _ (route-still i x)
+  every-call h i (lookup x p) = h .still i _ _ (lookup-still i x p)
+  every-call h i (readdir q) = h .still i _ _ (list-still i q)
+  every-call h i (remap-attr-id out uid gid) = h .still i _ _ (still-says i _)
+  every-call h i options = h .still i _ _ (still-says i _)
+  every-call h i initialized = h .still i _ _ (still-says i _)
+  every-call h i (save n) = h .still i _ _ (save-still i n)
+  every-call h i (restore b) = h .restores i b

@@ -1,0 +1,60 @@
+-- Creation.
+use Prim.Native.Nat.{ℕ}
+use mathlib.Core.Bool.{Bool, true, false, not, _||_}
+use mathlib.Core.List.{List, [], _∷_}
+use mathlib.Core.Option.{Option, none, some}
+use lib.Bits.{bitAnd}
+use lib.Dec.{eqb, ltb}
+use Rattle.rules.specs.Numbers.{maxNodes, storageFor, SMALL, BADOPT, BADMAP}
+use Rattle.rules.specs.Ids.{Mapping, badMapping}
+use Rattle.rules.specs.Instance.{Fixed, Options, Instance, newIndexes, newTree}
+use Rattle.rules.specs.Outcome.{_⇒_, firstOf}
+
+pub record Creation : Type 0 where
+  pub capacity : ℕ
+  pub known : ℕ
+  pub options : Options
+
+-- N outside its limits, or too few bytes for it
+unfoldable pub tooSmall : ℕ → ℕ → Bool
+tooSmall bytes n = ltb n 1 || ltb maxNodes n || ltb bytes (storageFor n)
+
+-- a bit outside the mask
+unfoldable pub outside : ℕ → ℕ → Bool
+outside known bits = not (eqb (bitAnd bits known) bits)
+
+-- an option bit of either word outside the mask of known bits
+unfoldable pub unknown : ℕ → Options → Bool
+unknown known o = outside known (o .inOpts) || outside known (o .outOpts)
+
+-- at creation also a flag above bit 5
+unfoldable pub badOptions : ℕ → Options → Bool
+badOptions known o = unknown known o || ltb 63 (o .flags)
+
+unfoldable pub newInstance : Creation → Instance
+newInstance q = record {
+  fixed = record { capacity = q .capacity; known = q .known; mapping = q .options .mapping };
+  removal = false;
+  initialized = false;
+  options = q .options;
+  indexes = newIndexes;
+  tree = newTree;
+}
+
+-- the refusal number or 0, and the instance where there is one
+pub record Created : Type 0 where
+  pub code : ℕ
+  pub instance : Option Instance
+
+abbrev pub uncreated : ℕ → Created
+uncreated code = record { code = code; instance = none }
+
+-- with so many bytes of storage
+unfoldable pub createRule : ℕ → Creation → Created
+createRule bytes q =
+    firstOf
+    ((tooSmall bytes (q .capacity) ⇒ uncreated SMALL)
+    ∷ (badOptions (q .known) (q .options) ⇒ uncreated BADOPT)
+    ∷ (badMapping (q .options .mapping) ⇒ uncreated BADMAP)
+    ∷ [])
+    (record { code = 0; instance = some (newInstance q) })

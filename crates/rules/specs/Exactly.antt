@@ -1,0 +1,133 @@
+-- Demand 1, when a call is refused: each call's tests written out in their order. A call answers a number exactly if the test of a row with that number holds and
+-- none before it does.
+use Prim.Native.Nat.{ℕ, _+_}
+use mathlib.Core.Bool.{Bool, true, false, not, _&&_, _||_}
+use mathlib.Core.List.{List, [], _∷_}
+use mathlib.Core.Logic.{_↔_, _⊎_}
+use mathlib.Core.Option.{Option, none, some}
+use mathlib.Core.Path.{_≡_}
+use lib.ListN.{length}
+use lib.Dec.{eqb, ltb}
+use Rattle.rules.specs.Numbers.{rootNumber, maxIno, topNumber, maxNodes, storageFor, indexOf, numberOf, NOENT, INVAL, TOOLONG, INODE, FULL, NOROOM, NOTFOUND, BADINDEX, BADMAP, BADSAVE, NOTFRESH, SMALL, BADOPT}
+use Rattle.rules.specs.Bytes.{holds}
+use Rattle.rules.specs.Utf8.{wellFormed}
+use Rattle.rules.specs.Path.{rooted, tooLong, isDot, isDots}
+use Rattle.rules.specs.Ids.{Mapping}
+use Rattle.rules.specs.Tree.{Mount, isNone, isKnown, childIn}
+use Rattle.rules.specs.Instance.{Instance, live, tagOf, heldIn}
+use Rattle.rules.specs.Round.{allocate}
+use Rattle.rules.specs.Create.{Creation, outside, createRule}
+use Rattle.rules.specs.Mount.{Request, needed}
+use Rattle.rules.specs.Unmount.{reached, mountUnder}
+use Rattle.rules.specs.Listing.{ListRequest}
+use Rattle.rules.specs.Saved.{encode, accepted, stateOf}
+use Rattle.rules.specs.Restore.{saved, fresh}
+use Rattle.rules.specs.Calls.{Call, mount, restore-mount, umount, set-remove-pseudo-root, path-walk, get-rootfs, route, lookup, readdir, remap-attr-id, options, initialized, save, restore, rule}
+
+-- a test, and the number that answers where it is the first that holds
+pub record Test : Type 0 where
+  pub holds : Bool
+  pub number : ℕ
+
+infix 20 _⟼_
+abbrev pub _⟼_ : Bool → ℕ → Test
+b ⟼ k = record { holds = b; number = k }
+
+-- the first test that holds has the number k; where none holds, k is 0
+abbrev pub FirstIs : ℕ → List Test → Type 0
+FirstIs k [] = k ≡ 0
+FirstIs k (t ∷ ts) = ((t .holds ≡ true) × (k ≡ t .number)) ⊎ ((t .holds ≡ false) × FirstIs k ts)
+
+-- a number is answered exactly then
+abbrev pub Decides : ℕ → List Test → Type 0
+Decides code ts = (k : ℕ) → (code ≡ k) ↔ FirstIs k ts
+
+-- more nodes than N, or numbers than there are
+abbrev pub lacksRoom : Instance → List ℕ → Bool
+lacksRoom i path = ltb (i .fixed .capacity) (live i + needed (i .tree) path) || ltb topNumber (i .tree .next + needed (i .tree) path)
+
+-- no index from 1 to 255 is free
+abbrev pub noIndex : Instance → Bool
+noIndex i = isNone (allocate (heldIn i) (i .indexes .counter) .found)
+
+abbrev pub slotEmpty : Instance → Option Mount → Bool
+slotEmpty i none = false
+slotEmpty i (some m) = isNone (tagOf i (m .index))
+
+abbrev pub mountTests : Instance → Request → List Test
+mountTests i r =
+    (tooLong (r .path) ⟼ TOOLONG)
+    ∷ (not (wellFormed (r .path)) ⟼ INVAL)
+    ∷ (ltb maxIno (r .largest) ⟼ INODE)
+    ∷ (rooted (r .path) && lacksRoom i (r .path) ⟼ NOROOM)
+    ∷ (noIndex i ⟼ FULL)
+    ∷ (not (rooted (r .path)) ⟼ INVAL)
+    ∷ (ltb maxIno (r .root) ⟼ INODE)
+    ∷ []
+
+abbrev pub restoreMountTests : Instance → ℕ → Request → List Test
+restoreMountTests i k r =
+    (tooLong (r .path) ⟼ TOOLONG)
+    ∷ (not (wellFormed (r .path)) ⟼ INVAL)
+    ∷ (eqb k 0 ⟼ BADINDEX)
+    ∷ (ltb maxIno (r .largest) ⟼ INODE)
+    ∷ (rooted (r .path) && lacksRoom i (r .path) ⟼ NOROOM)
+    ∷ (not (rooted (r .path)) ⟼ INVAL)
+    ∷ (ltb maxIno (r .root) ⟼ INODE)
+    ∷ []
+
+abbrev pub pathTests : List ℕ → List Test → List Test
+pathTests path ts = (not (wellFormed path) ⟼ INVAL) ∷ (not (rooted path) ⟼ INVAL) ∷ ts
+
+-- the number asked for is the root's, and the root has a mount
+abbrev pub diverted : Instance → ℕ → Bool
+diverted i x = eqb (numberOf x) rootNumber && not (isNone (i .tree .root))
+
+abbrev pub tests : Instance → Call → List Test
+tests i (mount r) = mountTests i r
+tests i (restore-mount k r) = restoreMountTests i k r
+tests i (umount path) =
+    pathTests path ((isNone (reached i path) ⟼ NOTFOUND) ∷ (isNone (mountUnder i (reached i path)) ⟼ NOTFOUND) ∷ [])
+tests i set-remove-pseudo-root = []
+tests i (path-walk path) = pathTests path []
+tests i (get-rootfs path) = pathTests path ((slotEmpty i (mountUnder i (reached i path)) ⟼ NOTFOUND) ∷ [])
+tests i (route x) =
+    (eqb (indexOf x) 0 && diverted i x && slotEmpty i (i .tree .root) ⟼ NOENT)
+    ∷ (not (eqb (indexOf x) 0) && isNone (tagOf i (indexOf x)) ⟼ NOENT)
+    ∷ []
+tests i (lookup x p) =
+    (not (isKnown (i .tree .nodes) x) ⟼ NOENT)
+    ∷ (holds 0 p ⟼ INVAL)
+    ∷ (not (wellFormed p) ⟼ INVAL)
+    ∷ (not (isDot p) && not (isDots p) && isNone (childIn (i .tree .nodes) x p) ⟼ NOENT)
+    ∷ []
+tests i (readdir q) =
+    (eqb (q .size) 0 ⟼ 0)
+    ∷ (not (isKnown (i .tree .nodes) (q .node)) ⟼ NOENT)
+    ∷ []
+tests i (remap-attr-id out uid gid) = []
+tests i options = []
+tests i initialized = []
+tests i (save buffer) = (ltb buffer (length (encode (saved i))) ⟼ SMALL) ∷ []
+tests i (restore b) =
+    (not (fresh i) ⟼ NOTFRESH)
+    ∷ (not (accepted b) ⟼ BADSAVE)
+    ∷ (outside (i .fixed .known) (stateOf b .options .inOpts) || outside (i .fixed .known) (stateOf b .options .outOpts) ⟼ BADOPT)
+    ∷ (ltb (i .fixed .capacity) (1 + length (stateOf b .nodes)) ⟼ NOROOM)
+    ∷ []
+
+abbrev pub createTests : ℕ → Creation → List Test
+createTests bytes q =
+    (ltb (q .capacity) 1 ⟼ SMALL)
+    ∷ (ltb maxNodes (q .capacity) ⟼ SMALL)
+    ∷ (ltb bytes (storageFor (q .capacity)) ⟼ SMALL)
+    ∷ (outside (q .known) (q .options .inOpts) ⟼ BADOPT)
+    ∷ (outside (q .known) (q .options .outOpts) ⟼ BADOPT)
+    ∷ (ltb 63 (q .options .flags) ⟼ BADOPT)
+    ∷ (ltb 4294967295 (q .options .mapping .internal + q .options .mapping .range) ⟼ BADMAP)
+    ∷ (ltb 4294967295 (q .options .mapping .external + q .options .mapping .range) ⟼ BADMAP)
+    ∷ []
+
+-- of every call on every instance, and of creation
+abbrev pub Exactly : Type 0
+Exactly = ((i : Instance) (c : Call) → Decides (rule i c .code) (tests i c)) × ((bytes : ℕ) (q : Creation) → Decides (createRule bytes q .code) (createTests bytes q))

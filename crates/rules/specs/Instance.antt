@@ -1,0 +1,124 @@
+-- The tables of an instance.
+use Prim.Native.Nat.{ℕ, _+_}
+use mathlib.Core.Bool.{Bool, true, false, cond}
+use mathlib.Core.List.{List, [], _∷_, _++_}
+use mathlib.Core.Option.{Option, none, some}
+use lib.ListN.{length, replicate, getD, set}
+use lib.Dec.{eqb}
+use Rattle.rules.specs.Numbers.{rootNumber, firstNumber, indexes}
+use Rattle.rules.specs.Ids.{Mapping}
+use Rattle.rules.specs.Tree.{Mount, Node, nodeIn, mountAt, without}
+
+-- what creation fixes for good: N, the mask of known option bits, the mapping in force
+pub record Fixed : Type 0 where
+  pub capacity : ℕ
+  pub known : ℕ
+  pub mapping : Mapping
+
+-- the options; a restore replaces them, their own mapping too
+pub record Options : Type 0 where
+  pub inOpts : ℕ
+  pub outOpts : ℕ
+  pub mapping : Mapping
+  pub flags : ℕ
+
+pub record Slot : Type 0 where
+  pub held : Bool
+  pub tag : ℕ
+
+-- the 256 index slots and the counter
+pub record Indexes : Type 0 where
+  pub slots : List Slot
+  pub counter : ℕ
+
+-- the next number, the root's mount, and the live nodes, root left out, in creation order
+pub record Tree : Type 0 where
+  pub next : ℕ
+  pub root : Option Mount
+  pub nodes : List Node
+
+pub record Instance : Type 0 where
+  pub fixed : Fixed
+  pub removal : Bool
+  pub initialized : Bool
+  pub options : Options
+  pub indexes : Indexes
+  pub tree : Tree
+
+-- ---- an instance with one part changed
+
+abbrev pub withIndexes : Indexes → Instance → Instance
+withIndexes x i = record { fixed = i .fixed; removal = i .removal; initialized = i .initialized; options = i .options; indexes = x; tree = i .tree }
+
+abbrev pub withTree : Tree → Instance → Instance
+withTree t i = record { fixed = i .fixed; removal = i .removal; initialized = i .initialized; options = i .options; indexes = i .indexes; tree = t }
+
+abbrev pub removing : Instance → Instance
+removing i = record { fixed = i .fixed; removal = true; initialized = i .initialized; options = i .options; indexes = i .indexes; tree = i .tree }
+
+abbrev pub counterOf : Instance → ℕ
+counterOf i = i .indexes .counter
+
+abbrev pub withCounter : ℕ → Instance → Instance
+withCounter c i = withIndexes (record { slots = i .indexes .slots; counter = c }) i
+
+-- ---- slots
+
+abbrev pub emptySlot : Slot
+emptySlot = record { held = false; tag = 0 }
+
+abbrev pub heldBy : ℕ → Slot
+heldBy t = record { held = true; tag = t }
+
+abbrev pub slotOf : Instance → ℕ → Slot
+slotOf i k = getD (i .indexes .slots) k emptySlot
+
+-- the tag in a slot, or none
+abbrev pub tagIn : Slot → Option ℕ
+tagIn s = cond (s .held) (some (s .tag)) none
+
+abbrev pub tagOf : Instance → ℕ → Option ℕ
+tagOf i k = tagIn (slotOf i k)
+
+abbrev pub heldIn : Instance → ℕ → Bool
+heldIn i k = slotOf i k .held
+
+abbrev pub withSlot : ℕ → Slot → Instance → Instance
+withSlot k s i = withIndexes (record { slots = set (i .indexes .slots) k s; counter = i .indexes .counter }) i
+
+-- a new instance's: 256 empty slots, counter 1
+abbrev pub newIndexes : Indexes
+newIndexes = record { slots = replicate indexes emptySlot; counter = 1 }
+
+-- ---- mounts
+
+abbrev pub mountIn : Option Node → Option Mount
+mountIn none = none
+mountIn (some n) = n .mount
+
+-- the mount on a node; 1 is the root before any node is asked
+unfoldable pub mountOf : Tree → ℕ → Option Mount
+mountOf t x = cond (eqb x rootNumber) (t .root) (mountIn (nodeIn (t .nodes) x))
+
+unfoldable pub setMount : Tree → ℕ → Option Mount → Tree
+setMount t x m =
+    cond (eqb x rootNumber)
+    (record { next = t .next; root = m; nodes = t .nodes })
+    (record { next = t .next; root = t .root; nodes = mountAt m (t .nodes) x })
+
+-- ---- nodes
+
+-- a new instance's tree: the root alone
+abbrev pub newTree : Tree
+newTree = record { next = firstNumber; root = none; nodes = [] }
+
+-- the nodes that a mount walk made are live
+abbrev pub grown : List Node → Tree → Tree
+grown made t = record { next = t .next + length made; root = t .root; nodes = t .nodes ++ made }
+
+abbrev pub cut : ℕ → Tree → Tree
+cut x t = record { next = t .next; root = t .root; nodes = without (t .nodes) x }
+
+-- the root and the live nodes
+abbrev pub live : Instance → ℕ
+live i = 1 + length (i .tree .nodes)

@@ -1,0 +1,43 @@
+-- Demand 1, what a refusal leaves: the column "leaves" of the refusal table, once over all calls, by the number.
+use Prim.Native.Nat.{ℕ, _+_, _%_}
+use mathlib.Core.Bool.{false}
+use mathlib.Core.Logic.{_⊎_}
+use mathlib.Core.List.{[]}
+use mathlib.Core.Path.{_≡_}
+use Rattle.rules.specs.Numbers.{INVAL, INODE, FULL}
+use Rattle.rules.specs.Path.{rooted}
+use Rattle.rules.specs.Instance.{Instance, withCounter, counterOf}
+use Rattle.rules.specs.Outcome.{nothing, Outcome, count}
+use Rattle.rules.specs.Mount.{Request, walkedTo}
+use Rattle.rules.specs.Calls.{Call, mount, restore-mount, rule}
+
+-- the counter moved by the call's count
+abbrev pub moved : Instance → Outcome → Instance
+moved i o = withCounter ((counterOf i + count o) % 256) i
+
+-- a mount refused for its missing slash: the counter alone
+pub record Row6 (i : Instance) (c : Call) (o : Outcome) (r : Request) : Type 0 where
+  pub call : c ≡ mount r
+  pub slash : rooted (r .path) ≡ false
+  pub leaves : o .after ≡ moved i o
+
+-- a mount refused for its root number: the counter, the next number, and the nodes made behind the others
+pub record Row7 (i : Instance) (c : Call) (o : Outcome) (r : Request) : Type 0 where
+  pub call : c ≡ mount r
+  pub leaves : o .after ≡ walkedTo (r .path) (moved i o)
+
+-- the same of a restored mount, without the counter
+pub record RestoredRow7 (i : Instance) (c : Call) (o : Outcome) (k : ℕ) (r : Request) : Type 0 where
+  pub call : c ≡ restore-mount k r
+  pub leaves : o .after ≡ walkedTo (r .path) i
+
+-- what the outcome o of the call c on the instance i leaves
+pub record Leaves (i : Instance) (c : Call) (o : Outcome) : Type 0 where
+  pub full : o .code ≡ FULL → o .after ≡ withCounter ((counterOf i + 1) % 256) i
+  pub inval : o .code ≡ INVAL → (o .after ≡ i) ⊎ ((r : Request) × Row6 i c o r)
+  pub inode : o .code ≡ INODE → (o .after ≡ i) ⊎ (((r : Request) × Row7 i c o r) ⊎ ((k : ℕ) × (r : Request) × RestoredRow7 i c o k r))
+  pub others : (o .code ≡ 0 → ⊥) → (o .code ≡ FULL → ⊥) → (o .code ≡ INVAL → ⊥) → (o .code ≡ INODE → ⊥) → o .after ≡ i
+  pub values : (o .code ≡ 0 → ⊥) → (o .answer ≡ nothing) × (o .written ≡ [])
+
+abbrev pub EveryRefusal : Type 0
+EveryRefusal = (i : Instance) (c : Call) → Leaves i c (rule i c)

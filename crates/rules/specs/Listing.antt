@@ -1,0 +1,52 @@
+-- The listing of a directory: records of its children, as many whole ones as there is room for.
+use Prim.Native.Nat.{ℕ, _+_, _-_, _%_, min}
+use mathlib.Core.Bool.{Bool, cond, not}
+use mathlib.Core.List.{List, [], _∷_, _++_}
+use lib.ListN.{length, drop, replicate}
+use lib.Dec.{eqb, leb}
+use Rattle.rules.specs.Numbers.{NOENT}
+use Rattle.rules.specs.Fields.{fields}
+use Rattle.rules.specs.Tree.{Node, isKnown, childrenIn}
+use Rattle.rules.specs.Instance.{Instance}
+use Rattle.rules.specs.Outcome.{Outcome, refused, writes, _⇒_, firstOf}
+
+-- the zeros behind n bytes, up to a multiple of 8
+abbrev pub padding : ℕ → ℕ
+padding n = (8 - n % 8) % 8
+
+-- a fixed part, the name, and zeros to a multiple of 8
+unfoldable pub recordOf : List ℕ → List ℕ → List ℕ
+recordOf front p = front ++ (p ++ replicate (padding (length front + length p)) 0)
+
+-- node number, offset, name length, type
+abbrev pub direntRow : List ℕ
+direntRow = 8 ∷ 8 ∷ 4 ∷ 4 ∷ []
+
+-- the directory entry of the child at a place; its offset is the place + 1
+unfoldable pub dirent : ℕ → Node → List ℕ
+dirent place n = recordOf (fields direntRow (n .number ∷ (place + 1) ∷ length (n .called) ∷ 0 ∷ [])) (n .called)
+
+-- of the children from a place on
+unfoldable pub direntsFrom : ℕ → List Node → List (List ℕ)
+direntsFrom place [] = []
+direntsFrom place (n ∷ ns) = dirent place n ∷ direntsFrom (place + 1) ns
+
+-- each record behind the one before it, stopping at the first that does not fit
+unfoldable pub laid : ℕ → List (List ℕ) → List ℕ
+laid room [] = []
+laid room (r ∷ rs) = cond (leb (length r) room) (r ++ laid (room - length r) rs) []
+
+-- a node number, the size asked for, the offset, and the length of the lent buffer
+pub record ListRequest : Type 0 where
+  pub node : ℕ
+  pub size : ℕ
+  pub offset : ℕ
+  pub buffer : ℕ
+
+unfoldable pub listRule : Instance → ListRequest → Outcome
+listRule i q =
+    firstOf
+    ((eqb (q .size) 0 ⇒ writes [] i)
+    ∷ (not (isKnown (i .tree .nodes) (q .node)) ⇒ refused NOENT i)
+    ∷ [])
+    (writes (laid (min (q .size) (q .buffer)) (direntsFrom (q .offset) (drop (q .offset) (childrenIn (i .tree .nodes) (q .node))))) i)

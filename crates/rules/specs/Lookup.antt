@@ -1,0 +1,69 @@
+-- Routing, lookup in a pseudo directory and across mounts, and ids by the mapping in force.
+use Prim.Native.Nat.{ℕ}
+use mathlib.Core.Bool.{Bool, true, false, cond, not, _||_}
+use mathlib.Core.List.{List, [], _∷_}
+use mathlib.Core.Option.{Option, none, some}
+use lib.Dec.{eqb}
+use Rattle.rules.specs.Numbers.{rootNumber, dirMode, blockSize, full, indexOf, numberOf, NOENT, INVAL}
+use Rattle.rules.specs.Bytes.{holds}
+use Rattle.rules.specs.Utf8.{wellFormed}
+use Rattle.rules.specs.Path.{isDot, isDots}
+use Rattle.rules.specs.Ids.{mapped, unmapped}
+use Rattle.rules.specs.Tree.{Mount, childIn, isKnown, parentIn}
+use Rattle.rules.specs.Instance.{Instance, tagOf, mountOf}
+use Rattle.rules.specs.Outcome.{toTree, toBackend, entry, ids, Outcome, refused, says, _⇒_, firstOf}
+
+-- ---- routing, of a full number
+
+-- an index to its tag
+unfoldable pub routeTag : Instance → ℕ → ℕ → Option ℕ → Outcome
+routeTag i k number none = refused NOENT i
+routeTag i k number (some t) = says (toBackend t k number) i
+
+-- index 0: number 1 with a mount on the root goes there, all else to the tree
+unfoldable pub routeTree : Instance → ℕ → Option Mount → Outcome
+routeTree i x none = says (toTree x) i
+routeTree i x (some m) = cond (eqb x rootNumber) (routeTag i (m .index) (m .root) (tagOf i (m .index))) (says (toTree x) i)
+
+unfoldable pub routeRule : Instance → ℕ → Outcome
+routeRule i x =
+    cond (eqb (indexOf x) 0)
+    (routeTree i (numberOf x) (i .tree .root))
+    (routeTag i (indexOf x) (numberOf x) (tagOf i (indexOf x)))
+
+-- ---- lookup, of a node number and a name
+
+abbrev pub outward : Instance → ℕ → ℕ
+outward i id = mapped (i .fixed .mapping) id
+
+-- the stored root entry has its ids mapped once; a lookup maps them again
+abbrev pub twice : Instance → ℕ → ℕ
+twice i id = outward i (outward i id)
+
+-- the entry of a node that was found, by the mount on it
+unfoldable pub entryOf : Instance → ℕ → Option Mount → Outcome
+entryOf i x none = says (entry (full 0 x) dirMode (outward i 0) (outward i 0) blockSize) i
+entryOf i x (some m) = says (entry (full (m .index) (m .root)) (m .mode) (twice i (m .uid)) (twice i (m .gid)) 0) i
+
+unfoldable pub entryAt : Instance → Option ℕ → Outcome
+entryAt i none = refused NOENT i
+entryAt i (some x) = entryOf i x (mountOf (i .tree) x)
+
+unfoldable pub lookupRule : Instance → ℕ → List ℕ → Outcome
+lookupRule i x p =
+    firstOf
+    ((not (isKnown (i .tree .nodes) x) ⇒ refused NOENT i)
+    ∷ (holds 0 p || not (wellFormed p) ⇒ refused INVAL i)
+    ∷ (isDot p ⇒ entryAt i (some x))
+    ∷ (isDots p ⇒ entryAt i (some (parentIn (i .tree .nodes) x)))
+    ∷ [])
+    (entryAt i (childIn (i .tree .nodes) x p))
+
+-- ---- ids
+
+abbrev pub remapped : Bool → Instance → ℕ → ℕ
+remapped true i id = mapped (i .fixed .mapping) id
+remapped false i id = unmapped (i .fixed .mapping) id
+
+unfoldable pub remapRule : Instance → Bool → ℕ → ℕ → Outcome
+remapRule i out uid gid = says (ids (remapped out i uid) (remapped out i gid)) i

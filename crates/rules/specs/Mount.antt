@@ -1,0 +1,118 @@
+-- Mount and restored mount.
+use Prim.Native.Nat.{ℕ, _+_}
+use mathlib.Core.Bool.{Bool, not, _&&_, _||_}
+use mathlib.Core.List.{List, [], _∷_}
+use mathlib.Core.Option.{Option, none, some}
+use lib.ListN.{length}
+use lib.Dec.{eqb, ltb}
+use Rattle.rules.specs.Numbers.{maxIno, topNumber, TOOLONG, INVAL, INODE, FULL, NOROOM, BADINDEX}
+use Rattle.rules.specs.Utf8.{wellFormed}
+use Rattle.rules.specs.Path.{components, rooted, tooLong}
+use Rattle.rules.specs.Tree.{Mount, Node, Made, makes, atRoot}
+use Rattle.rules.specs.Round.{Allocation, allocate}
+use Rattle.rules.specs.Instance.{Tree, Instance, withTree, withCounter, withSlot, emptySlot, heldBy, tagOf, heldIn, mountOf, setMount, grown, live}
+use Rattle.rules.specs.Outcome.{Answer, nothing, mounted, restored, Outcome, refused, says, _⇒_, firstOf}
+
+pub record Request : Type 0 where
+  pub path : List ℕ
+  pub tag : ℕ
+  pub root : ℕ
+  pub largest : ℕ
+  pub uid : ℕ
+  pub gid : ℕ
+  pub mode : ℕ
+
+-- ---- the mount walk
+
+-- what it makes, and the node where it ends
+unfoldable pub planned : Tree → List ℕ → Made
+planned t path = makes (t .nodes) (t .next) atRoot (components 0 path)
+
+unfoldable pub needed : Tree → List ℕ → ℕ
+needed t path = length (planned t path .nodes)
+
+-- live plus needed nodes exceed N, or the next number plus needed exceeds 2^56
+unfoldable pub noRoom : Instance → List ℕ → Bool
+noRoom i path = ltb (i .fixed .capacity) (live i + needed (i .tree) path) || ltb topNumber (i .tree .next + needed (i .tree) path)
+
+abbrev pub ended : Instance → List ℕ → ℕ
+ended i path = planned (i .tree) path .here
+
+-- the nodes made are live
+abbrev pub walkedTo : List ℕ → Instance → Instance
+walkedTo path i = withTree (grown (planned (i .tree) path .nodes) (i .tree)) i
+
+-- the mount on the node where the path ends
+abbrev pub mountThere : Instance → List ℕ → Option Mount
+mountThere i path = mountOf (walkedTo path i .tree) (ended i path)
+
+-- ---- the change
+
+-- a mount that was there loses its index
+unfoldable pub freed : Option Mount → Instance → Instance
+freed none i = i
+freed (some m) i = withSlot (m .index) emptySlot i
+
+-- the tag that a mount's index holds
+unfoldable pub tagAt : Option Mount → Instance → Option ℕ
+tagAt none i = none
+tagAt (some m) i = tagOf i (m .index)
+
+abbrev pub mountOn : ℕ → Request → Mount
+mountOn k r = record { index = k; root = r .root; uid = r .uid; gid = r .gid; mode = r .mode }
+
+-- the old index is freed before the new tag is set
+unfoldable pub placed : ℕ → Request → ℕ → Instance → Instance
+placed k r x i =
+    let j = freed (mountOf (i .tree) x) i in
+    withSlot k (heldBy (r .tag)) (withTree (setMount (j .tree) x (some (mountOn k r))) j)
+
+-- ---- mount
+
+-- the allocation of a mount
+unfoldable pub allocation : Instance → Allocation
+allocation i = allocate (heldIn i) (i .indexes .counter)
+
+abbrev pub stepped : Instance → Instance
+stepped i = withCounter (allocation i .counter) i
+
+-- with the allocation that the instance before gives
+abbrev pub allocated : Instance → ℕ → Answer → Instance → Outcome
+allocated i code a j = record { code = code; answer = a; visits = allocation i .visits; found = allocation i .found; written = []; after = j }
+
+-- rows 5 to 8, by what the allocation found
+unfoldable pub mountAs : Instance → Request → Option ℕ → Outcome
+mountAs i r none = allocated i FULL nothing (stepped i)
+mountAs i r (some k) =
+    firstOf
+    ((not (rooted (r .path)) ⇒ allocated i INVAL nothing (stepped i))
+    ∷ (ltb maxIno (r .root) ⇒ allocated i INODE nothing (walkedTo (r .path) (stepped i)))
+    ∷ [])
+    (allocated i 0 (mounted k (tagAt (mountThere i (r .path)) i)) (placed k r (ended i (r .path)) (walkedTo (r .path) (stepped i))))
+
+-- rows 1 to 4, then the rest
+unfoldable pub mountRule : Instance → Request → Outcome
+mountRule i r =
+    firstOf
+    ((tooLong (r .path) ⇒ refused TOOLONG i)
+    ∷ (not (wellFormed (r .path)) ⇒ refused INVAL i)
+    ∷ (ltb maxIno (r .largest) ⇒ refused INODE i)
+    ∷ (rooted (r .path) && noRoom i (r .path) ⇒ refused NOROOM i)
+    ∷ [])
+    (mountAs i r (allocation i .found))
+
+-- ---- restored mount: rows 1, 2, BADINDEX, 3, 4, 6, 7, 8; no allocation
+
+unfoldable pub restoreMountRule : Instance → ℕ → Request → Outcome
+restoreMountRule i k r =
+    firstOf
+    ((tooLong (r .path) ⇒ refused TOOLONG i)
+    ∷ (not (wellFormed (r .path)) ⇒ refused INVAL i)
+    ∷ (eqb k 0 ⇒ refused BADINDEX i)
+    ∷ (ltb maxIno (r .largest) ⇒ refused INODE i)
+    ∷ (rooted (r .path) && noRoom i (r .path) ⇒ refused NOROOM i)
+    ∷ (not (rooted (r .path)) ⇒ refused INVAL i)
+    ∷ (ltb maxIno (r .root) ⇒ refused INODE (walkedTo (r .path) i))
+    ∷ [])
+    (let old = mountThere i (r .path) in
+    says (restored (tagAt old i) (tagOf (freed old i) k)) (placed k r (ended i (r .path)) (walkedTo (r .path) i)))

@@ -1,0 +1,62 @@
+-- Save and state restore.
+use Prim.Native.Nat.{ℕ, _+_}
+use mathlib.Core.Bool.{Bool, true, false, not, _&&_, _||_}
+use mathlib.Core.List.{List, [], _∷_}
+use mathlib.Core.Option.{Option, none, some}
+use lib.ListN.{length}
+use lib.Dec.{eqb, ltb}
+use Rattle.rules.specs.Numbers.{BADSAVE, BADOPT, NOROOM, NOTFRESH, SMALL}
+use Rattle.rules.specs.Tree.{Node, bare, isNone}
+use Rattle.rules.specs.Instance.{Instance}
+use Rattle.rules.specs.Create.{unknown}
+use Rattle.rules.specs.Saved.{Entry, State, encode, accepted, stateOf}
+use Rattle.rules.specs.Outcome.{nothing, Outcome, refused, says, writes, _⇒_, firstOf}
+
+abbrev pub entryFor : Node → Entry
+entryFor n = record { number = n .number; above = n .above; called = n .called }
+
+-- in table order
+unfoldable pub entriesFor : List Node → List Entry
+entriesFor [] = []
+entriesFor (n ∷ ns) = entryFor n ∷ entriesFor ns
+
+unfoldable pub nodesFrom : List Entry → List Node
+nodesFrom [] = []
+nodesFrom (e ∷ es) = bare (e .number) (e .above) (e .called) ∷ nodesFrom es
+
+-- what an instance saves: tree, options, next number, counter
+unfoldable pub saved : Instance → State
+saved i = record { nodes = entriesFor (i .tree .nodes); options = i .options; next = i .tree .next; counter = i .indexes .counter }
+
+-- into a lent buffer of that length
+unfoldable pub saveRule : Instance → ℕ → Outcome
+saveRule i buffer = firstOf ((ltb buffer (length (encode (saved i))) ⇒ refused SMALL i) ∷ []) (writes (encode (saved i)) i)
+
+unfoldable pub noNodes : List Node → Bool
+noNodes [] = true
+noNodes (n ∷ ns) = false
+
+-- no node besides the root, and no mount
+unfoldable pub fresh : Instance → Bool
+fresh i = noNodes (i .tree .nodes) && isNone (i .tree .root)
+
+-- tree, next number, counter and options are the state's; `initialized` says whether in_opts has a bit; the rest stays
+unfoldable pub restoredTo : State → Instance → Instance
+restoredTo s i = record {
+  fixed = i .fixed;
+  removal = i .removal;
+  initialized = not (eqb (s .options .inOpts) 0);
+  options = s .options;
+  indexes = record { slots = i .indexes .slots; counter = s .counter };
+  tree = record { next = s .next; root = none; nodes = nodesFrom (s .nodes) };
+}
+
+unfoldable pub restoreRule : Instance → List ℕ → Outcome
+restoreRule i b =
+    firstOf
+    ((not (fresh i) ⇒ refused NOTFRESH i)
+    ∷ (not (accepted b) ⇒ refused BADSAVE i)
+    ∷ (unknown (i .fixed .known) (stateOf b .options) ⇒ refused BADOPT i)
+    ∷ (ltb (i .fixed .capacity) (1 + length (stateOf b .nodes)) ⇒ refused NOROOM i)
+    ∷ [])
+    (says nothing (restoredTo (stateOf b) i))

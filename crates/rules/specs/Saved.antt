@@ -1,0 +1,172 @@
+-- The saved state, version 1: what it says, how it is written, and which bytes are accepted. Reading is total, and tests judge what was read.
+use Prim.Native.Nat.{ℕ, zero, suc, _+_, _-_}
+use mathlib.Core.Bool.{Bool, true, false, cond, not, _&&_, _||_}
+use mathlib.Core.List.{List, [], _∷_, _++_}
+use mathlib.Core.Option.{Option, none, some}
+use lib.ListN.{length}
+use lib.Dec.{leb, ltb, eqb}
+use Rattle.rules.specs.Numbers.{rootNumber, topNumber}
+use Rattle.rules.specs.Bytes.{same, holds}
+use Rattle.rules.specs.Utf8.{wellFormed}
+use Rattle.rules.specs.Path.{slash, isDot, isDots}
+use Rattle.rules.specs.Fields.{read, get, fields}
+use Rattle.rules.specs.Instance.{Options}
+
+-- a node, as it is saved
+pub record Entry : Type 0 where
+  pub number : ℕ
+  pub above : ℕ
+  pub called : List ℕ
+
+-- the nodes, root left out, ascending by number; mounts are not saved
+pub record State : Type 0 where
+  pub nodes : List Entry
+  pub options : Options
+  pub next : ℕ
+  pub counter : ℕ
+
+-- ---- written
+
+-- number, parent, name length; the name follows
+abbrev pub nodeRow : List ℕ
+nodeRow = 8 ∷ 8 ∷ 2 ∷ []
+
+-- in_opts, out_opts, internal, external, range, flags, three zeros
+abbrev pub optionsRow : List ℕ
+optionsRow = 8 ∷ 8 ∷ 4 ∷ 4 ∷ 4 ∷ 1 ∷ 3 ∷ []
+
+-- offset of the options, node count, next number, counter, version 1, six zeros
+abbrev pub trailerRow : List ℕ
+trailerRow = 4 ∷ 4 ∷ 8 ∷ 1 ∷ 1 ∷ 6 ∷ []
+
+unfoldable pub nodeBytes : Entry → List ℕ
+nodeBytes n = fields nodeRow (n .number ∷ n .above ∷ length (n .called) ∷ []) ++ n .called
+
+unfoldable pub nodesBytes : List Entry → List ℕ
+nodesBytes [] = []
+nodesBytes (n ∷ ns) = nodeBytes n ++ nodesBytes ns
+
+unfoldable pub optionsBytes : Options → List ℕ
+optionsBytes o =
+    fields optionsRow (o .inOpts ∷ o .outOpts ∷ o .mapping .internal ∷ o .mapping .external ∷ o .mapping .range ∷ o .flags ∷ 0 ∷ [])
+
+unfoldable pub trailerBytes : ℕ → ℕ → ℕ → ℕ → List ℕ
+trailerBytes offset count next counter = fields trailerRow (offset ∷ count ∷ next ∷ counter ∷ 1 ∷ 0 ∷ [])
+
+unfoldable pub encode : State → List ℕ
+encode s =
+    nodesBytes (s .nodes)
+    ++ (optionsBytes (s .options) ++ trailerBytes (length (nodesBytes (s .nodes))) (length (s .nodes)) (s .next) (s .counter))
+
+-- ---- read: any bytes
+
+unfoldable pub nodeAt : List ℕ → ℕ → Entry
+nodeAt b at = record { number = get 8 b at; above = get 8 b (at + 8); called = read b (at + 18) (get 2 b (at + 16)) }
+
+-- where the record at a place ends
+abbrev pub behind : List ℕ → ℕ → ℕ
+behind b at = at + 18 + get 2 b (at + 16)
+
+-- the k records from a place on, and where they end
+unfoldable pub nodesAt : List ℕ → ℕ → ℕ → List Entry
+nodesAt b zero at = []
+nodesAt b (suc k) at = nodeAt b at ∷ nodesAt b k (behind b at)
+
+unfoldable pub endAt : List ℕ → ℕ → ℕ → ℕ
+endAt b zero at = at
+endAt b (suc k) at = endAt b k (behind b at)
+
+unfoldable pub optionsAt : List ℕ → ℕ → Options
+optionsAt b at = record {
+  inOpts = get 8 b at;
+  outOpts = get 8 b (at + 8);
+  mapping = record { internal = get 4 b (at + 16); external = get 4 b (at + 20); range = get 4 b (at + 24) };
+  flags = get 1 b (at + 28);
+}
+
+-- options and trailer are the last 56 and the last 24 bytes
+abbrev pub optionsIn : List ℕ → ℕ
+optionsIn b = length b - 56
+
+abbrev pub trailerIn : List ℕ → ℕ
+trailerIn b = length b - 24
+
+unfoldable pub offsetOf : List ℕ → ℕ
+offsetOf b = get 4 b (trailerIn b)
+
+unfoldable pub countOf : List ℕ → ℕ
+countOf b = get 4 b (trailerIn b + 4)
+
+unfoldable pub nextOf : List ℕ → ℕ
+nextOf b = get 8 b (trailerIn b + 8)
+
+unfoldable pub counterIn : List ℕ → ℕ
+counterIn b = get 1 b (trailerIn b + 16)
+
+unfoldable pub stateOf : List ℕ → State
+stateOf b = record { nodes = nodesAt b (countOf b) 0; options = optionsAt b (optionsIn b); next = nextOf b; counter = counterIn b }
+
+-- ---- judged
+
+-- all of these tests pass
+unfoldable pub every : List Bool → Bool
+every [] = true
+every (t ∷ ts) = t && every ts
+
+-- not short, and filled exactly: the offset, the version, the zero bytes, the flags, and the count
+unfoldable pub laidOut : List ℕ → Bool
+laidOut b =
+    every
+    (leb 56 (length b)
+    ∷ eqb (offsetOf b) (optionsIn b)
+    ∷ eqb (get 1 b (trailerIn b + 17)) 1
+    ∷ eqb (get 6 b (trailerIn b + 18)) 0
+    ∷ eqb (get 3 b (optionsIn b + 29)) 0
+    ∷ ltb (get 1 b (optionsIn b + 28)) 64
+    ∷ eqb (endAt b (countOf b) 0) (optionsIn b)
+    ∷ [])
+
+-- a record is judged among those before it, the nearest first; the root stands before all
+unfoldable pub lastNumber : List Entry → ℕ
+lastNumber [] = rootNumber
+lastNumber (m ∷ ms) = m .number
+
+-- the parent is 1 or an earlier record
+unfoldable pub present : ℕ → List Entry → Bool
+present x [] = eqb x rootNumber
+present x (m ∷ ms) = eqb (m .number) x || present x ms
+
+-- the name is there already under that parent
+unfoldable pub used : ℕ → List ℕ → List Entry → Bool
+used x p [] = false
+used x p (m ∷ ms) = (eqb (m .above) x && same (m .called) p) || used x p ms
+
+-- not empty, at most 255 bytes, no slash, not `.` or `..` itself, UTF-8
+unfoldable pub goodName : List ℕ → Bool
+goodName p = every (leb 1 (length p) ∷ leb (length p) 255 ∷ not (holds slash p) ∷ not (isDot p) ∷ not (isDots p) ∷ wellFormed p ∷ [])
+
+-- strictly rising from 2 up, below the next number, with a good name, a parent that is there, and no equal name beside it
+unfoldable pub goodNode : ℕ → List Entry → Entry → Bool
+goodNode next before n =
+    every
+    (ltb (lastNumber before) (n .number)
+    ∷ ltb (n .number) next
+    ∷ goodName (n .called)
+    ∷ present (n .above) before
+    ∷ not (used (n .above) (n .called) before)
+    ∷ [])
+
+unfoldable pub goodNodes : ℕ → List Entry → List Entry → Bool
+goodNodes next before [] = true
+goodNodes next before (n ∷ ns) = goodNode next before n && goodNodes next (n ∷ before) ns
+
+-- the next number is from 2 to 2^56, and the records are good
+unfoldable pub valid : State → Bool
+valid s = every (leb 2 (s .next) ∷ leb (s .next) topNumber ∷ goodNodes (s .next) [] (s .nodes) ∷ [])
+
+-- what BADSAVE refuses is what is not accepted
+unfoldable pub accepted : List ℕ → Bool
+accepted b = laidOut b && valid (stateOf b)
+
+unfoldable pub decode : List ℕ → Option State
+decode b = cond (accepted b) (some (stateOf b)) none

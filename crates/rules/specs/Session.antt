@@ -1,0 +1,163 @@
+-- A session: a line of text in, a line of text out.
+use Prim.Native.Nat.{ℕ, zero, suc, _+_, _-_, _*_, _/_, _%_, _^_}
+use mathlib.Core.Bool.{Bool, true, false, cond, not, _&&_, _||_}
+use mathlib.Core.List.{List, [], _∷_, _++_}
+use mathlib.Core.Option.{Option, none, some}
+use lib.ListN.{length}
+use lib.Dec.{eqb, leb, ltb}
+use Rattle.rules.specs.Numbers.{dirMode}
+use Rattle.rules.specs.Bytes.{same, ascii}
+use Rattle.rules.specs.Path.{onto}
+use Rattle.rules.specs.Tree.{onward}
+use Rattle.rules.specs.Instance.{Instance}
+use Rattle.rules.specs.Mount.{Request}
+use Rattle.rules.specs.Outcome.{Answer, nothing, mounted, restored, unmounted, walked, rootfs, toTree, toBackend, entry, ids, wrote, settings, truth, Outcome, count}
+use Rattle.rules.specs.Calls.{Call, mount as mount-call, umount as umount-call, path-walk, route, lookup, rule}
+
+abbrev pub space : ℕ
+space = 32
+
+-- ---- numbers: digits judged by value, leading zeros to any length, no sign
+
+unfoldable pub isDigit : ℕ → Bool
+isDigit b = leb 48 b && leb b 57
+
+unfoldable pub allDigits : List ℕ → Bool
+allDigits [] = true
+allDigits (b ∷ s) = isDigit b && allDigits s
+
+-- the number that digits spell behind a number that was spelt before them
+unfoldable pub spelt : ℕ → List ℕ → ℕ
+spelt n [] = n
+spelt n (b ∷ s) = spelt (n * 10 + (b - 48)) s
+
+-- a number of so many bits, where it is one
+unfoldable pub number : ℕ → List ℕ → Option ℕ
+number bits s = cond (not (same s []) && allDigits s && ltb (spelt 0 s) (2 ^ bits)) (some (spelt 0 s)) none
+
+-- the decimal digits of a number that has at most k of them
+unfoldable pub digits : ℕ → ℕ → List ℕ
+digits zero n = []
+digits (suc k) n = cond (ltb n 10) ((48 + n) ∷ []) (digits k (n / 10) ++ ((48 + n % 10) ∷ []))
+
+-- numbers of 64 bits have at most 20
+unfoldable pub decimal : ℕ → List ℕ
+decimal n = digits 20 n
+
+-- ---- a line in
+
+-- the fields between single spaces
+unfoldable pub words : List ℕ → List (List ℕ)
+words [] = [] ∷ []
+words (b ∷ s) = cond (eqb b space) ([] ∷ words s) (onto b (words s))
+
+unfoldable pub anyEmpty : List (List ℕ) → Bool
+anyEmpty [] = false
+anyEmpty (w ∷ ws) = same w [] || anyEmpty ws
+
+pub data Line : Type 0 where
+  mount : List ℕ → ℕ → ℕ → ℕ → Line
+  umount : List ℕ → Line
+  walk : List ℕ → Line
+  look : ℕ → List ℕ → Line
+
+abbrev pub mountLine : List ℕ → Option ℕ → Option ℕ → Option ℕ → Option Line
+mountLine path tag root largest =
+    onward tag (λ (t : ℕ). onward root (λ (r : ℕ). onward largest (λ (m : ℕ). some (mount path t r m))))
+
+-- by its fields: mount PATH TAG ROOT MAX, umount PATH, walk PATH, look NODE NAME; TAG has 32 bits, the others 64
+unfoldable pub lineOf : List (List ℕ) → Option Line
+lineOf [] = none
+lineOf (v ∷ []) = none
+lineOf (v ∷ p ∷ []) = cond (same v (ascii "umount")) (some (umount p)) (cond (same v (ascii "walk")) (some (walk p)) none)
+lineOf (v ∷ x ∷ p ∷ []) = cond (same v (ascii "look")) (onward (number 64 x) (λ (n : ℕ). some (look n p))) none
+lineOf (v ∷ a ∷ b ∷ c ∷ []) = none
+lineOf (v ∷ p ∷ t ∷ r ∷ m ∷ []) = cond (same v (ascii "mount")) (mountLine p (number 32 t) (number 64 r) (number 64 m)) none
+lineOf (v ∷ a ∷ b ∷ c ∷ d ∷ e ∷ fs) = none
+
+-- over 8,192 bytes, or of another form: none
+unfoldable pub parsed : List ℕ → Option Line
+parsed s = cond (ltb 8192 (length s) || anyEmpty (words s)) none (lineOf (words s))
+
+-- ---- a line out
+
+unfoldable pub joined : List (List ℕ) → List ℕ
+joined [] = []
+joined (w ∷ []) = w
+joined (w ∷ v ∷ ws) = w ++ (space ∷ joined (v ∷ ws))
+
+unfoldable pub numbers : List ℕ → List (List ℕ)
+numbers [] = []
+numbers (n ∷ ns) = decimal n ∷ numbers ns
+
+unfoldable pub textOf : List ℕ → List ℕ
+textOf ns = joined (numbers ns)
+
+pub record Reply : Type 0 where
+  pub text : List ℕ
+  pub instance : Instance
+
+abbrev pub orZero : Option ℕ → ℕ
+orZero none = 0
+orZero (some x) = x
+
+-- the values of an answer that a line shows, the first at place 0; a refusal shows zeros
+unfoldable pub values : Answer → List ℕ
+values nothing = []
+values (mounted k t) = k ∷ []
+values (restored a b) = []
+values (unmounted x p t) = x ∷ p ∷ []
+values (walked x) = orZero x ∷ []
+values (rootfs r) = []
+values (toTree x) = x ∷ []
+values (toBackend t k x) = t ∷ x ∷ []
+values (entry x mode uid gid size) = x ∷ []
+values (ids u g) = []
+values (wrote n) = []
+values (settings o) = []
+values (truth b) = []
+
+-- the first k values, zeros where there are none
+unfoldable pub shown : ℕ → List ℕ → List ℕ
+shown zero vs = []
+shown (suc k) [] = 0 ∷ shown k []
+shown (suc k) (v ∷ vs) = v ∷ shown k vs
+
+-- code, k values, and more
+abbrev pub reply : ℕ → List ℕ → Outcome → Reply
+reply k more o = record { text = textOf (o .code ∷ (shown k (values (o .answer)) ++ more)); instance = o .after }
+
+abbrev pub requestOf : List ℕ → ℕ → ℕ → ℕ → Request
+requestOf path tag root largest = record { path = path; tag = tag; root = root; largest = largest; uid = 0; gid = 0; mode = dirMode }
+
+-- a look goes where the route goes: to the tree, or to a backend, which gives r, tag and number
+unfoldable pub routed : Instance → List ℕ → Outcome → Answer → Reply
+routed i p o nothing = reply 1 [] o
+routed i p o (mounted k t) = reply 1 [] o
+routed i p o (restored a b) = reply 1 [] o
+routed i p o (unmounted x q t) = reply 1 [] o
+routed i p o (walked x) = reply 1 [] o
+routed i p o (rootfs r) = reply 1 [] o
+routed i p o (toTree x) = reply 1 [] (rule i (lookup x p))
+routed i p o (toBackend t k x) = record { text = joined (ascii "r" ∷ numbers (t ∷ x ∷ [])); instance = i }
+routed i p o (entry x mode uid gid size) = reply 1 [] o
+routed i p o (ids u g) = reply 1 [] o
+routed i p o (wrote n) = reply 1 [] o
+routed i p o (settings s) = reply 1 [] o
+routed i p o (truth b) = reply 1 [] o
+
+unfoldable pub says : Instance → Line → Reply
+says i (mount path tag root largest) =
+    let o = rule i (mount-call (requestOf path tag root largest)) in
+    reply 1 (count o ∷ []) o
+says i (umount path) = reply 2 [] (rule i (umount-call path))
+says i (walk path) = reply 1 [] (rule i (path-walk path))
+says i (look x p) = routed i p (rule i (route x)) (rule i (route x) .answer)
+
+-- a line of no such form changes nothing
+unfoldable pub answers : Instance → Option Line → Reply
+answers i none = record { text = ascii "?"; instance = i }
+answers i (some l) = says i l
+
+unfoldable pub replyTo : Instance → List ℕ → Reply
+replyTo i s = answers i (parsed s)

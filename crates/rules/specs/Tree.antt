@@ -1,0 +1,114 @@
+-- The nodes of the pseudo tree, the walk along a path, and the mount walk, which makes what is missing. All of it for any rows.
+use Prim.Native.Nat.{ℕ, _+_}
+use mathlib.Core.Bool.{Bool, true, false, cond, _&&_, _||_, not}
+use mathlib.Core.List.{List, [], _∷_, _++_}
+use mathlib.Core.Option.{Option, none, some}
+use lib.ListN.{length}
+use lib.Dec.{eqb}
+use Rattle.rules.specs.Bytes.{same}
+use Rattle.rules.specs.Numbers.{rootNumber}
+use Rattle.rules.specs.Path.{Part, name, parent}
+
+-- a mount, with the numbers as the request brought them
+pub record Mount : Type 0 where
+  pub index : ℕ
+  pub root : ℕ
+  pub uid : ℕ
+  pub gid : ℕ
+  pub mode : ℕ
+
+-- a node; the root is none of them
+pub record Node : Type 0 where
+  pub number : ℕ
+  pub above : ℕ
+  pub called : List ℕ
+  pub mount : Option Mount
+
+abbrev pub isNone : {A : Type 0} → Option A → Bool
+isNone none = true
+isNone (some a) = false
+
+-- ---- finding: of several nodes that fit, the first is meant
+
+unfoldable pub isChild : ℕ → List ℕ → Node → Bool
+isChild here p n = eqb (n .above) here && same (n .called) p
+
+-- the number of the child of that name
+unfoldable pub childIn : List Node → ℕ → List ℕ → Option ℕ
+childIn [] here p = none
+childIn (n ∷ ns) here p = cond (isChild here p n) (some (n .number)) (childIn ns here p)
+
+-- the node of that number
+unfoldable pub nodeIn : List Node → ℕ → Option Node
+nodeIn [] x = none
+nodeIn (n ∷ ns) x = cond (eqb (n .number) x) (some n) (nodeIn ns x)
+
+-- the number is the root's or a node's
+unfoldable pub isKnown : List Node → ℕ → Bool
+isKnown nodes x = eqb x rootNumber || not (isNone (nodeIn nodes x))
+
+abbrev pub aboveOf : Option Node → ℕ
+aboveOf none = rootNumber
+aboveOf (some n) = n .above
+
+-- the parent's number; the root's is the root's, and so is that of a number which is no node
+unfoldable pub parentIn : List Node → ℕ → ℕ
+parentIn nodes x = cond (eqb x rootNumber) rootNumber (aboveOf (nodeIn nodes x))
+
+-- the children, in creation order
+unfoldable pub childrenIn : List Node → ℕ → List Node
+childrenIn [] x = []
+childrenIn (n ∷ ns) x = cond (eqb (n .above) x) (n ∷ childrenIn ns x) (childrenIn ns x)
+
+-- ---- the walk: a missing name answers none
+
+abbrev pub onward : {A B : Type 0} → Option A → (A → Option B) → Option B
+onward none f = none
+onward (some a) f = f a
+
+unfoldable pub walk : List Node → ℕ → List Part → Option ℕ
+walk nodes here [] = some here
+walk nodes here (parent at ∷ ps) = walk nodes (parentIn nodes here) ps
+walk nodes here (name at p ∷ ps) = onward (childIn nodes here p) (λ (x : ℕ). walk nodes x ps)
+
+-- ---- the mount walk: the nodes made so far, and where it stands
+
+pub record Made : Type 0 where
+  pub nodes : List Node
+  pub here : ℕ
+
+abbrev pub bare : ℕ → ℕ → List ℕ → Node
+bare x above p = record { number = x; above = above; called = p; mount = none }
+
+abbrev pub orMake : ℕ → Made → List ℕ → Option ℕ → Made
+orMake next m p (some x) = record { nodes = m .nodes; here = x }
+orMake next m p none =
+    let x = next + length (m .nodes) in
+    record { nodes = m .nodes ++ (bare x (m .here) p ∷ []); here = x }
+
+-- one component, over the live nodes and those made; the k-th made has the number next + k
+unfoldable pub step : List Node → ℕ → Made → Part → Made
+step live next m (parent at) = record { nodes = m .nodes; here = parentIn (live ++ m .nodes) (m .here) }
+step live next m (name at p) = orMake next m p (childIn (live ++ m .nodes) (m .here) p)
+
+unfoldable pub makes : List Node → ℕ → Made → List Part → Made
+makes live next m [] = m
+makes live next m (p ∷ ps) = makes live next (step live next m p) ps
+
+abbrev pub atRoot : Made
+atRoot = record { nodes = []; here = rootNumber }
+
+-- ---- mounts and removal
+
+abbrev pub withMount : Option Mount → Node → Node
+withMount m n = record { number = n .number; above = n .above; called = n .called; mount = m }
+
+-- the node of that number has that mount
+unfoldable pub mountAt : Option Mount → List Node → ℕ → List Node
+mountAt m [] x = []
+mountAt m (n ∷ ns) x = cond (eqb (n .number) x) (withMount m n ∷ ns) (n ∷ mountAt m ns x)
+
+-- the node of that number is gone; the others keep their order
+unfoldable pub without : List Node → ℕ → List Node
+without [] x = []
+without (n ∷ ns) x = cond (eqb (n .number) x) ns (n ∷ without ns x)

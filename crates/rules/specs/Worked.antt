@@ -1,0 +1,95 @@
+-- The eight session lines and the five edges, as one table of lines and answers under one statement.
+use Prim.Native.Nat.{ℕ}
+use Prim.Native.String.{String}
+use mathlib.Core.Path.{_≡_}
+use mathlib.Core.List.{List, [], _∷_}
+use lib.ListN.{replicate, set}
+use Rattle.rules.specs.Numbers.{indexes}
+use Rattle.rules.specs.Bytes.{ascii}
+use Rattle.rules.specs.Instance.{Slot, Instance, withIndexes, emptySlot, heldBy, counterOf}
+use Rattle.rules.specs.Create.{newInstance}
+use Rattle.rules.specs.Session.{replyTo}
+
+-- an instance of n nodes: no option bits, no mapping, nodes kept
+abbrev pub plain : ℕ → Instance
+plain n = newInstance (record {
+  capacity = n;
+  known = 0;
+  options = record { inOpts = 0; outOpts = 0; mapping = record { internal = 0; external = 0; range = 0 }; flags = 0 };
+})
+
+-- with these slots and this counter
+abbrev pub holding : List Slot → ℕ → Instance
+holding slots c = withIndexes (record { slots = slots; counter = c }) (plain 64)
+
+abbrev pub allHeld : List Slot
+allHeld = replicate indexes (heldBy 7)
+
+infix 20 _↝_
+pub record Said : Type 0 where
+  pub line : String
+  pub answer : String
+
+abbrev pub _↝_ : String → String → Said
+l ↝ a = record { line = l; answer = a }
+
+-- an instance, what is said to it and answered, and the counter it ends with
+pub record Case : Type 0 where
+  pub from : Instance
+  pub said : List Said
+  pub counter : ℕ
+
+abbrev pub cases : List Case
+cases =
+    record {
+      from = plain 64;
+      said =
+          ("walk /a" ↝ "0 0")
+          ∷ ("mount /a/b 7 1 1000" ↝ "0 1 1")
+          ∷ ("mount a 8 1 1000" ↝ "2 0 1")
+          ∷ ("mount /a/b 9 1 1000" ↝ "0 3 1")
+          ∷ ("umount /a/b" ↝ "0 3 2")
+          ∷ ("umount /a/b" ↝ "7 0 0")
+          ∷ ("mount /c/../a 7 1 1000" ↝ "0 4 1")
+          ∷ ("look 1 a" ↝ "0 288230376151711745")
+          ∷ [];
+      counter = 5;
+    }
+    ∷ record { from = holding (set allHeld 1 emptySlot) 255; said = ("mount / 7 1 1000" ↝ "0 1 3") ∷ []; counter = 2 }
+    ∷ record { from = holding (set allHeld 255 emptySlot) 0; said = ("mount / 7 1 1000" ↝ "0 255 256") ∷ []; counter = 0 }
+    ∷ record { from = holding allHeld 255; said = ("mount / 7 1 1000" ↝ "5 0 257") ∷ []; counter = 0 }
+    ∷ record {
+      from = plain 64;
+      said = ("mount / 7 72057594037927935 1000" ↝ "0 1 1") ∷ ("mount / 7 72057594037927936 1000" ↝ "4 0 1") ∷ [];
+      counter = 3;
+    }
+    ∷ record { from = plain 1; said = ("mount /a 7 1 1000" ↝ "6 0 0") ∷ ("mount / 7 1 1000" ↝ "0 1 1") ∷ []; counter = 2 }
+    ∷ []
+
+-- ---- what the rules say to the lines, and what the table says
+
+pub record Result : Type 0 where
+  pub answers : List (List ℕ)
+  pub counter : ℕ
+
+unfoldable pub said : Instance → List Said → List (List ℕ) → Result
+said i [] before = record { answers = before; counter = counterOf i }
+said i (s ∷ ss) before =
+    let r = replyTo i (ascii (s .line)) in
+    said (r .instance) ss (r .text ∷ before)
+
+unfoldable pub wanted : List Said → List (List ℕ) → List (List ℕ)
+wanted [] before = before
+wanted (s ∷ ss) before = wanted ss (ascii (s .answer) ∷ before)
+
+unfoldable pub results : List Case → List Result
+results [] = []
+results (c ∷ cs) = said (c .from) (c .said) [] ∷ results cs
+
+unfoldable pub expected : List Case → List Result
+expected [] = []
+expected (c ∷ cs) = record { answers = wanted (c .said) []; counter = c .counter } ∷ expected cs
+
+-- every line is answered as the table says, and the counter ends where it says
+abbrev pub Worked : Type 0
+Worked = results cases ≡ expected cases
