@@ -10,3 +10,11 @@ pub mod Turn
 pub mod Trace
 pub mod Leaves
 pub mod Exactly
+pub mod RoundTrip
+pub mod Names
+pub mod Shape
+pub mod Walk
+pub mod Held
+pub mod Driven
+pub mod Restored
+pub mod Stays

@@ -23,3 +23,7 @@ pub mod Allocation
 pub mod Trace
 pub mod Leaves
 pub mod Exactly
+pub mod RoundTrip
+pub mod Driven
+pub mod Restored
+pub mod Stays

@@ -1,0 +1,237 @@
+-- The components of a path within its limits and in UTF-8 are good names. Assumes nothing.
+use mathlib.Core.Path.{_≡_, refl, sym, ap, _∙_, subst}
+use mathlib.Core.Bool.{Bool, true, false, cond, not, _&&_, _||_, true≢false, false≢true}
+use mathlib.Core.List.{List, [], _∷_}
+use mathlib.Core.Logic.{_⊎_, inl, inr, ⊎-elim}
+use Prim.Native.Nat.{ℕ, zero, suc, _+_, _≤_}
+use native.Mathlib.Nat.{suc-inj}
+use native.Mathlib.Omega.{arith}
+use lib.ListN.{length}
+use lib.Dec.{leb, ltb, eqb}
+use borrow.Author.Tests.{eqb-true, le-leb, ltb-false, eq-eqb}
+use Rattle.rules.specs.Bytes.{same, holds}
+use Rattle.rules.specs.Utf8.{Range, _‥_, table, within, fits, firstRow, sequence, onSequence, endFrom, validTo, wellFormed}
+use Rattle.rules.specs.Path.{slash, dot, Part, name, parent, onto, pieces, isDot, isDots, sorted, kept, components, anyLonger, tooLong}
+use Rattle.rules.specs.Saved.{every, goodName}
+use Rattle.rules.proofs.Rows.{known}
+use Rattle.rules.proofs.RoundTrip.{pass}
+
+-- ---- sequences do not reach over a slash
+
+-- the bytes before the first slash
+unfoldable cut : List ℕ → List ℕ
+cut [] = []
+cut (b ∷ s) = cond (eqb b slash) [] (b ∷ cut s)
+
+-- the first k bytes have no slash
+unfoldable NoSlash : ℕ → List ℕ → Type 0
+NoSlash zero s = Unit {0}
+NoSlash (suc k) [] = Unit {0}
+NoSlash (suc k) (b ∷ s) = (eqb b slash ≡ false) × NoSlash k s
+
+-- no range has the slash
+unfoldable Apart : List Range → Type 0
+Apart [] = Unit {0}
+Apart (r ∷ rs) = (within r slash ≡ false) × Apart rs
+
+and-false-l : (a b : Bool) → a ≡ false → (a && b) ≡ false
+and-false-l true b e = absurd (true≢false e)
+and-false-l false b e = refl
+
+-- what such ranges say of bytes, they say of the bytes before a slash
+fits-cut : (rs : List Range) (s : List ℕ) → Apart rs → fits rs s ≡ fits rs (cut s)
+unfolding fits cut Apart
+fits-cut [] s h = refl
+fits-cut (r ∷ rs) [] h = refl
+fits-cut (r ∷ rs) (b ∷ s) h = go (eqb b slash) refl (fits-cut rs s (h .1))
+  where
+    go : (t : Bool) → eqb b slash ≡ t → fits rs s ≡ fits rs (cut s) → (within r b && fits rs s) ≡ fits (r ∷ rs) (cond t [] (b ∷ cut s))
+    go true e k = and-false-l (within r b) (fits rs s) (ap (within r) (eqb-true b slash e) ∙ h .0)
+    go false e k = ap (λ (x : Bool). within r b && x) k
+
+and-right : (a b : Bool) → (a && b) ≡ true → b ≡ true
+and-right true b e = e
+and-right false b e = absurd (false≢true e)
+
+and-left : (a b : Bool) → (a && b) ≡ true → a ≡ true
+and-left true b e = refl
+and-left false b e = absurd (false≢true e)
+
+fits-apart : (rs : List Range) (s : List ℕ) → Apart rs → fits rs s ≡ true → NoSlash (length rs) s
+unfolding fits NoSlash Apart
+fits-apart [] s h e = tt
+fits-apart (r ∷ rs) [] h e = tt
+fits-apart (r ∷ rs) (b ∷ s) h e = (
+  ⊎-elim (λ (t : eqb b slash ≡ true). absurd (true≢false (sym (and-left (within r b) (fits rs s) e) ∙ (ap (within r) (eqb-true b slash t) ∙ h .0)))) (λ f. f) (known (eqb b slash)),
+  fits-apart rs s (h .1) (and-right (within r b) (fits rs s) e),
+)
+
+-- behind its first range, no row of the table has the slash
+unfoldable Tails : List (List Range) → Type 0
+Tails [] = Unit {0}
+Tails ([] ∷ rows) = ⊥
+Tails ((r ∷ rs) ∷ rows) = Apart rs × Tails rows
+
+table-tails : Tails table
+unfolding Tails Apart table
+table-tails =
+    (tt, ((refl, tt), ((refl, (refl, tt)), ((refl, (refl, tt)), ((refl, (refl, tt)), ((refl, (refl, tt)), ((refl, (refl, (refl, tt))), ((refl, (refl, (refl, tt))), ((refl, (refl, (refl, tt))), tt)))))))))
+
+row-cut : (rows : List (List Range)) (b : ℕ) (s : List ℕ) → Tails rows → firstRow rows (b ∷ s) ≡ firstRow rows (b ∷ cut s)
+unfolding Tails firstRow fits
+row-cut [] b s h = refl
+row-cut ([] ∷ rows) b s h = absurd h
+row-cut ((r ∷ rs) ∷ rows) b s h = rw (fits-cut rs s (h .0), row-cut rows b s (h .1))
+
+row-apart : (rows : List (List Range)) (b : ℕ) (s : List ℕ) (m : ℕ) → Tails rows → firstRow rows (b ∷ s) ≡ suc m → NoSlash m s
+unfolding Tails firstRow fits
+row-apart [] b s m h e = absurd (omega arith)
+row-apart ([] ∷ rows) b s m h e = absurd h
+row-apart ((r ∷ rs) ∷ rows) b s m h e = go (within r b && fits rs s) refl e (row-apart rows b s m (h .1))
+  where
+    go : (t : Bool) → (within r b && fits rs s) ≡ t → cond t (suc (length rs)) (firstRow rows (b ∷ s)) ≡ suc m → (firstRow rows (b ∷ s) ≡ suc m → NoSlash m s) → NoSlash m s
+    go true f g k = subst (λ (n : ℕ). NoSlash n s) (suc-inj g) (fits-apart rs s (h .0) (and-right (within r b) (fits rs s) f))
+    go false f g k = k g
+
+sequence-same : (b : ℕ) (s : List ℕ) → sequence (b ∷ s) ≡ sequence (b ∷ cut s)
+unfolding sequence
+sequence-same b s = row-cut table b s table-tails
+
+sequence-apart : (b : ℕ) (s : List ℕ) (m : ℕ) → sequence (b ∷ s) ≡ suc m → NoSlash m s
+unfolding sequence
+sequence-apart b s m e = row-apart table b s m table-tails e
+
+none-apart : (s : List ℕ) → NoSlash 0 s
+unfolding NoSlash
+none-apart s = tt
+
+-- ---- the pieces of well-formed bytes are well-formed
+
+abbrev Whole : ℕ → List ℕ → Type 0
+Whole k s = endFrom k s ≡ length s
+
+unfoldable Wholes : List (List ℕ) → Type 0
+Wholes [] = Unit {0}
+Wholes (p ∷ ps) = Whole 0 p × Wholes ps
+
+-- the first piece stands k bytes inside a sequence; it is what stands before the first slash
+unfoldable Cuts : ℕ → List ℕ → List (List ℕ) → Type 0
+Cuts k s [] = ⊥
+Cuts k s (p ∷ ps) = (p ≡ cut s) × Whole k p × Wholes ps
+
+cuts-wholes : (s : List ℕ) (ps : List (List ℕ)) → Cuts 0 s ps → Wholes ps
+unfolding Cuts Wholes
+cuts-wholes s [] h = absurd h
+cuts-wholes s (p ∷ ps) h = (h .1, h .2)
+
+cuts-onto : (b : ℕ) (s : List ℕ) (k m : ℕ) (ps : List (List ℕ)) → eqb b slash ≡ false → ((p : List ℕ) → p ≡ cut s → Whole m p → Whole k (b ∷ p)) → Cuts m s ps → Cuts k (b ∷ s) (onto b ps)
+unfolding Cuts cut
+cuts-onto b s k m [] e f h = absurd h
+cuts-onto b s k m (p ∷ ps) e f h = (rw e (ap (λ (x : List ℕ). b ∷ x) (h .0)), f p (h .0) (h .1), h .2)
+
+slash-alone : (s : List ℕ) → endFrom 0 (slash ∷ s) ≡ suc (endFrom 0 s)
+unfolding endFrom sequence firstRow table fits
+slash-alone s = refl
+
+nil-cuts : (k : ℕ) → Cuts k [] ([] ∷ [])
+unfolding Cuts Wholes cut endFrom
+nil-cuts k = (refl, refl, tt)
+
+at-slash : (b : ℕ) (s : List ℕ) (k : ℕ) → eqb b slash ≡ true → Whole k (b ∷ s) → NoSlash k (b ∷ s) → (Whole 0 s → Cuts 0 s (pieces s)) → Cuts k (b ∷ s) ([] ∷ pieces s)
+unfolding Cuts NoSlash cut endFrom
+at-slash b s zero e w h f =
+    let w₀ : Whole 0 s = suc-inj (sym (slash-alone s) ∙ (ap (λ (x : ℕ). endFrom 0 (x ∷ s)) (sym (eqb-true b slash e)) ∙ w)) in
+    (rw e, refl, cuts-wholes s (pieces s) (f w₀))
+at-slash b s (suc k) e w h f = absurd (true≢false (sym e ∙ h .0))
+
+past-byte : (b : ℕ) (s : List ℕ) (k : ℕ) → eqb b slash ≡ false → Whole k (b ∷ s) → NoSlash k (b ∷ s) → ((m : ℕ) → Whole m s → NoSlash m s → Cuts m s (pieces s))
+    → Cuts k (b ∷ s) (onto b (pieces s))
+unfolding NoSlash endFrom
+past-byte b s zero e w h f = begins (sequence (b ∷ s)) refl w
+  where
+    sequence-cut : (p : List ℕ) → p ≡ cut s → sequence (b ∷ p) ≡ sequence (b ∷ s)
+    sequence-cut p i = ap (λ (x : List ℕ). sequence (b ∷ x)) i ∙ sym (sequence-same b s)
+
+    begins : (n : ℕ) → sequence (b ∷ s) ≡ n → onSequence n (λ (k : ℕ). endFrom k s) ≡ suc (length s) → Cuts 0 (b ∷ s) (onto b (pieces s))
+    begins zero q v = absurd (omega arith)
+    begins (suc m) q v =
+        cuts-onto b s 0 m (pieces s) e (λ p i x. rw (sequence-cut p i ∙ q) (ap suc x)) (f m (suc-inj v) (sequence-apart b s m q))
+past-byte b s (suc k) e w h f = cuts-onto b s (suc k) k (pieces s) e (λ p i v. ap suc v) (f k (suc-inj w) (h .1))
+
+pieces-whole : (s : List ℕ) (k : ℕ) → Whole k s → NoSlash k s → Cuts k s (pieces s)
+unfolding pieces
+pieces-whole [] k w h = nil-cuts k
+pieces-whole (b ∷ s) k w h = go (eqb b slash) refl (pieces-whole s)
+  where
+    go : (t : Bool) → eqb b slash ≡ t → ((m : ℕ) → Whole m s → NoSlash m s → Cuts m s (pieces s)) → Cuts k (b ∷ s) (cond t ([] ∷ pieces s) (onto b (pieces s)))
+    go true e f = at-slash b s k e w h (λ x. f 0 x (none-apart s))
+    go false e f = past-byte b s k e w h f
+
+-- ---- what every piece is
+
+unfoldable Free : List (List ℕ) → Type 0
+Free [] = Unit {0}
+Free (p ∷ ps) = (holds slash p ≡ false) × Free ps
+
+pieces-free : (s : List ℕ) → Free (pieces s)
+unfolding Free pieces holds
+pieces-free [] = (refl, tt)
+pieces-free (b ∷ s) = go (eqb b slash) refl (pieces s) (pieces-free s)
+  where
+    go : (t : Bool) → eqb b slash ≡ t → (ps : List (List ℕ)) → Free ps → Free (cond t ([] ∷ ps) (onto b ps))
+    go true e ps h = (refl, h)
+    go false e [] h = (rw e, tt)
+    go false e (p ∷ ps) h = (rw e (h .0), h .1)
+
+unfoldable Short : List (List ℕ) → Type 0
+Short [] = Unit {0}
+Short (p ∷ ps) = (length p ≤ 255) × Short ps
+
+pub or-neither : (a b : Bool) → (a || b) ≡ false → (a ≡ false) × (b ≡ false)
+or-neither true b e = absurd (true≢false e)
+or-neither false b e = (refl, e)
+
+none-longer : (ps : List (List ℕ)) → anyLonger 255 ps ≡ false → Short ps
+unfolding anyLonger Short
+none-longer [] e = tt
+none-longer (p ∷ ps) e =
+    let o = or-neither (ltb 255 (length p)) (anyLonger 255 ps) e in
+    (ltb-false 255 (length p) (o .0), none-longer ps (o .1))
+
+-- ---- components
+
+unfoldable pub GoodParts : List Part → Type 0
+GoodParts [] = Unit {0}
+GoodParts (parent at ∷ ps) = GoodParts ps
+GoodParts (name at p ∷ ps) = (goodName p ≡ true) × GoodParts ps
+
+some-byte : (p : List ℕ) → same p [] ≡ false → 1 ≤ length p
+unfolding same
+some-byte [] e = absurd (true≢false e)
+some-byte (b ∷ p) e = omega arith
+
+good : (p : List ℕ) → same p [] ≡ false → isDot p ≡ false → isDots p ≡ false → holds slash p ≡ false → length p ≤ 255 → Whole 0 p → goodName p ≡ true
+unfolding goodName wellFormed validTo
+good p e d dd f l w =
+    pass _ (le-leb 1 (length p) (some-byte p e), (le-leb (length p) 255 l, (rw f, (rw d, (rw dd, (eq-eqb _ _ w, tt))))))
+
+kept-good : (at : ℕ) (ps : List (List ℕ)) → Free ps → Short ps → Wholes ps → GoodParts (kept at ps)
+unfolding Free Short Wholes GoodParts kept sorted
+kept-good at [] f l w = tt
+kept-good at (p ∷ ps) f l w =
+    go (same p []) refl (isDot p) refl (isDots p) refl (kept (at + length p + 1) ps) (kept-good (at + length p + 1) ps (f .1) (l .1) (w .1))
+  where
+    go : (x : Bool) → same p [] ≡ x → (y : Bool) → isDot p ≡ y → (z : Bool) → isDots p ≡ z → (qs : List Part) → GoodParts qs
+        → GoodParts (cond x qs (cond y qs (cond z (parent at ∷ qs) (name at p ∷ qs))))
+    go true e y g z h qs k = k
+    go false e true g z h qs k = k
+    go false e false g true h qs k = k
+    go false e false g false h qs k = (good p e g h (f .0) (l .0) (w .0), k)
+
+-- the theorem: of a path that rows 1 and 2 of a mount let pass
+pub components-good : (s : List ℕ) → tooLong s ≡ false → wellFormed s ≡ true → GoodParts (components 0 s)
+unfolding tooLong wellFormed validTo components
+components-good s l w =
+    let o = or-neither (ltb 4096 (length s)) (anyLonger 255 (pieces s)) l in
+    kept-good 0 (pieces s) (pieces-free s) (none-longer (pieces s) (o .1))
+    (cuts-wholes s (pieces s) (pieces-whole s 0 (eqb-true _ _ w) (none-apart s)))

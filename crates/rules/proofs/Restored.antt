@@ -1,0 +1,204 @@
+-- A driven instance whose parents are all present is saved as a valid state, and comes back. Assumes nothing.
+use mathlib.Core.Path.{_≡_, refl, sym, ap, _∙_, subst}
+use mathlib.Core.Bool.{Bool, true, false, cond, not, _&&_, _||_, true≢false, false≢true, or-true}
+use mathlib.Core.Logic.{_⊎_, inl, inr, ⊎-elim}
+use mathlib.Core.List.{List, [], _∷_}
+use mathlib.Core.Option.{Option, none, some}
+use Prim.Native.Nat.{ℕ, _+_, _*_, _^_, _≤_, _<_}
+use native.Mathlib.Omega.{arith}
+use lib.ListN.{length}
+use lib.Dec.{eqb, leb, ltb}
+use borrow.Author.Tests.{eqb-true, eq-eqb, leb-true, le-leb, le-ltb, not-true, not-false}
+use Rattle.rules.specs.Numbers.{rootNumber, topNumber}
+use Rattle.rules.specs.Bytes.{Bytes, same}
+use Rattle.rules.specs.Tree.{Node, isNone, nodeIn, isKnown}
+use Rattle.rules.specs.Instance.{Instance, live}
+use Rattle.rules.specs.Outcome.{Outcome}
+use Rattle.rules.specs.Create.{unknown}
+use Rattle.rules.specs.Saved.{Entry, State, lastNumber, present, used, goodName, goodNode, goodNodes, valid, nodesBytes, encode, accepted, stateOf}
+use Rattle.rules.specs.Restore.{entryFor, entriesFor, nodesFrom, saved, fresh, restoredTo, restoreRule}
+use Rattle.rules.specs.RoundTrip.{EntryFits, EntriesFit, OptionsFit, Fits, NamesTo}
+use Rattle.rules.specs.Driven.{Driven, Rises, Below, Named, Unique, Shape, Facts, Present}
+use Rattle.rules.specs.Restored.{bareTree, GivesBack, SaveThenRestore, RestoreThenSave, NoLonger}
+use Rattle.rules.proofs.Rows.{known, first-of}
+use Rattle.rules.proofs.RoundTrip.{pass, passed, state-read, is-accepted, written, longest, most-bytes}
+use Rattle.rules.proofs.Names.{or-neither}
+use Rattle.rules.proofs.Shape.{entries-from, entries-length, beside, beside-sym, Good, is-good, rises-end}
+use Rattle.rules.proofs.Driven.{facts}
+
+-- ---- the parents of those left are before, or among those left
+
+unfoldable In : ℕ → List Entry → Type 0
+In x [] = ⊥
+In x (e ∷ es) = (e .number ≡ x) ⊎ In x es
+
+unfoldable Parents : List Entry → List Entry → List Entry → Type 0
+Parents before left [] = Unit {0}
+Parents before left (e ∷ es) = ((present (e .above) before ≡ true) ⊎ In (e .above) left) × Parents before left es
+
+in-above : (low high x : ℕ) (es : List Entry) → Rises low es high → In x es → low ≤ x
+unfolding In Rises
+in-above low high x [] r h = absurd h
+in-above low high x (e ∷ es) r (inl h) = omega (arith, r .0)
+in-above low high x (e ∷ es) r (inr h) = omega (arith, r .0, in-above (e .number + 1) high x es (r .1) h)
+
+present-more : (x : ℕ) (e : Entry) (before : List Entry) → present x before ≡ true → present x (e ∷ before) ≡ true
+unfolding present
+present-more x e before h = rw (h, or-true)
+
+present-first : (x : ℕ) (e : Entry) (before : List Entry) → e .number ≡ x → present x (e ∷ before) ≡ true
+unfolding present
+present-first x e before h = rw (eq-eqb (e .number) x h)
+
+parents-on : (e : Entry) (before left es : List Entry) → Parents before (e ∷ left) es → Parents (e ∷ before) left es
+unfolding Parents In
+parents-on e before left [] p = tt
+parents-on e before left (d ∷ es) p = (
+  ⊎-elim (λ h. inl (present-more (d .above) e before h)) (λ (h : (e .number ≡ d .above) ⊎ In (d .above) left). ⊎-elim (λ q. inl (present-first (d .above) e before q)) (λ q. inr q) h) (p .0),
+  parents-on e before left es (p .1),
+)
+
+-- ---- the names of those left are not used before
+
+unfoldable Unused : List Entry → List Entry → Type 0
+Unused before [] = Unit {0}
+Unused before (e ∷ es) = (used (e .above) (e .called) before ≡ false) × Unused before es
+
+unused-on : (e : Entry) (before es : List Entry) → Unused before es → used (e .above) (e .called) es ≡ false → Unused (e ∷ before) es
+unfolding Unused used
+unused-on e before [] u h = tt
+unused-on e before (d ∷ es) u h =
+    let o = or-neither (beside d e) (used (e .above) (e .called) es) h in
+    (rw (beside-sym e d ∙ o .0) (u .0), unused-on e before es (u .1) (o .1))
+
+-- ---- so they are good
+
+shape-good : (next : ℕ) (es before : List Entry) → Rises (lastNumber before + 1) es next → Below es → Named es → Unique es → Unused before es → Parents before es es
+    → goodNodes next before es ≡ true
+unfolding goodNodes Rises Below Named Unique Unused Parents lastNumber
+shape-good next [] before r b n u v p = refl
+shape-good next (e ∷ es) before r b n u v p =
+    let here : present (e .above) before ≡ true =
+    ⊎-elim (λ h. h) (λ h. absurd (omega (arith, b .1, in-above (e .number) next (e .above) (e ∷ es) (omega arith, r .1) h))) (p .0) in
+    let g : Good next before e = record {
+      rises = omega (arith, r .0);
+      under = omega (arith, rises-end (e .number + 1) next es (r .1));
+      named = n .0;
+      parent = here;
+      alone = v .0;
+    } in
+    rw (is-good next before e g)
+    (shape-good next es (e ∷ before) (r .1) (b .2) (n .1) (u .1) (unused-on e before es (v .1) (u .0)) (parents-on e before es es (p .1)))
+
+none-unused : (es : List Entry) → Unused [] es
+unfolding Unused used
+none-unused [] = tt
+none-unused (e ∷ es) = (refl, none-unused es)
+
+node-in : (ns : List Node) (x : ℕ) → isNone (nodeIn ns x) ≡ false → In x (entriesFor ns)
+unfolding nodeIn entriesFor In
+node-in [] x h = absurd (true≢false h)
+node-in (n ∷ ns) x h = go (eqb (n .number) x) refl h (node-in ns x)
+  where
+    go : (b : Bool) → eqb (n .number) x ≡ b → isNone (cond b (some n) (nodeIn ns x)) ≡ false → (isNone (nodeIn ns x) ≡ false → In x (entriesFor ns)) → (n .number ≡ x) ⊎ In x (entriesFor ns)
+    go true e f k = inl (eqb-true (n .number) x e)
+    go false e f k = inr (k f)
+
+all-parents : (all ns : List Node) → Present all ns → Parents [] (entriesFor all) (entriesFor ns)
+unfolding Present Parents entriesFor isKnown present
+all-parents all [] p = tt
+all-parents all (n ∷ ns) p = (go (eqb (n .above) rootNumber) refl (p .0), all-parents all ns (p .1))
+  where
+    go : (b : Bool) → eqb (n .above) rootNumber ≡ b → (b || not (isNone (nodeIn all (n .above)))) ≡ true → (eqb (n .above) rootNumber ≡ true) ⊎ In (n .above) (entriesFor all)
+    go true e f = inl e
+    go false e f = inr (node-in all (n .above) (not-true _ f))
+
+-- ---- and fit
+
+name-length : (p : List ℕ) → goodName p ≡ true → length p ≤ 255
+unfolding goodName
+name-length p g = leb-true (length p) 255 (passed _ g .1 .0)
+
+entries-fit : (low next : ℕ) (es : List Entry) → next ≤ topNumber → Rises low es next → Below es → Named es → EntriesFit es
+unfolding Rises Below Named EntriesFit
+entries-fit low next [] t r b n = tt
+entries-fit low next (e ∷ es) t r b n =
+    let l = rises-end (e .number + 1) next es (r .1) in
+    (record { number = omega arith; above = omega (arith, b .1); called = omega (arith, name-length (e .called) (n .0)) }, entries-fit (e .number + 1) next es t (r .1) (b .2) (n .1))
+
+names-to : (es : List Entry) → Named es → NamesTo 255 es
+unfolding Named NamesTo
+names-to [] n = tt
+names-to (e ∷ es) n = (name-length (e .called) (n .0), names-to es (n .1))
+
+module _ (i : Instance) (f : Facts i) where
+  few : length (entriesFor (i .tree .nodes)) ≤ 1023
+  few = omega (arith, entries-length (i .tree .nodes), f .room, f .capacity)
+
+  saved-fits : Fits (saved i)
+  unfolding saved
+  saved-fits =
+      let es = entriesFor (i .tree .nodes) in
+      record {
+        nodes = entries-fit 2 (i .tree .next) es (f .top) (f .shape .rises) (f .shape .below) (f .shape .named);
+        options = f .options;
+        offset = omega (arith, few, most-bytes es (names-to es (f .shape .named)));
+        count = omega (arith, few);
+        next = omega (arith, f .top);
+        counter = f .counter;
+      }
+
+  saved-valid : Present (i .tree .nodes) (i .tree .nodes) → valid (saved i) ≡ true
+  unfolding valid saved lastNumber
+  saved-valid p =
+      let es = entriesFor (i .tree .nodes) in
+      let s = f .shape in
+      pass _ (le-leb 2 (i .tree .next) (rises-end 2 (i .tree .next) es (s .rises)), (le-leb (i .tree .next) topNumber (f .top),
+      (shape-good (i .tree .next) es [] (s .rises) (s .below) (s .named) (s .unique) (none-unused es) (all-parents (i .tree .nodes) (i .tree .nodes) p), tt)))
+
+-- the theorem: no state is longer than 279,335 bytes
+pub no-longer : NoLonger
+unfolding saved
+no-longer i d =
+    let f = facts i d in
+    longest .most (saved i) (few i f) (names-to (entriesFor (i .tree .nodes)) (f .shape .named))
+
+-- the theorem: what was saved comes back
+pub save-then-restore : SaveThenRestore
+unfolding restoreRule restoredTo saved
+save-then-restore i j d p fr mask room =
+    let f = facts i d in
+    let back : stateOf (encode (saved i)) ≡ saved i = state-read (saved i) (saved-fits i f) in
+    let ok : accepted (encode (saved i)) ≡ true = is-accepted (saved i) (saved-fits i f) (saved-valid i f p) in
+    let bits : unknown (j .fixed .known) (stateOf (encode (saved i)) .options) ≡ false = rw (back, mask) (f .within) in
+    let size : ltb (j .fixed .capacity) (1 + length (stateOf (encode (saved i)) .nodes)) ≡ false =
+    rw back (le-ltb (j .fixed .capacity) (1 + length (entriesFor (i .tree .nodes))) (omega (arith, entries-length (i .tree .nodes), room))) in
+    first-of (GivesBack i) _ _ (
+      λ a. absurd (true≢false (sym a ∙ rw fr)),
+      λ a. (
+        λ b. absurd (true≢false (sym b ∙ rw ok)),
+        λ b. (
+          λ c. absurd (true≢false (sym c ∙ bits)),
+          λ c. (
+            λ e. absurd (true≢false (sym e ∙ size)),
+            λ e. rw back (record { done = refl; tree = refl; counter = refl; options = refl }),
+          ),
+        ),
+      ),
+    )
+
+-- ---- what was restored is saved again
+
+resaved : (j : Instance) (b : List ℕ) → Bytes b → accepted b ≡ true → encode (saved (restoredTo (stateOf b) j)) ≡ b
+unfolding saved restoredTo
+resaved j b h a =
+    let s = stateOf b in
+    let e : entriesFor (nodesFrom (s .nodes)) ≡ s .nodes = entries-from (s .nodes) in
+    ap encode (λ t. record { nodes = e t; options = s .options; next = s .next; counter = s .counter }) ∙ written b h a
+
+-- the theorem: no other bytes are accepted for it
+pub restore-then-save : RestoreThenSave
+unfolding restoreRule
+restore-then-save j b h =
+    first-of (λ (o : Outcome). o .code ≡ 0 → encode (saved (o .after)) ≡ b) _ _
+    (λ a e. absurd (omega arith), λ a. (λ c e. absurd (omega arith), λ c. (λ d e. absurd (omega arith), λ d. (λ g e. absurd (omega arith), λ g e. resaved j b h (not-false _ c)))))

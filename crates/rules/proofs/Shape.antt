@@ -1,0 +1,291 @@
+-- The nodes of a driven instance, mounts left aside: one more, one less, and as saved. Assumes nothing.
+use mathlib.Core.Path.{_≡_, refl, sym, ap, ap₂, _∙_}
+use mathlib.Core.Bool.{Bool, true, false, cond, not, _&&_, _||_, true≢false, false≢true}
+use mathlib.Core.List.{List, [], _∷_, _++_}
+use mathlib.Core.Option.{Option, none, some}
+use Prim.Native.Nat.{ℕ, suc, _+_, _≤_, _<_}
+use native.Mathlib.Omega.{arith}
+use lib.ListN.{length}
+use lib.Dec.{eqb, ltb}
+use borrow.Author.Tests.{eqb-true, eqb-false, eq-eqb, ne-eqb, not-true, not-false, ltb-true, lt-ltb}
+use Rattle.rules.specs.Numbers.{rootNumber}
+use Rattle.rules.specs.Bytes.{same}
+use Rattle.rules.specs.Tree.{Mount, Node, isChild, childIn, bare, withMount, mountAt, without}
+use Rattle.rules.specs.Saved.{Entry, lastNumber, present, used, goodName, goodNode, goodNodes}
+use Rattle.rules.specs.Restore.{entryFor, entriesFor, nodesFrom}
+use Rattle.rules.specs.Driven.{Rises, Below, Named, Unique, Shape}
+use Rattle.rules.proofs.RoundTrip.{pass, passed}
+use Rattle.rules.proofs.Names.{or-neither}
+
+-- ---- nodes and entries
+
+pub entries-append : (xs ys : List Node) → entriesFor (xs ++ ys) ≡ entriesFor xs ++ entriesFor ys
+unfolding entriesFor
+entries-append [] ys = refl
+entries-append (x ∷ xs) ys = ap (λ (l : List Entry). entryFor x ∷ l) (entries-append xs ys)
+
+pub entries-mount : (m : Option Mount) (ns : List Node) (x : ℕ) → entriesFor (mountAt m ns x) ≡ entriesFor ns
+unfolding entriesFor mountAt
+entries-mount m [] x = refl
+entries-mount m (n ∷ ns) x = go (eqb (n .number) x) (entries-mount m ns x)
+  where
+    go : (b : Bool) → entriesFor (mountAt m ns x) ≡ entriesFor ns → entriesFor (cond b (withMount m n ∷ ns) (n ∷ mountAt m ns x)) ≡ entryFor n ∷ entriesFor ns
+    go true e = refl
+    go false e = ap (λ (l : List Entry). entryFor n ∷ l) e
+
+pub entries-from : (es : List Entry) → entriesFor (nodesFrom es) ≡ es
+unfolding entriesFor nodesFrom
+entries-from [] = refl
+entries-from (e ∷ es) = ap (λ (l : List Entry). e ∷ l) (entries-from es)
+
+pub entries-length : (ns : List Node) → length (entriesFor ns) ≡ length ns
+unfolding entriesFor
+entries-length [] = refl
+entries-length (n ∷ ns) = ap suc (entries-length ns)
+
+-- a missing child is a name that is not used
+pub child-unused : (ns : List Node) (here : ℕ) (p : List ℕ) → childIn ns here p ≡ none → used here p (entriesFor ns) ≡ false
+unfolding childIn isChild entriesFor used
+child-unused [] here p e = refl
+child-unused (n ∷ ns) here p e = go (eqb (n .above) here && same (n .called) p) e (child-unused ns here p)
+  where
+    go : (b : Bool) → cond b (some (n .number)) (childIn ns here p) ≡ none → (childIn ns here p ≡ none → used here p (entriesFor ns) ≡ false) → (b || used here p (entriesFor ns)) ≡ false
+    go true f k = let z : _≡_ {A = ℕ} 0 1 = cc in absurd (omega arith)
+    go false f k = k f
+
+-- ---- the same parent and name, either way round
+
+eqb-sym : (a b : ℕ) → eqb a b ≡ eqb b a
+eqb-sym a b = go (eqb a b) refl
+  where
+    go : (t : Bool) → eqb a b ≡ t → t ≡ eqb b a
+    go true e = sym (eq-eqb b a (sym (eqb-true a b e)))
+    go false e = sym (ne-eqb b a (λ q. eqb-false a b e (sym q)))
+
+same-sym : (p q : List ℕ) → same p q ≡ same q p
+unfolding same
+same-sym [] [] = refl
+same-sym [] (y ∷ q) = refl
+same-sym (x ∷ p) [] = refl
+same-sym (x ∷ p) (y ∷ q) = rw (eqb-sym x y, same-sym p q)
+
+abbrev pub beside : Entry → Entry → Bool
+beside d e = eqb (d .above) (e .above) && same (d .called) (e .called)
+
+pub beside-sym : (d e : Entry) → beside d e ≡ beside e d
+beside-sym d e = rw (eqb-sym (d .above) (e .above), same-sym (d .called) (e .called))
+
+-- ---- one more
+
+rises-lower : (low low′ high : ℕ) (es : List Entry) → low′ ≤ low → Rises low es high → Rises low′ es high
+unfolding Rises
+rises-lower low low′ high [] l r = omega arith
+rises-lower low low′ high (e ∷ es) l r = (omega (arith, r .0), r .1)
+
+pub rises-end : (low high : ℕ) (es : List Entry) → Rises low es high → low ≤ high
+unfolding Rises
+rises-end low high [] r = r
+rises-end low high (e ∷ es) r = omega (arith, r .0, rises-end (e .number + 1) high es (r .1))
+
+rises-more : (low high : ℕ) (es : List Entry) (e : Entry) → Rises low es high → e .number ≡ high → Rises low (es ++ (e ∷ [])) (high + 1)
+unfolding Rises
+rises-more low high [] e r q = (omega arith, omega arith)
+rises-more low high (d ∷ es) e r q = (r .0, rises-more (d .number + 1) high es e (r .1) q)
+
+below-more : (es : List Entry) (e : Entry) → Below es → 1 ≤ e .above → e .above < e .number → Below (es ++ (e ∷ []))
+unfolding Below
+below-more [] e b l h = (l, h, tt)
+below-more (d ∷ es) e b l h = (b .0, b .1, below-more es e (b .2) l h)
+
+named-more : (es : List Entry) (e : Entry) → Named es → goodName (e .called) ≡ true → Named (es ++ (e ∷ []))
+unfolding Named
+named-more [] e n g = (g, tt)
+named-more (d ∷ es) e n g = (n .0, named-more es e (n .1) g)
+
+used-more : (es : List Entry) (d e : Entry) → used (d .above) (d .called) es ≡ false → beside e d ≡ false → used (d .above) (d .called) (es ++ (e ∷ [])) ≡ false
+unfolding used
+used-more [] d e u f = rw f
+used-more (c ∷ es) d e u f =
+    let o = or-neither (beside c d) (used (d .above) (d .called) es) u in
+    rw (o .0) (used-more es d e (o .1) f)
+
+unique-more : (es : List Entry) (e : Entry) → Unique es → used (e .above) (e .called) es ≡ false → Unique (es ++ (e ∷ []))
+unfolding Unique used
+unique-more [] e u f = (refl, tt)
+unique-more (d ∷ es) e u f =
+    let o = or-neither (beside d e) (used (e .above) (e .called) es) f in
+    (used-more es d e (u .0) (beside-sym e d ∙ o .0), unique-more es e (u .1) (o .1))
+
+pub shape-more : (es : List Entry) (high : ℕ) (e : Entry) → Shape es high → e .number ≡ high → used (e .above) (e .called) es ≡ false → goodName (e .called) ≡ true
+    → 1 ≤ e .above → e .above < e .number → Shape (es ++ (e ∷ [])) (high + 1)
+shape-more es high e s q u g l h = record {
+  rises = rises-more 2 high es e (s .rises) q;
+  below = below-more es e (s .below) l h;
+  named = named-more es e (s .named) g;
+  unique = unique-more es e (s .unique) u;
+}
+
+-- ---- one less
+
+used-less : (ns : List Node) (x here : ℕ) (p : List ℕ) → used here p (entriesFor ns) ≡ false → used here p (entriesFor (without ns x)) ≡ false
+unfolding entriesFor without used
+used-less [] x here p u = refl
+used-less (n ∷ ns) x here p u =
+    let o = or-neither (eqb (n .above) here && same (n .called) p) (used here p (entriesFor ns)) u in
+    go (eqb (n .number) x) (o .0) (o .1) (used-less ns x here p (o .1))
+  where
+    go : (b : Bool) → (eqb (n .above) here && same (n .called) p) ≡ false → used here p (entriesFor ns) ≡ false → used here p (entriesFor (without ns x)) ≡ false
+        → used here p (entriesFor (cond b ns (n ∷ without ns x))) ≡ false
+    go true f g k = g
+    go false f g k = rw (f, k)
+
+rises-less : (low high : ℕ) (ns : List Node) (x : ℕ) → Rises low (entriesFor ns) high → Rises low (entriesFor (without ns x)) high
+unfolding entriesFor without Rises
+rises-less low high [] x r = r
+rises-less low high (n ∷ ns) x r = go (eqb (n .number) x) (rises-less (n .number + 1) high ns x (r .1))
+  where
+    go : (b : Bool) → Rises (n .number + 1) (entriesFor (without ns x)) high → Rises low (entriesFor (cond b ns (n ∷ without ns x))) high
+    go true k = rises-lower (n .number + 1) low high (entriesFor ns) (omega (arith, r .0)) (r .1)
+    go false k = (r .0, k)
+
+below-less : (ns : List Node) (x : ℕ) → Below (entriesFor ns) → Below (entriesFor (without ns x))
+unfolding entriesFor without Below
+below-less [] x b = b
+below-less (n ∷ ns) x b = go (eqb (n .number) x) (below-less ns x (b .2))
+  where
+    go : (t : Bool) → Below (entriesFor (without ns x)) → Below (entriesFor (cond t ns (n ∷ without ns x)))
+    go true k = b .2
+    go false k = (b .0, b .1, k)
+
+named-less : (ns : List Node) (x : ℕ) → Named (entriesFor ns) → Named (entriesFor (without ns x))
+unfolding entriesFor without Named
+named-less [] x h = h
+named-less (n ∷ ns) x h = go (eqb (n .number) x) (named-less ns x (h .1))
+  where
+    go : (t : Bool) → Named (entriesFor (without ns x)) → Named (entriesFor (cond t ns (n ∷ without ns x)))
+    go true k = h .1
+    go false k = (h .0, k)
+
+unique-less : (ns : List Node) (x : ℕ) → Unique (entriesFor ns) → Unique (entriesFor (without ns x))
+unfolding entriesFor without Unique
+unique-less [] x u = u
+unique-less (n ∷ ns) x u = go (eqb (n .number) x) (unique-less ns x (u .1))
+  where
+    go : (t : Bool) → Unique (entriesFor (without ns x)) → Unique (entriesFor (cond t ns (n ∷ without ns x)))
+    go true k = u .1
+    go false k = (used-less ns x (n .above) (n .called) (u .0), k)
+
+pub shape-less : (ns : List Node) (x high : ℕ) → Shape (entriesFor ns) high → Shape (entriesFor (without ns x)) high
+shape-less ns x high s = record {
+  rises = rises-less 2 high ns x (s .rises);
+  below = below-less ns x (s .below);
+  named = named-less ns x (s .named);
+  unique = unique-less ns x (s .unique);
+}
+
+pub length-less : (ns : List Node) (x : ℕ) → length (without ns x) ≤ length ns
+unfolding without
+length-less [] x = omega arith
+length-less (n ∷ ns) x = go (eqb (n .number) x) (length-less ns x)
+  where
+    go : (b : Bool) → length (without ns x) ≤ length ns → length (cond b ns (n ∷ without ns x)) ≤ suc (length ns)
+    go true k = omega arith
+    go false k = omega arith
+
+pub length-mount : (m : Option Mount) (ns : List Node) (x : ℕ) → length (mountAt m ns x) ≡ length ns
+length-mount m ns x = sym (entries-length (mountAt m ns x)) ∙ (ap length (entries-mount m ns x) ∙ entries-length ns)
+
+-- ---- as read: records that are good among those before them have the shape
+
+-- the tests of a good record, one by one
+pub record Good (next : ℕ) (before : List Entry) (e : Entry) : Type 0 where
+  pub rises : lastNumber before < e .number
+  pub under : e .number < next
+  pub named : goodName (e .called) ≡ true
+  pub parent : present (e .above) before ≡ true
+  pub alone : used (e .above) (e .called) before ≡ false
+
+pub good-is : (next : ℕ) (before : List Entry) (e : Entry) → goodNode next before e ≡ true → Good next before e
+unfolding goodNode
+good-is next before e h =
+    let t = passed _ h in
+    record {
+      rises = ltb-true (lastNumber before) (e .number) (t .0);
+      under = ltb-true (e .number) next (t .1 .0);
+      named = t .1 .1 .0;
+      parent = t .1 .1 .1 .0;
+      alone = not-true _ (t .1 .1 .1 .1 .0);
+    }
+
+pub is-good : (next : ℕ) (before : List Entry) (e : Entry) → Good next before e → goodNode next before e ≡ true
+unfolding goodNode
+is-good next before e g =
+    pass _ (lt-ltb (lastNumber before) (e .number) (g .rises), (lt-ltb (e .number) next (g .under), (g .named, (g .parent, (rw (g .alone), tt)))))
+
+and-split : (a b : Bool) → (a && b) ≡ true → (a ≡ true) × (b ≡ true)
+and-split true b e = (refl, e)
+and-split false b e = absurd (false≢true e)
+
+module _ (next : ℕ) where
+  -- the numbers before are at most the last one's
+  Falling : List Entry → Type 0
+  Falling before = (x : ℕ) → present x before ≡ true → (1 ≤ x) × (x ≤ lastNumber before)
+
+  falling-more : (before : List Entry) (e : Entry) → Falling before → lastNumber before < e .number → Falling (e ∷ before)
+  unfolding Falling present lastNumber
+  falling-more before e f l x = go (eqb (e .number) x) refl
+    where
+      go : (b : Bool) → eqb (e .number) x ≡ b → (b || present x before) ≡ true → (1 ≤ x) × (x ≤ e .number)
+      go true q p = (omega (arith, eqb-true (e .number) x q), omega (arith, eqb-true (e .number) x q))
+      go false q p = (f x p .0, omega (arith, f x p .1))
+
+  falling-nil : Falling []
+  unfolding Falling present lastNumber
+  falling-nil x p = (omega (arith, eqb-true x rootNumber p), omega (arith, eqb-true x rootNumber p))
+
+  -- d stands among those before: a name that is not used there is not d's
+  Among : Entry → List Entry → Type 0
+  Among d before = (x : ℕ) (p : List ℕ) → used x p before ≡ false → (eqb (d .above) x && same (d .called) p) ≡ false
+
+  among-first : (d : Entry) (before : List Entry) → Among d (d ∷ before)
+  unfolding Among used
+  among-first d before x p u = or-neither (eqb (d .above) x && same (d .called) p) (used x p before) u .0
+
+  among-more : (d e : Entry) (before : List Entry) → Among d before → Among d (e ∷ before)
+  unfolding Among used
+  among-more d e before a x p u = a x p (or-neither (eqb (e .above) x && same (e .called) p) (used x p before) u .1)
+
+  unused-later : (d : Entry) (es before : List Entry) → Among d before → goodNodes next before es ≡ true → used (d .above) (d .called) es ≡ false
+  unfolding used goodNodes Among
+  unused-later d [] before a h = refl
+  unused-later d (e ∷ es) before a h =
+      let t = and-split (goodNode next before e) (goodNodes next (e ∷ before) es) h in
+      let g = good-is next before e (t .0) in
+      rw (beside-sym e d ∙ a (e .above) (e .called) (g .alone)) (unused-later d es (e ∷ before) (among-more d e before a) (t .1))
+
+  record Rest (low : ℕ) (es : List Entry) : Type 0 where
+    rises : Rises low es next
+    below : Below es
+    named : Named es
+    unique : Unique es
+
+  good-rest : (es before : List Entry) → Falling before → goodNodes next before es ≡ true → lastNumber before < next → Rest (lastNumber before + 1) es
+  unfolding goodNodes Rises Below Named Unique lastNumber Falling
+  good-rest [] before f h l = record { rises = omega arith; below = tt; named = tt; unique = tt }
+  good-rest (e ∷ es) before f h l =
+      let t = and-split (goodNode next before e) (goodNodes next (e ∷ before) es) h in
+      let g = good-is next before e (t .0) in
+      let k = f (e .above) (g .parent) in
+      let r = good-rest es (e ∷ before) (falling-more before e f (g .rises)) (t .1) (g .under) in
+      record {
+        rises = (omega (arith, g .rises), r .rises);
+        below = (k .0, omega (arith, k .1, g .rises), r .below);
+        named = (g .named, r .named);
+        unique = (unused-later e es (e ∷ before) (among-first e before) (t .1), r .unique);
+      }
+
+pub good-shape : (next : ℕ) (es : List Entry) → 2 ≤ next → goodNodes next [] es ≡ true → Shape es next
+unfolding lastNumber
+good-shape next es l h =
+    let r = good-rest next es [] (falling-nil next) h (omega arith) in
+    record { rises = r .rises; below = r .below; named = r .named; unique = r .unique }

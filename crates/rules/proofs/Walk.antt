@@ -1,0 +1,164 @@
+-- A mount walk from the root ends at a live node, and what it makes keeps the shape. Assumes nothing.
+use mathlib.Core.Path.{_≡_, refl, sym, ap, _∙_, subst}
+use mathlib.Core.Bool.{Bool, true, false, cond, _&&_, true≢false, false≢true}
+use mathlib.Core.Logic.{_⊎_, inl, inr, ⊎-elim}
+use mathlib.Core.List.{List, [], _∷_, _++_, append-assoc, append-nil}
+use mathlib.Core.Option.{Option, none, some}
+use Prim.Native.Nat.{ℕ, suc, _+_, _≤_, _<_}
+use native.Mathlib.Nat.{add-zero}
+use native.Mathlib.Omega.{arith}
+use lib.ListN.{length, length-append}
+use lib.Dec.{eqb}
+use borrow.Author.Tests.{eqb-true, eq-eqb, ne-eqb}
+use Rattle.rules.specs.Numbers.{rootNumber}
+use Rattle.rules.specs.Bytes.{same}
+use Rattle.rules.specs.Path.{Part, name, parent, components, tooLong}
+use Rattle.rules.specs.Utf8.{wellFormed}
+use Rattle.rules.specs.Tree.{Node, Made, bare, isChild, childIn, nodeIn, aboveOf, parentIn, orMake, step, makes, atRoot}
+use Rattle.rules.specs.Instance.{Tree}
+use Rattle.rules.specs.Saved.{Entry, goodName}
+use Rattle.rules.specs.Restore.{entryFor, entriesFor}
+use Rattle.rules.specs.Mount.{planned}
+use Rattle.rules.specs.Driven.{Rises, Shape}
+use Rattle.rules.proofs.Names.{GoodParts, components-good}
+use Rattle.rules.proofs.Shape.{entries-append, child-unused, shape-more, rises-end}
+
+-- a number that live nodes lead up from to the root
+pub data Reached (ns : List Node) : ℕ → Type 0 where
+  top : Reached ns rootNumber
+  under : (x : ℕ) (n : Node) → nodeIn ns x ≡ some n → Reached ns (n .above) → Reached ns x
+
+-- the root, or a live node
+pub reached-live : (ns : List Node) (x : ℕ) → Reached ns x → (x ≡ rootNumber) ⊎ ((n : Node) × (nodeIn ns x ≡ some n))
+reached-live ns x top = inl refl
+reached-live ns x (under y n e r) = inr (n, e)
+
+-- ---- up
+
+up : (ns : List Node) (x : ℕ) → Reached ns x → Reached ns (parentIn ns x)
+unfolding parentIn
+up ns x top = top
+up ns x (under y n e r) = go (eqb x rootNumber)
+  where
+    go : (b : Bool) → Reached ns (cond b rootNumber (aboveOf (nodeIn ns x)))
+    go true = top
+    go false = rw e r
+
+-- ---- down
+
+abbrev Place : List Node → ℕ → ℕ → ℕ → ℕ → Type 0
+Place ns low high here x = (n : Node) × (nodeIn ns x ≡ some n) × (n .above ≡ here) × (low ≤ x) × (x < high)
+
+child-place : (ns : List Node) (low high here : ℕ) (p : List ℕ) (x : ℕ) → Rises low (entriesFor ns) high → childIn ns here p ≡ some x → Place ns low high here x
+unfolding childIn isChild nodeIn entriesFor Rises
+child-place [] low high here p x r e = let z : _≡_ {A = ℕ} 0 1 = cc in absurd (omega arith)
+child-place (n ∷ ns) low high here p x r e =
+    go (eqb (n .above) here) refl (same (n .called) p) e (child-place ns (n .number + 1) high here p x (r .1))
+  where
+    later : Place ns (n .number + 1) high here x → Place (n ∷ ns) low high here x
+    later (m, f, g, l, h) = (m, rw (ne-eqb (n .number) x (λ q. omega arith)) f, g, omega (arith, r .0), h)
+
+    go : (a : Bool) → eqb (n .above) here ≡ a → (b : Bool) → cond (a && b) (some (n .number)) (childIn ns here p) ≡ some x
+        → (childIn ns here p ≡ some x → Place ns (n .number + 1) high here x) → Place (n ∷ ns) low high here x
+    go true q true f k =
+        let s : n .number ≡ x = cc in
+        (n, rw (eq-eqb (n .number) x s), eqb-true (n .above) here q, omega (arith, r .0), omega (arith, rises-end (n .number + 1) high (entriesFor ns) (r .1)))
+    go true q false f k = later (k f)
+    go false q b f k = later (k f)
+
+down : (ns : List Node) (high here : ℕ) (p : List ℕ) (x : ℕ) → Rises 2 (entriesFor ns) high → childIn ns here p ≡ some x → Reached ns here → Reached ns x
+down ns high here p x r e h = go (child-place ns 2 high here p x r e)
+  where
+    go : Place ns 2 high here x → Reached ns x
+    go (n, f, g, l, k) = under x n f (rw g h)
+
+-- ---- more nodes
+
+node-append : (ns ms : List Node) (x : ℕ) (n : Node) → nodeIn ns x ≡ some n → nodeIn (ns ++ ms) x ≡ some n
+unfolding nodeIn
+node-append [] ms x n e = let z : _≡_ {A = ℕ} 0 1 = cc in absurd (omega arith)
+node-append (m ∷ ns) ms x n e = go (eqb (m .number) x) e (node-append ns ms x n)
+  where
+    go : (b : Bool) → cond b (some m) (nodeIn ns x) ≡ some n → (nodeIn ns x ≡ some n → nodeIn (ns ++ ms) x ≡ some n) → cond b (some m) (nodeIn (ns ++ ms) x) ≡ some n
+    go true f k = f
+    go false f k = k f
+
+reached-append : (ns ms : List Node) (x : ℕ) → Reached ns x → Reached (ns ++ ms) x
+reached-append ns ms x top = top
+reached-append ns ms x (under y n e r) = under y n (node-append ns ms y n e) (reached-append ns ms (n .above) r)
+
+-- a new number is that of the last node
+node-last : (ns : List Node) (low high : ℕ) (n : Node) → Rises low (entriesFor ns) high → n .number ≡ high → nodeIn (ns ++ (n ∷ [])) high ≡ some n
+unfolding nodeIn entriesFor Rises
+node-last [] low high n r e = rw (eq-eqb (n .number) high e)
+node-last (m ∷ ns) low high n r e =
+    let l = rises-end (m .number + 1) high (entriesFor ns) (r .1) in
+    rw (ne-eqb (m .number) high (λ q. omega arith)) (node-last ns (m .number + 1) high n (r .1) e)
+
+-- the bounds of what is reached
+node-bounds : (ns : List Node) (low high x : ℕ) (n : Node) → Rises low (entriesFor ns) high → nodeIn ns x ≡ some n → (low ≤ x) × (x < high)
+unfolding nodeIn entriesFor Rises
+node-bounds [] low high x n r e = let z : _≡_ {A = ℕ} 0 1 = cc in absurd (omega arith)
+node-bounds (m ∷ ns) low high x n r e = go (eqb (m .number) x) refl e (node-bounds ns (m .number + 1) high x n (r .1))
+  where
+    go : (b : Bool) → eqb (m .number) x ≡ b → cond b (some m) (nodeIn ns x) ≡ some n → (nodeIn ns x ≡ some n → (m .number + 1 ≤ x) × (x < high)) → (low ≤ x) × (x < high)
+    go true q f k =
+        let s = eqb-true (m .number) x q in
+        (omega (arith, r .0), omega (arith, rises-end (m .number + 1) high (entriesFor ns) (r .1)))
+    go false q f k =
+        let b = k f in
+        (omega (arith, r .0, b .0), b .1)
+
+reached-bounds : (ns : List Node) (high x : ℕ) → Rises 2 (entriesFor ns) high → Reached ns x → (1 ≤ x) × (x < high)
+reached-bounds ns high x r top = (omega arith, omega (arith, rises-end 2 high (entriesFor ns) r))
+reached-bounds ns high x r (under y n e h) =
+    let b = node-bounds ns 2 high x n r e in
+    (omega (arith, b .0), b .1)
+
+-- ---- the mount walk
+
+pub record Walking (live : List Node) (next : ℕ) (m : Made) : Type 0 where
+  pub shape : Shape (entriesFor (live ++ m .nodes)) (next + length (m .nodes))
+  pub reached : Reached (live ++ m .nodes) (m .here)
+
+module _ (live : List Node) (next : ℕ) where
+  makes-one : (m : Made) (p : List ℕ) → goodName p ≡ true → Walking live next m → childIn (live ++ m .nodes) (m .here) p ≡ none → Walking live next (orMake next m p none)
+  unfolding entriesFor
+  makes-one m p g w e =
+      let x = next + length (m .nodes) in
+      let n = bare x (m .here) p in
+      let b = reached-bounds (live ++ m .nodes) x (m .here) (w .shape .rises) (w .reached) in
+      let grown : Shape (entriesFor ((live ++ m .nodes) ++ (n ∷ []))) (x + 1) = rw (entries-append (live ++ m .nodes) (n ∷ [])) (shape-more (entriesFor (live ++ m .nodes)) x (entryFor n) (w .shape) refl (child-unused (live ++ m .nodes) (m .here) p e) g (b .0) (b .1)) in
+      let size : next + length (m .nodes ++ (n ∷ [])) ≡ x + 1 = omega (arith, length-append (m .nodes) (n ∷ [])) in
+      let found = node-last (live ++ m .nodes) 2 x n (w .shape .rises) refl in
+      record {
+        shape = rw (size, ← append-assoc live (m .nodes) (n ∷ [])) grown;
+        reached = rw (← append-assoc live (m .nodes) (n ∷ [])) (under x n found (reached-append (live ++ m .nodes) (n ∷ []) (m .here) (w .reached)));
+      }
+
+  step-walking : (m : Made) (p : Part) (ps : List Part) → GoodParts (p ∷ ps) → Walking live next m → Walking live next (step live next m p)
+  unfolding step GoodParts
+  step-walking m (parent at) ps g w = record { shape = w .shape; reached = up (live ++ m .nodes) (m .here) (w .reached) }
+  step-walking m (name at p) ps g w = go (childIn (live ++ m .nodes) (m .here) p) refl
+    where
+      go : (o : Option ℕ) → childIn (live ++ m .nodes) (m .here) p ≡ o → Walking live next (orMake next m p o)
+      go (some x) e = record { shape = w .shape; reached = down (live ++ m .nodes) (next + length (m .nodes)) (m .here) p x (w .shape .rises) e (w .reached) }
+      go none e = makes-one m p (g .0) w e
+
+  rest-good : (p : Part) (ps : List Part) → GoodParts (p ∷ ps) → GoodParts ps
+  unfolding GoodParts
+  rest-good (parent at) ps g = g
+  rest-good (name at p) ps g = g .1
+
+  makes-walking : (m : Made) (ps : List Part) → GoodParts ps → Walking live next m → Walking live next (makes live next m ps)
+  unfolding makes
+  makes-walking m [] g w = w
+  makes-walking m (p ∷ ps) g w = makes-walking (step live next m p) ps (rest-good p ps g) (step-walking m p ps g w)
+
+-- the theorem: of a path that rows 1 and 2 of a mount let pass
+pub planned-walking : (t : Tree) (path : List ℕ) → Shape (entriesFor (t .nodes)) (t .next) → tooLong path ≡ false → wellFormed path ≡ true
+    → Walking (t .nodes) (t .next) (planned t path)
+unfolding planned
+planned-walking t path s l u =
+    makes-walking (t .nodes) (t .next) atRoot (components 0 path) (components-good path l u)
+    (record { shape = rw (append-nil (t .nodes), add-zero (t .next)) s; reached = top })

@@ -1,0 +1,94 @@
+-- Driven instances: what a done creation gives, after any calls, state restores included; and what holds of each.
+use Prim.Native.Nat.{ℕ, _+_, _^_, _≤_, _<_}
+use mathlib.Core.Bool.{Bool, true, false}
+use mathlib.Core.Logic.{_⊎_}
+use mathlib.Core.List.{List, [], _∷_}
+use mathlib.Core.Option.{Option, none, some}
+use mathlib.Core.Path.{_≡_}
+use lib.ListN.{length}
+use Rattle.rules.specs.Numbers.{topNumber, maxNodes}
+use Rattle.rules.specs.Bytes.{Bytes}
+use Rattle.rules.specs.Ids.{badMapping}
+use Rattle.rules.specs.Tree.{Mount, Node, isKnown}
+use Rattle.rules.specs.Instance.{Tree, Instance, heldIn, live, counterOf}
+use Rattle.rules.specs.Create.{Creation, unknown, createRule}
+use Rattle.rules.specs.Saved.{Entry, used, goodName}
+use Rattle.rules.specs.Restore.{entriesFor}
+use Rattle.rules.specs.RoundTrip.{OptionsFit}
+use Rattle.rules.specs.Calls.{Call, restore, rule}
+
+-- the bytes of a state restore are bytes
+abbrev pub Typed : Call → Type 0
+Typed c = (b : List ℕ) → c ≡ restore b → Bytes b
+
+-- the mask is a number of 64 bits
+pub data Driven : Instance → Type 0 where
+  creation : (bytes : ℕ) (q : Creation) (i : Instance) → q .known < 2 ^ 64 → createRule bytes q .instance ≡ some i → Driven i
+  call : (i j : Instance) (c : Call) → Typed c → Driven i → rule i c .after ≡ j → Driven j
+
+-- ---- the nodes, their mounts left aside
+
+-- numbers rise, from low on, below high
+unfoldable pub Rises : ℕ → List Entry → ℕ → Type 0
+Rises low [] high = low ≤ high
+Rises low (e ∷ es) high = (low ≤ e .number) × Rises (e .number + 1) es high
+
+-- each parent's number is from 1 up and below the node's
+unfoldable pub Below : List Entry → Type 0
+Below [] = Unit {0}
+Below (e ∷ es) = (1 ≤ e .above) × (e .above < e .number) × Below es
+
+-- each name has 1 to 255 bytes, is UTF-8, has no slash, and is not `.` or `..`
+unfoldable pub Named : List Entry → Type 0
+Named [] = Unit {0}
+Named (e ∷ es) = (goodName (e .called) ≡ true) × Named es
+
+-- no name stands twice under one parent
+unfoldable pub Unique : List Entry → Type 0
+Unique [] = Unit {0}
+Unique (e ∷ es) = (used (e .above) (e .called) es ≡ false) × Unique es
+
+pub record Shape (es : List Entry) (next : ℕ) : Type 0 where
+  pub rises : Rises 2 es next
+  pub below : Below es
+  pub named : Named es
+  pub unique : Unique es
+
+-- ---- mounts
+
+abbrev pub IsAt : ℕ → Option Mount → Type 0
+IsAt k none = ⊥
+IsAt k (some m) = m .index ≡ k
+
+unfoldable pub MountIn : ℕ → List Node → Type 0
+MountIn k [] = ⊥
+MountIn k (n ∷ ns) = IsAt k (n .mount) ⊎ MountIn k ns
+
+-- a mount of that index stands on the root or on a node
+abbrev pub Mounted : ℕ → Tree → Type 0
+Mounted k t = IsAt k (t .root) ⊎ MountIn k (t .nodes)
+
+-- ---- what holds
+
+pub record Facts (i : Instance) : Type 0 where
+  pub shape : Shape (entriesFor (i .tree .nodes)) (i .tree .next)
+  pub top : i .tree .next ≤ topNumber
+  pub room : live i ≤ i .fixed .capacity
+  pub capacity : i .fixed .capacity ≤ maxNodes
+  pub mask : i .fixed .known < 2 ^ 64
+  pub mapping : badMapping (i .fixed .mapping) ≡ false
+  pub within : unknown (i .fixed .known) (i .options) ≡ false
+  pub options : OptionsFit (i .options)
+  pub slots : length (i .indexes .slots) ≡ 256
+  pub counter : counterOf i < 256
+  pub held : (k : ℕ) → heldIn i k ≡ true → Mounted k (i .tree)
+
+abbrev pub EveryDriven : Type 0
+EveryDriven = (i : Instance) → Driven i → Facts i
+
+-- ---- save and restore
+
+-- each node's parent is the root or live
+unfoldable pub Present : List Node → List Node → Type 0
+Present all [] = Unit {0}
+Present all (n ∷ ns) = (isKnown all (n .above) ≡ true) × Present all ns

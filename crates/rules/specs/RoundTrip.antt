@@ -1,0 +1,71 @@
+-- Saved state both ways: what is claimed of writing and reading it, and of its length.
+use Prim.Native.Nat.{ℕ, _^_, _≤_, _<_}
+use mathlib.Core.Bool.{true}
+use mathlib.Core.List.{List, [], _∷_}
+use mathlib.Core.Option.{Option, some}
+use mathlib.Core.Path.{_≡_}
+use lib.ListN.{length}
+use Rattle.rules.specs.Bytes.{Bytes}
+use Rattle.rules.specs.Instance.{Options, Instance}
+use Rattle.rules.specs.Create.{Creation, newInstance}
+use Rattle.rules.specs.Saved.{Entry, State, nodesBytes, encode, valid, decode}
+use Rattle.rules.specs.Restore.{saved}
+
+-- ---- each field within its width
+
+pub record EntryFits (n : Entry) : Type 0 where
+  pub number : n .number < 2 ^ 64
+  pub above : n .above < 2 ^ 64
+  pub called : length (n .called) < 2 ^ 16
+
+unfoldable pub EntriesFit : List Entry → Type 0
+EntriesFit [] = Unit {0}
+EntriesFit (n ∷ ns) = EntryFits n × EntriesFit ns
+
+pub record OptionsFit (o : Options) : Type 0 where
+  pub inOpts : o .inOpts < 2 ^ 64
+  pub outOpts : o .outOpts < 2 ^ 64
+  pub internal : o .mapping .internal < 2 ^ 32
+  pub external : o .mapping .external < 2 ^ 32
+  pub range : o .mapping .range < 2 ^ 32
+  pub flags : o .flags < 64
+
+pub record Fits (s : State) : Type 0 where
+  pub nodes : EntriesFit (s .nodes)
+  pub options : OptionsFit (s .options)
+  pub offset : length (nodesBytes (s .nodes)) < 2 ^ 32
+  pub count : length (s .nodes) < 2 ^ 32
+  pub next : s .next < 2 ^ 64
+  pub counter : s .counter < 256
+
+-- ---- the claims
+
+-- what was written is read again
+abbrev pub ThereAndBack : Type 0
+ThereAndBack = (s : State) → Fits s → valid s ≡ true → decode (encode s) ≡ some s
+
+-- no other bytes are accepted for a state
+pub record Only (b : List ℕ) (s : State) : Type 0 where
+  pub bytes : b ≡ encode s
+  pub fits : Fits s
+  pub good : valid s ≡ true
+
+abbrev pub NoOther : Type 0
+NoOther = (b : List ℕ) (s : State) → Bytes b → decode b ≡ some s → Only b s
+
+-- a fresh state has 56 bytes
+abbrev pub FreshLength : Type 0
+FreshLength = (q : Creation) → length (encode (saved (newInstance q))) ≡ 56
+
+unfoldable pub NamesTo : ℕ → List Entry → Type 0
+NamesTo n [] = Unit {0}
+NamesTo n (e ∷ es) = (length (e .called) ≤ n) × NamesTo n es
+
+unfoldable pub NamesOf : ℕ → List Entry → Type 0
+NamesOf n [] = Unit {0}
+NamesOf n (e ∷ es) = (length (e .called) ≡ n) × NamesOf n es
+
+-- 1,023 nodes and the root, with names of 255 bytes, are the longest
+pub record Longest : Type 0 where
+  pub most : (s : State) → length (s .nodes) ≤ 1023 → NamesTo 255 (s .nodes) → length (encode s) ≤ 279335
+  pub exact : (s : State) → length (s .nodes) ≡ 1023 → NamesOf 255 (s .nodes) → length (encode s) ≡ 279335

@@ -1,0 +1,58 @@
+-- What never changes over any calls, and what only some calls change.
+use Prim.Native.Nat.{ℕ, _≤_}
+use mathlib.Core.Bool.{Bool, true}
+use mathlib.Core.List.{List, [], _∷_}
+use mathlib.Core.Option.{Option, none, some}
+use mathlib.Core.Path.{_≡_}
+use Rattle.rules.specs.Numbers.{rootNumber}
+use Rattle.rules.specs.Tree.{Mount, Node}
+use Rattle.rules.specs.Instance.{Tree, Instance}
+use Rattle.rules.specs.Outcome.{Outcome}
+use Rattle.rules.specs.Mount.{Request}
+use Rattle.rules.specs.Calls.{Call, mount, restore-mount, umount, restore, rule}
+use Rattle.rules.specs.Driven.{Driven}
+
+-- the nodes with a mount, and their mounts
+abbrev pub mounted : ℕ → Option Mount → List (ℕ × Mount) → List (ℕ × Mount)
+mounted x none ms = ms
+mounted x (some m) ms = (x, m) ∷ ms
+
+unfoldable pub mountsIn : List Node → List (ℕ × Mount)
+mountsIn [] = []
+mountsIn (n ∷ ns) = mounted (n .number) (n .mount) (mountsIn ns)
+
+abbrev pub mountsOf : Tree → List (ℕ × Mount)
+mountsOf t = mounted rootNumber (t .root) (mountsIn (t .nodes))
+
+-- the call is no mount, restored mount or unmount
+pub record NoMounting (c : Call) : Type 0 where
+  pub no-mount : (r : Request) → c ≡ mount r → ⊥
+  pub no-restored : (k : ℕ) (r : Request) → c ≡ restore-mount k r → ⊥
+  pub no-unmount : (path : List ℕ) → c ≡ umount path → ⊥
+
+pub record Stays (i : Instance) (c : Call) (o : Outcome) : Type 0 where
+  -- N, the mask and the mapping in force stay
+  pub fixed : o .after .fixed ≡ i .fixed
+  -- the remove flag never goes back
+  pub removal : i .removal ≡ true → o .after .removal ≡ true
+  -- mounts and slots change by those three calls alone
+  pub mounts : NoMounting c → mountsOf (o .after .tree) ≡ mountsOf (i .tree)
+  pub slots : NoMounting c → o .after .indexes .slots ≡ i .indexes .slots
+  -- the next number falls by a state restore alone
+  pub next : ((b : List ℕ) → c ≡ restore b → ⊥) → i .tree .next ≤ o .after .tree .next
+
+abbrev pub EveryStays : Type 0
+EveryStays = (i : Instance) (c : Call) → Stays i c (rule i c)
+
+-- ---- no live number is given twice
+
+unfoldable pub Absent : ℕ → List Node → Type 0
+Absent x [] = Unit {0}
+Absent x (n ∷ ns) = (n .number ≡ x → ⊥) × Absent x ns
+
+unfoldable pub Distinct : List Node → Type 0
+Distinct [] = Unit {0}
+Distinct (n ∷ ns) = (n .number ≡ rootNumber → ⊥) × Absent (n .number) ns × Distinct ns
+
+abbrev pub NumbersOnce : Type 0
+NumbersOnce = (i : Instance) → Driven i → Distinct (i .tree .nodes)
