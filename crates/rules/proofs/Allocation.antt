@@ -11,12 +11,8 @@ use lib.Dec.{eqb}
 use borrow.Author.Tests.{eq-eqb, ne-eqb, eqb-true, eqb-false, not-true, not-false}
 use Rattle.rules.specs.Round.{goingRound, untilTwice, visited, firstFree, freeOf, allocate}
 use Rattle.rules.specs.Allocation.{FirstFree, Exact}
-use Rattle.rules.proofs.Rows.{known}
+use Rattle.rules.proofs.Tests.{known, and-both}
 use Rattle.rules.proofs.Round.{meets, finds-none, spent, At, found-at, at-found}
-
-and-both : (a b : Bool) → (a && b) ≡ true → (a ≡ true) × (b ≡ true)
-and-both true b e = (refl, e)
-and-both false b e = absurd (false≢true e)
 
 module _ (held : ℕ → Bool) where
   -- a free index is not 0 and not held
@@ -52,16 +48,18 @@ module _ (held : ℕ → Bool) (c : ℕ) (h : c < 256) where
           ⊎-elim (λ (z : d ≡ 256).
           let s : k ≡ (c + 0) % 256 = omega (arith, a .place) in
           absurd (true≢false (sym (a .is-free) ∙ (ap (freeOf held) s ∙ a .before 0 (omega arith)))))
-          (λ (l : d < 256). l) (last d (a .within)) in
-          (d, record {
-            near = near;
-            place = a .place;
-            least = f .0;
-            most = omega (arith, a .place);
-            empty = f .1;
-            before = λ j l. not-free held ((c + j) % 256) (a .before j l);
-            counted = a .counted;
-          })
+          (λ (l : d < 256). l) (last d (a .within)) in (
+            d,
+            record {
+              near = near;
+              place = a .place;
+              least = f .0;
+              most = omega (arith, a .place);
+              empty = f .1;
+              before = λ j l. not-free held ((c + j) % 256) (a .before j l);
+              counted = a .counted;
+            },
+          )
         where
           last : (d : ℕ) → d < 257 → (d ≡ 256) ⊎ (d < 256)
           last d l = ⊎-elim (λ (z : 256 - d ≡ 0). inl (omega arith)) (λ (p : 0 < 256 - d). inr (omega arith)) (eq-zero-or-pos (256 - d))

@@ -28,12 +28,11 @@ use Rattle.rules.specs.Restore.{entriesFor, nodesFrom, noNodes, fresh, r
 use Rattle.rules.specs.RoundTrip.{OptionsFit}
 use Rattle.rules.specs.Calls.{Call, mount, restore-mount, umount, set-remove-pseudo-root, restore, rule}
 use Rattle.rules.specs.Driven.{Typed, Driven, creation, call, Rises, Below, Named, Unique, Shape, IsAt, MountIn, Mounted, Facts, EveryDriven}
+use Rattle.rules.proofs.Tests.{known, le-or-lt, and-both, or-neither, passed}
 use Rattle.rules.proofs.Rows.{first-of, each-of}
 use Rattle.rules.proofs.Ids.{Within, within}
 use Rattle.rules.proofs.Still.{Still, Cases, every-call}
-use Rattle.rules.proofs.Round.{le-or-lt}
-use Rattle.rules.proofs.RoundTrip.{passed, and-both, fits, good}
-use Rattle.rules.proofs.Names.{or-neither}
+use Rattle.rules.proofs.RoundTrip.{fits, good}
 use Rattle.rules.proofs.Shape.{entries-append, entries-mount, entries-from, entries-length, shape-less, length-less, length-mount, good-shape}
 use Rattle.rules.proofs.Walk.{Reached, Walking, planned-walking}
 use Rattle.rules.proofs.Held.{Held, held-grown, held-placed, held-taken}
@@ -189,8 +188,26 @@ mount-facts i r f =
 restored-facts : (i : Instance) (k : ℕ) (r : Request) → Facts i → Keeps (restoreMountRule i k r)
 unfolding restoreMountRule
 restored-facts i k r f =
-    first-of Keeps _ _ (λ a. f, λ a. (λ b. f, λ b. (λ c. f, λ c. (λ d. f, λ d. (λ e. f, λ e. (λ g. f, λ g.
-    (λ h. restored-as i r f a (not-false _ b) e k g .0, λ h. restored-as i r f a (not-false _ b) e k g .1)))))))
+    first-of Keeps _ _ (
+      λ a. f,
+      λ a. (
+        λ b. f,
+        λ b. (
+          λ c. f,
+          λ c. (
+            λ d. f,
+            λ d. (
+              λ e. f,
+              λ e. (
+                λ g. f,
+                λ g.
+                    (λ h. restored-as i r f a (not-false _ b) e k g .0, λ h. restored-as i r f a (not-false _ b) e k g .1),
+              ),
+            ),
+          ),
+        ),
+      ),
+    )
 
 -- ---- unmount
 

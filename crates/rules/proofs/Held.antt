@@ -17,7 +17,7 @@ use Rattle.rules.specs.Instance.{Slot, Tree, Instance, emptySlot, heldBy
 use Rattle.rules.specs.Mount.{Request, freed, mountOn, placed}
 use Rattle.rules.specs.Unmount.{taken}
 use Rattle.rules.specs.Driven.{IsAt, MountIn, Mounted}
-use Rattle.rules.proofs.Round.{le-or-lt}
+use Rattle.rules.proofs.Tests.{le-or-lt}
 use Rattle.rules.proofs.Walk.{Reached, reached-live}
 
 abbrev pub Held : Instance → Type 0
@@ -34,8 +34,8 @@ freed-not-held slots k =
 held-before : (slots : List Slot) (k q : ℕ) → getD (set slots k emptySlot) q emptySlot .held ≡ true → (q ≡ k → ⊥) × (getD slots q emptySlot .held ≡ true)
 held-before slots k q h =
     elim (ℕ-discrete q k) [
-      yes e ↦ absurd (true≢false (sym h ∙ (ap (λ (x : ℕ). getD (set slots k emptySlot) x emptySlot .held) e ∙ freed-not-held slots k)))
-    | no e ↦ (e, sym (ap (λ (s : Slot). s .held) (getD-set-other slots k q emptySlot emptySlot e)) ∙ h)
+      | yes e ↦ absurd (true≢false (sym h ∙ (ap (λ (x : ℕ). getD (set slots k emptySlot) x emptySlot .held) e ∙ freed-not-held slots k)))
+      | no e ↦ (e, sym (ap (λ (s : Slot). s .held) (getD-set-other slots k q emptySlot emptySlot e)) ∙ h)
     ]
 
 -- ---- mounts on nodes
@@ -154,10 +154,10 @@ held-placed k r x i w h q e =
     let j = freed old i in
     rw (freed-tree old i)
     (elim (ℕ-discrete q k) [
-      yes s ↦ rw s (tree-set (mountOn k r) (i .tree) x w)
-    | no s ↦
-        let b = held-freed old i h q (sym (ap (λ (z : Slot). z .held) (getD-set-other (j .indexes .slots) k q (heldBy (r .tag)) emptySlot s)) ∙ e) in
-        tree-kept q (some (mountOn k r)) (i .tree) x (b .0) (b .1)
+      | yes s ↦ rw s (tree-set (mountOn k r) (i .tree) x w)
+      | no s ↦
+          let b = held-freed old i h q (sym (ap (λ (z : Slot). z .held) (getD-set-other (j .indexes .slots) k q (heldBy (r .tag)) emptySlot s)) ∙ e) in
+          tree-kept q (some (mountOn k r)) (i .tree) x (b .0) (b .1)
     ])
 
 pub held-taken : (i : Instance) (x : ℕ) (m : Mount) → mountOf (i .tree) x ≡ some m → Held i → Held (withSlot (m .index) emptySlot (withTree (taken i x) i))

@@ -7,17 +7,12 @@ use native.Mathlib.Omega.{arith}
 use lib.Dec.{leb, ltb}
 use borrow.Author.Tests.{leb-true, leb-false, ltb-true, ltb-false, le-leb, lt-leb, lt-ltb, le-ltb}
 use Rattle.rules.specs.Ids.{Mapping, turned, badMapping, inside, mapped, unmapped, wrapped, unwrapped}
-use Rattle.rules.proofs.Rows.{known}
-use Rattle.rules.proofs.Round.{le-or-lt}
+use Rattle.rules.proofs.Tests.{le-or-lt, or-neither}
 
 -- within the mapping's limits
 pub record Within (m : Mapping) : Type 0 where
   pub low : m .internal + m .range < 2 ^ 32
   pub high : m .external + m .range < 2 ^ 32
-
-or-neither : (a b : Bool) → (a || b) ≡ false → (a ≡ false) × (b ≡ false)
-or-neither true b e = absurd (true≢false e)
-or-neither false b e = (refl, e)
 
 pub within : (m : Mapping) → badMapping m ≡ false → Within m
 unfolding badMapping

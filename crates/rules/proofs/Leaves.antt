@@ -112,9 +112,25 @@ unfolding restoreMountRule
 restored-leaves i k r =
     let c = restore-mount k r in
     let k₀ : (code : ℕ) → (code ≡ FULL → ⊥) → Leaves i c (refused code i) = kept i c in
-    each-of (Leaves i c) _ _
-    (k₀ _ (λ e. omega arith), (k₀ _ (λ e. omega arith), (k₀ _ (λ e. omega arith), (k₀ _ (λ e. omega arith), (k₀ _ (λ e. omega arith), (k₀ _ (λ e. omega arith),
-    (restored-row7 i k r, done i c _ refl)))))))
+    each-of (Leaves i c) _ _ (
+      k₀ _ (λ e. omega arith),
+      (
+        k₀ _ (λ e. omega arith),
+        (
+          k₀ _ (λ e. omega arith),
+          (
+            k₀ _ (λ e. omega arith),
+            (
+              k₀ _ (λ e. omega arith),
+              (
+                k₀ _ (λ e. omega arith),
+                (restored-row7 i k r, done i c _ refl),
+              ),
+            ),
+          ),
+        ),
+      ),
+    )
 
 unmount-at : (i : Instance) (c : Call) (x : Option ℕ) (m : Option Mount) → Leaves i c (unmountAt i x m)
 unfolding unmountAt unmounts

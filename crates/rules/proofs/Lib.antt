@@ -1,4 +1,5 @@
 -- What is proved of the rules.
+pub mod Tests
 pub mod Fields
 pub mod Worked
 pub mod Rows

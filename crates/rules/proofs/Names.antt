@@ -13,8 +13,7 @@ use Rattle.rules.specs.Bytes.{same, holds}
 use Rattle.rules.specs.Utf8.{Range, _‥_, table, within, fits, firstRow, sequence, onSequence, endFrom, validTo, wellFormed}
 use Rattle.rules.specs.Path.{slash, dot, Part, name, parent, onto, pieces, isDot, isDots, sorted, kept, components, anyLonger, tooLong}
 use Rattle.rules.specs.Saved.{every, goodName}
-use Rattle.rules.proofs.Rows.{known}
-use Rattle.rules.proofs.RoundTrip.{pass}
+use Rattle.rules.proofs.Tests.{known, and-both, or-neither, pass}
 
 -- ---- sequences do not reach over a slash
 
@@ -49,21 +48,13 @@ fits-cut (r ∷ rs) (b ∷ s) h = go (eqb b slash) refl (fits-cut rs s (h .1))
     go true e k = and-false-l (within r b) (fits rs s) (ap (within r) (eqb-true b slash e) ∙ h .0)
     go false e k = ap (λ (x : Bool). within r b && x) k
 
-and-right : (a b : Bool) → (a && b) ≡ true → b ≡ true
-and-right true b e = e
-and-right false b e = absurd (false≢true e)
-
-and-left : (a b : Bool) → (a && b) ≡ true → a ≡ true
-and-left true b e = refl
-and-left false b e = absurd (false≢true e)
-
 fits-apart : (rs : List Range) (s : List ℕ) → Apart rs → fits rs s ≡ true → NoSlash (length rs) s
 unfolding fits NoSlash Apart
 fits-apart [] s h e = tt
 fits-apart (r ∷ rs) [] h e = tt
 fits-apart (r ∷ rs) (b ∷ s) h e = (
-  ⊎-elim (λ (t : eqb b slash ≡ true). absurd (true≢false (sym (and-left (within r b) (fits rs s) e) ∙ (ap (within r) (eqb-true b slash t) ∙ h .0)))) (λ f. f) (known (eqb b slash)),
-  fits-apart rs s (h .1) (and-right (within r b) (fits rs s) e),
+  ⊎-elim (λ (t : eqb b slash ≡ true). absurd (true≢false (sym (and-both (within r b) (fits rs s) e .0) ∙ (ap (within r) (eqb-true b slash t) ∙ h .0)))) (λ f. f) (known (eqb b slash)),
+  fits-apart rs s (h .1) (and-both (within r b) (fits rs s) e .1),
 )
 
 -- behind its first range, no row of the table has the slash
@@ -90,7 +81,7 @@ row-apart ([] ∷ rows) b s m h e = absurd h
 row-apart ((r ∷ rs) ∷ rows) b s m h e = go (within r b && fits rs s) refl e (row-apart rows b s m (h .1))
   where
     go : (t : Bool) → (within r b && fits rs s) ≡ t → cond t (suc (length rs)) (firstRow rows (b ∷ s)) ≡ suc m → (firstRow rows (b ∷ s) ≡ suc m → NoSlash m s) → NoSlash m s
-    go true f g k = subst (λ (n : ℕ). NoSlash n s) (suc-inj g) (fits-apart rs s (h .0) (and-right (within r b) (fits rs s) f))
+    go true f g k = subst (λ (n : ℕ). NoSlash n s) (suc-inj g) (fits-apart rs s (h .0) (and-both (within r b) (fits rs s) f .1))
     go false f g k = k g
 
 sequence-same : (b : ℕ) (s : List ℕ) → sequence (b ∷ s) ≡ sequence (b ∷ cut s)
@@ -186,10 +177,6 @@ pieces-free (b ∷ s) = go (eqb b slash) refl (pieces s) (pieces-free s)
 unfoldable Short : List (List ℕ) → Type 0
 Short [] = Unit {0}
 Short (p ∷ ps) = (length p ≤ 255) × Short ps
-
-pub or-neither : (a b : Bool) → (a || b) ≡ false → (a ≡ false) × (b ≡ false)
-or-neither true b e = absurd (true≢false e)
-or-neither false b e = (refl, e)
 
 none-longer : (ps : List (List ℕ)) → anyLonger 255 ps ≡ false → Short ps
 unfolding anyLonger Short

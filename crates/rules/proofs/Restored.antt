@@ -20,9 +20,9 @@ use Rattle.rules.specs.Restore.{entryFor, entriesFor, nodesFrom, saved, 
 use Rattle.rules.specs.RoundTrip.{EntryFits, EntriesFit, OptionsFit, Fits, NamesTo}
 use Rattle.rules.specs.Driven.{Driven, Rises, Below, Named, Unique, Shape, Facts, Present}
 use Rattle.rules.specs.Restored.{bareTree, GivesBack, SaveThenRestore, RestoreThenSave, NoLonger}
-use Rattle.rules.proofs.Rows.{known, first-of}
-use Rattle.rules.proofs.RoundTrip.{pass, passed, state-read, is-accepted, written, longest, most-bytes}
-use Rattle.rules.proofs.Names.{or-neither}
+use Rattle.rules.proofs.Tests.{known, or-neither, pass, passed}
+use Rattle.rules.proofs.Rows.{first-of}
+use Rattle.rules.proofs.RoundTrip.{state-read, is-accepted, written, longest, most-bytes}
 use Rattle.rules.proofs.Shape.{entries-from, entries-length, beside, beside-sym, Good, is-good, rises-end}
 use Rattle.rules.proofs.Driven.{facts}
 
@@ -153,8 +153,13 @@ module _ (i : Instance) (f : Facts i) where
   saved-valid p =
       let es = entriesFor (i .tree .nodes) in
       let s = f .shape in
-      pass _ (le-leb 2 (i .tree .next) (rises-end 2 (i .tree .next) es (s .rises)), (le-leb (i .tree .next) topNumber (f .top),
-      (shape-good (i .tree .next) es [] (s .rises) (s .below) (s .named) (s .unique) (none-unused es) (all-parents (i .tree .nodes) (i .tree .nodes) p), tt)))
+      pass _ (
+        le-leb 2 (i .tree .next) (rises-end 2 (i .tree .next) es (s .rises)),
+        (
+          le-leb (i .tree .next) topNumber (f .top),
+          (shape-good (i .tree .next) es [] (s .rises) (s .below) (s .named) (s .unique) (none-unused es) (all-parents (i .tree .nodes) (i .tree .nodes) p), tt),
+        ),
+      )
 
 -- the theorem: no state is longer than 279,335 bytes
 pub no-longer : NoLonger

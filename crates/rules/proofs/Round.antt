@@ -6,14 +6,10 @@ use mathlib.Core.List.{List, [], _∷_, _++_}
 use mathlib.Core.Option.{Option, none, some}
 use Prim.Native.Nat.{ℕ, zero, suc, _+_, _-_, _%_, _≤_, _<_}
 use native.Mathlib.Omega.{arith}
-use native.Mathlib.Decide.{decLe}
 use lib.ListN.{length}
 use Rattle.rules.specs.Round.{after, goingRound, visited, firstFree}
 use Rattle.rules.specs.Trace.{Has}
-use Rattle.rules.proofs.Rows.{known}
-
-pub le-or-lt : (m n : ℕ) → (m ≤ n) ⊎ (n < m)
-le-or-lt m n = elim (decLe m n) [ yes h ↦ inl h | no h ↦ inr (omega arith) ]
+use Rattle.rules.proofs.Tests.{known}
 
 -- two ways round, one after the other
 pub round-append : (m n c : ℕ) → c < 256 → goingRound m c ++ goingRound n ((c + m) % 256) ≡ goingRound (m + n) c
@@ -90,13 +86,16 @@ module _ (free : ℕ → Bool) where
       (λ (f : free c ≡ false). later f (found-at n (after c) k (omega arith) (rw f at e))) (known (free c))
     where
       later : free c ≡ false → (d : ℕ) × At n (after c) k d → (d : ℕ) × At (suc n) c k d
-      later f (d, a) = (suc d, record {
-        within = omega (arith, a .within);
-        place = omega (arith, a .place);
-        is-free = a .is-free;
-        before = λ j l. earlier f a j l;
-        counted = rw f (omega (arith, a .counted));
-      })
+      later f (d, a) = (
+        suc d,
+        record {
+          within = omega (arith, a .within);
+          place = omega (arith, a .place);
+          is-free = a .is-free;
+          before = λ j l. earlier f a j l;
+          counted = rw f (omega (arith, a .counted));
+        },
+      )
         where
           earlier : free c ≡ false → At n (after c) k d → (j : ℕ) → j < suc d → free ((c + j) % 256) ≡ false
           earlier f a zero l = let e : (c + 0) % 256 ≡ c = omega arith in rw e f

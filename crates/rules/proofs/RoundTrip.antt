@@ -16,24 +16,8 @@ use Rattle.rules.specs.Create.{Creation, newInstance}
 use Rattle.rules.specs.Saved.{Entry, State, nodeRow, optionsRow, trailerRow, nodeBytes, nodesBytes, optionsBytes, trailerBytes, encode, nodeAt, behind, nodesAt, endAt, optionsAt, optionsIn, trailerIn, offsetOf, countOf, nextOf, counterIn, stateOf, every, laidOut, valid, accepted, decode}
 use Rattle.rules.specs.Restore.{saved, entriesFor}
 use Rattle.rules.specs.RoundTrip.{EntryFits, EntriesFit, OptionsFit, Fits, ThereAndBack, Only, NoOther, FreshLength, NamesTo, NamesOf, Longest}
+use Rattle.rules.proofs.Tests.{and-both, Holds, pass, passed}
 use Rattle.rules.proofs.Fields.{length-read, read-add, read-all, read-behind, get-fits, total, Fit, fields-length, fields-back, fields-read}
-
--- ---- tests, all of which pass
-
-abbrev pub Holds : List Bool → Type 0
-Holds [] = Unit {0}
-Holds (t ∷ ts) = (t ≡ true) × Holds ts
-
-pub pass : (ts : List Bool) → Holds ts → every ts ≡ true
-unfolding every
-pass [] h = refl
-pass (t ∷ ts) h = rw (h .0, pass ts (h .1))
-
-pub passed : (ts : List Bool) → every ts ≡ true → Holds ts
-unfolding every
-passed [] h = tt
-passed (true ∷ ts) h = (refl, passed ts h)
-passed (false ∷ ts) h = absurd (false≢true h)
 
 -- ---- one record, written and read
 
@@ -242,8 +226,22 @@ module _ (s : State) (f : Fits s) where
       let p₄ : get 3 b (L + 29) ≡ 0 = cc in
       let p₅ : get 1 b (L + 28) ≡ o .flags = cc in
       rw (ends, at-trailer, at-options)
-      (pass _ (le-leb 56 (length b) (omega (arith, encode-length s)), (eq-eqb _ _ p₁, (eq-eqb _ _ p₂, (eq-eqb _ _ p₃, (eq-eqb _ _ p₄,
-      (lt-ltb (get 1 b (L + 28)) 64 (omega (arith, f .options .flags)), (eq-eqb L L refl, tt))))))))
+      (pass _ (
+        le-leb 56 (length b) (omega (arith, encode-length s)),
+        (
+          eq-eqb _ _ p₁,
+          (
+            eq-eqb _ _ p₂,
+            (
+              eq-eqb _ _ p₃,
+              (
+                eq-eqb _ _ p₄,
+                (lt-ltb (get 1 b (L + 28)) 64 (omega (arith, f .options .flags)), (eq-eqb L L refl, tt)),
+              ),
+            ),
+          ),
+        ),
+      ))
 
 -- a state that fits and is valid is accepted
 pub is-accepted : (s : State) → Fits s → valid s ≡ true → accepted (encode s) ≡ true
@@ -300,10 +298,6 @@ nodes-fit b (suc k) at h = (
   },
   nodes-fit b k (behind b at) h,
 )
-
-pub and-both : (x y : Bool) → (x && y) ≡ true → (x ≡ true) × (y ≡ true)
-and-both true y e = (refl, e)
-and-both false y e = absurd (false≢true e)
 
 module _ (b : List ℕ) (h : Bytes b) (a : accepted b ≡ true) where
   clauses : (laidOut b ≡ true) × (valid (stateOf b) ≡ true)

@@ -7,10 +7,6 @@ use Prim.Native.Nat.{ℕ}
 use Rattle.rules.specs.Outcome.{Row, _⇒_, firstOf}
 use Rattle.rules.specs.Exactly.{Test, _⟼_, FirstIs, Decides}
 
-pub known : (b : Bool) → (b ≡ true) ⊎ (b ≡ false)
-known true = inl refl
-known false = inr refl
-
 -- each row holds where its test does and those before it do not, and so does the last resort
 abbrev pub Rows : {A : Type 0} → (A → Type 0) → List (Row A) → A → Type 0
 Rows P [] o = P o

@@ -14,8 +14,7 @@ use Rattle.rules.specs.Tree.{Mount, Node, isChild, childIn, bare, withMo
 use Rattle.rules.specs.Saved.{Entry, lastNumber, present, used, goodName, goodNode, goodNodes}
 use Rattle.rules.specs.Restore.{entryFor, entriesFor, nodesFrom}
 use Rattle.rules.specs.Driven.{Rises, Below, Named, Unique, Shape}
-use Rattle.rules.proofs.RoundTrip.{pass, passed}
-use Rattle.rules.proofs.Names.{or-neither}
+use Rattle.rules.proofs.Tests.{and-both, or-neither, pass, passed}
 
 -- ---- nodes and entries
 
@@ -222,10 +221,6 @@ unfolding goodNode
 is-good next before e g =
     pass _ (lt-ltb (lastNumber before) (e .number) (g .rises), (lt-ltb (e .number) next (g .under), (g .named, (g .parent, (rw (g .alone), tt)))))
 
-and-split : (a b : Bool) → (a && b) ≡ true → (a ≡ true) × (b ≡ true)
-and-split true b e = (refl, e)
-and-split false b e = absurd (false≢true e)
-
 module _ (next : ℕ) where
   -- the numbers before are at most the last one's
   Falling : List Entry → Type 0
@@ -259,7 +254,7 @@ module _ (next : ℕ) where
   unfolding used goodNodes Among
   unused-later d [] before a h = refl
   unused-later d (e ∷ es) before a h =
-      let t = and-split (goodNode next before e) (goodNodes next (e ∷ before) es) h in
+      let t = and-both (goodNode next before e) (goodNodes next (e ∷ before) es) h in
       let g = good-is next before e (t .0) in
       rw (beside-sym e d ∙ a (e .above) (e .called) (g .alone)) (unused-later d es (e ∷ before) (among-more d e before a) (t .1))
 
@@ -273,7 +268,7 @@ module _ (next : ℕ) where
   unfolding goodNodes Rises Below Named Unique lastNumber Falling
   good-rest [] before f h l = record { rises = omega arith; below = tt; named = tt; unique = tt }
   good-rest (e ∷ es) before f h l =
-      let t = and-split (goodNode next before e) (goodNodes next (e ∷ before) es) h in
+      let t = and-both (goodNode next before e) (goodNodes next (e ∷ before) es) h in
       let g = good-is next before e (t .0) in
       let k = f (e .above) (g .parent) in
       let r = good-rest es (e ∷ before) (falling-more before e f (g .rises)) (t .1) (g .under) in

@@ -20,8 +20,8 @@ use Rattle.rules.specs.Restore.{entriesFor, nodesFrom, noNodes, fresh, r
 use Rattle.rules.specs.Calls.{Call, mount, restore-mount, umount, restore}
 use Rattle.rules.specs.Driven.{Rises}
 use Rattle.rules.specs.Stays.{mounted, mountsIn, mountsOf, NoMounting, Stays, EveryStays, Absent, Distinct, NumbersOnce}
+use Rattle.rules.proofs.Tests.{and-both}
 use Rattle.rules.proofs.Rows.{first-of, each-of, either}
-use Rattle.rules.proofs.RoundTrip.{and-both}
 use Rattle.rules.proofs.Still.{Still, Cases, every-call}
 use Rattle.rules.proofs.Driven.{facts, no-nodes, no-root}
 
@@ -69,9 +69,10 @@ mount-as i r none = record { fixed = refl; removal = refl; next = omega arith }
 mount-as i r (some k) =
     let j = walkedTo (r .path) (stepped i) in
     let p = placed-keeps k r (ended i (r .path)) j in
-    each-of (Keeps i) _ _
-    (record { fixed = refl; removal = refl; next = omega arith },
-    (record { fixed = refl; removal = refl; next = omega arith }, record { fixed = p .0; removal = p .1; next = omega (arith, p .2) }))
+    each-of (Keeps i) _ _ (
+      record { fixed = refl; removal = refl; next = omega arith },
+      (record { fixed = refl; removal = refl; next = omega arith }, record { fixed = p .0; removal = p .1; next = omega (arith, p .2) }),
+    )
 
 mount-stays : (i : Instance) (r : Request) → Stays i (mount r) (mountRule i r)
 unfolding mountRule
@@ -85,8 +86,25 @@ restored-stays i k r =
     let j = walkedTo (r .path) i in
     let p = placed-keeps k r (ended i (r .path)) j in
     keeps-stays i (restore-mount k r) _ (λ n. n .no-restored k r refl)
-    (each-of (Keeps i) _ _ (kept i _, (kept i _, (kept i _, (kept i _, (kept i _, (kept i _,
-    (record { fixed = refl; removal = refl; next = omega arith }, record { fixed = p .0; removal = p .1; next = omega (arith, p .2) }))))))))
+    (each-of (Keeps i) _ _ (
+      kept i _,
+      (
+        kept i _,
+        (
+          kept i _,
+          (
+            kept i _,
+            (
+              kept i _,
+              (
+                kept i _,
+                (record { fixed = refl; removal = refl; next = omega arith }, record { fixed = p .0; removal = p .1; next = omega (arith, p .2) }),
+              ),
+            ),
+          ),
+        ),
+      ),
+    ))
 
 taken-next : (i : Instance) (x : ℕ) → taken i x .next ≡ i .tree .next
 unfolding taken

@@ -10,7 +10,8 @@ use Rattle.rules.specs.Round.{after, goingRound}
 use Rattle.rules.specs.Instance.{Instance, counterOf}
 use Rattle.rules.specs.Calls.{Call, rule}
 use Rattle.rules.specs.Trace.{NoRestore, Unrestored, afterAll, visitsOf, total, lastFound, Meets, Met, GoesRound, Laps, EveryRun, EveryLap}
-use Rattle.rules.proofs.Round.{le-or-lt, round-append}
+use Rattle.rules.proofs.Tests.{le-or-lt}
+use Rattle.rules.proofs.Round.{round-append}
 use Rattle.rules.proofs.Turn.{turn, found-no-restore}
 
 low : (i : Instance) → counterOf i < 256 → (c : Call) → NoRestore c (rule i c) → counterOf (rule i c .after) < 256

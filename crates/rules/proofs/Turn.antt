@@ -60,9 +60,28 @@ restored-keeps : (i : Instance) (k : ℕ) (r : Request) → Keeps i (restoreMoun
 unfolding restoreMountRule
 restored-keeps i k r =
     let k₀ : (code : ℕ) → Keeps i (refused code i) = keeps-refused i in
-    each-of (Keeps i) _ _
-    (k₀ _, (k₀ _, (k₀ _, (k₀ _, (k₀ _, (k₀ _, (record { visits = refl; found = refl; counter = refl },
-    record { visits = refl; found = refl; counter = placed-counter k r (ended i (r .path)) (walkedTo (r .path) i) })))))))
+    each-of (Keeps i) _ _ (
+      k₀ _,
+      (
+        k₀ _,
+        (
+          k₀ _,
+          (
+            k₀ _,
+            (
+              k₀ _,
+              (
+                k₀ _,
+                (
+                  record { visits = refl; found = refl; counter = refl },
+                  record { visits = refl; found = refl; counter = placed-counter k r (ended i (r .path)) (walkedTo (r .path) i) },
+                ),
+              ),
+            ),
+          ),
+        ),
+      ),
+    )
 
 unmount-at : (i : Instance) (x : Option ℕ) (m : Option Mount) → Keeps i (unmountAt i x m)
 unfolding unmountAt unmounts

@@ -20,6 +20,7 @@ use Rattle.rules.specs.Saved.{Entry, goodName}
 use Rattle.rules.specs.Restore.{entryFor, entriesFor}
 use Rattle.rules.specs.Mount.{planned}
 use Rattle.rules.specs.Driven.{Rises, Shape}
+use Rattle.rules.proofs.Tests.{pass}
 use Rattle.rules.proofs.Names.{GoodParts, components-good}
 use Rattle.rules.proofs.Shape.{entries-append, child-unused, shape-more, rises-end}
 
