@@ -1,0 +1,15 @@
+-- `id_map::map_back` meets its contract: it is `map_out` of the mapping turned round. Assumes nothing.
+use Rattle.rules.specs.Ids.{unwrapped}
+use borrow.Author.Needs.{needs}
+use Rattle.id_map.proofs.map_back.Statement.{statement}
+use Rattle.id_map.proofs.map_back.Tie as tie
+
+map-out-requires : tie.Need-map-out-requires
+map-out-requires c κs = search needs
+
+returns : tie.Need-returns
+unfolding unwrapped
+returns c = search needs
+
+pub map-back-spec : {M : Type 1} → statement M
+map-back-spec = tie.close (tie.spec map-out-requires returns)

@@ -1,0 +1,2 @@
+-- The mapping that the code's struct stands for.
+pub mod Mapping

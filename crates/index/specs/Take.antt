@@ -1,0 +1,37 @@
+-- What taking an index for a tag does to the slots and the counter, and what it answers.
+use Prim.Native.Nat.{ℕ}
+use mathlib.Core.Path.{_≡_}
+use mathlib.Core.Option.{Option, none, some}
+use mathlib.Core.List.{List}
+use lib.ListN.{set}
+use Rattle.rules.specs.Round.{allocate}
+use Rattle.index.specs.Slots.{heldIn}
+use Rattle.index.specs.Search.{Told, told}
+use Rattle.index.specs.declared.FsIndexes.{FsIndexes}
+use Rattle.index.specs.declared.Step.{Step}
+use Rattle.index.specs.declared.Taken.{Taken}
+
+-- the index that is answered: 0 where none is found
+abbrev pub indexFor : Option ℕ → ℕ
+indexFor (some i) = i
+indexFor none = 0
+
+-- a column of the slots with a value at the index found; where none is found it is as it was
+abbrev pub putAt : Option ℕ → List ℕ → ℕ → List ℕ
+putAt (some i) column v = set column i v
+putAt none column v = column
+
+-- the slot found is held, with the tag
+abbrev pub takenOf : FsIndexes → ℕ → Told → Taken
+takenOf t tag a = record {
+  step = record { code = a .code; index = indexFor (a .found); count = a .count };
+  table = record { used = putAt (a .found) (t .used) 1; tags = putAt (a .found) (t .tags) tag; «next_super» = a .counter };
+}
+
+unfoldable pub takeRule : FsIndexes → ℕ → Taken
+takeRule t tag = takenOf t tag (told (allocate (heldIn (t .used)) (t .«next_super»)))
+
+-- the same where slots and counter are lent: the answer, and what the host finds after
+pub record Steps (before : FsIndexes) (tag : ℕ) (r : Step) (after : FsIndexes) : Type 0 where
+  pub answer : r ≡ takeRule before tag .step
+  pub table : after ≡ takeRule before tag .table

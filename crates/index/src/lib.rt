@@ -1,0 +1,142 @@
+// The indexes: 256 slots and the counter from which the search for a free one starts.
+ghost use mathlib.Core.Path.{_≡_};
+ghost use Rattle.rules.specs.Round.{freeOf, allocate};
+ghost use Rattle.index.specs.Slots.{heldIn, New};
+ghost use Rattle.index.specs.Search.{readOf, told};
+ghost use Rattle.index.specs.Take.{takeRule, Steps};
+
+// The slots and the counter, of numbers alone, as a host lends them: a slot is held where its occupancy byte is not 0 (R56, R90).
+#[repr(C)]
+pub struct FsIndexes {
+    pub used: [u8; 256],
+    pub tags: [u32; 256],
+    pub next_super: u8,
+}
+
+// What a search finds: an index, or FULL.
+pub enum FsIndex {
+    Index(u8),
+    Full,
+}
+
+// What a search gives: what it found, how many indexes it visited, and the counter after it.
+pub struct Allocated {
+    pub answer: FsIndex,
+    pub count: u32,
+    pub next_super: u8,
+}
+
+// The number of the answer, the index or 0, and the count.
+#[repr(C)]
+pub struct Step {
+    pub code: u32,
+    pub index: u32,
+    pub count: u32,
+}
+
+// What taking an index gives: its answer, and the slots and the counter after it.
+pub struct Taken {
+    pub step: Step,
+    pub table: FsIndexes,
+}
+
+const EMPTY: u8 = 0;
+
+const HELD: u8 = 1;
+
+const NO_TAG: u32 = 0;
+
+// The numbers of the answers (R15).
+const DONE: u32 = 0;
+
+const FULL: u32 = 5;
+
+// A new instance's: 256 empty slots, and counter 1 (R31).
+pub fn new() -> FsIndexes
+    ensures { λ r. ⌜ New r ⌝ }
+{
+    FsIndexes {
+        used: [EMPTY; 256],
+        tags: [NO_TAG; 256],
+        next_super: 1,
+    }
+}
+
+// An index can be handed out: it is not 0, and its slot is empty (R11, R81).
+fn is_free(used: &[u8], index: u8) -> bool
+    ensures { λ r. ⌜ r ≡ freeOf (heldIn (now (used .entry))) index ⌝ }
+{
+    if index == 0 {
+        return false;
+    }
+    let at = index as usize;
+    if at < used.len() {
+        return used[at] == EMPTY;
+    }
+    true
+}
+
+// The first free index by the occupancy bytes, going round from the counter on, until the start is met twice (R80 to R84).
+pub fn allocate_fs_idx(used: &[u8], next_super: u8) -> Allocated
+    ensures { λ r. ⌜ readOf r ≡ told (allocate (heldIn (now (used .entry))) «next_super») ⌝ }
+{
+    let mut next = next_super;
+    let mut count: u32 = 0;
+    let answer = loop {
+        let index = next;
+        next = std::num::wrapping_add_u8(next, 1);
+        count += 1;
+        if index == next_super {
+            if 1 < count {
+                break FsIndex::Full;
+            }
+        }
+        if is_free(used, index) {
+            break FsIndex::Index(index);
+        }
+    };
+    Allocated {
+        answer,
+        count,
+        next_super: next,
+    }
+}
+
+// An index is taken for a tag: the slot found holds it, and the counter has moved (R83, R90).
+pub fn take(mut t: FsIndexes, tag: u32) -> Taken
+    ensures { λ r. ⌜ r ≡ takeRule t tag ⌝ }
+{
+    let a = allocate_fs_idx(&t.used, t.next_super);
+    t.next_super = a.next_super;
+    let answer = a.answer;
+    match answer {
+        FsIndex::Index(i) => {
+            let at = i as usize;
+            t.used[at] = HELD;
+            t.tags[at] = tag;
+            let step = Step {
+                code: DONE,
+                index: i as u32,
+                count: a.count,
+            };
+            Taken { step, table: t }
+        }
+        FsIndex::Full => {
+            let step = Step {
+                code: FULL,
+                index: 0,
+                count: a.count,
+            };
+            Taken { step, table: t }
+        }
+    }
+}
+
+// The host's call: the slots and the counter are lent together, and both are changed in place (R90).
+pub fn allocate_in(t: &mut FsIndexes, tag: u32) -> Step
+    ensures { λ r. ⌜ Steps (now (t .entry)) tag r (now (t .exit)) ⌝ }
+{
+    let a = take(*t, tag);
+    *t = a.table;
+    a.step
+}

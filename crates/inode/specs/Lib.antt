@@ -1,0 +1,2 @@
+-- The meaning of a conversion's answer.
+pub mod Converted

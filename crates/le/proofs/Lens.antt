@@ -1,0 +1,195 @@
+-- Reading after writing, over every width, place and memory. Assumes nothing.
+use mathlib.Core.Path.{_≡_, refl, sym, ap, _∙_}
+use mathlib.Core.Logic.{_⊎_, inl, inr}
+use mathlib.Core.List.{List, [], _∷_, _++_}
+use Prim.Native.Nat.{ℕ, zero, suc, _+_, _*_, _/_, _%_, _^_, _≤_, _<_}
+use native.Mathlib.Nat.{add-zero, zero-add, suc-add, pow-succ', mod-lt, div-one, mod-eq-of-lt, div-div-eq-div-mul}
+use native.Mathlib.Omega.{arith}
+use lib.ListN.{length, getD, set, take, replicate, length-set, length-replicate, getD-replicate}
+use lib.Seq.{getD-set-same, getD-set-other}
+use lib.Arith.{digits-mod, digits-div}
+use lib.Dec.{lit<}
+use Rattle.rules.proofs.Fields.{length-read, length-bytesOf, value-append, value-bytes, mod-step, read-add, read-slice, read-all}
+use Rattle.le.specs.Mem.{read, value, bytesOf, get, write, put}
+
+-- ---- lengths are kept
+
+pub length-write : (mem : List ℕ) (at : ℕ) (bs : List ℕ) → length (write mem at bs) ≡ length mem
+unfolding write
+length-write mem at [] = refl
+length-write mem at (b ∷ bs) = length-write (set mem at b) (at + 1) bs ∙ length-set mem at b
+
+pub length-put : (k : ℕ) (mem : List ℕ) (at v : ℕ) → length (put k mem at v) ≡ length mem
+unfolding put
+length-put k mem at v = length-write mem at (bytesOf k v)
+
+-- ---- k + j bytes as k, then j
+
+pub bytes-add : (k j v : ℕ) → bytesOf (k + j) v ≡ bytesOf k (v % 256 ^ k) ++ bytesOf j (v / 256 ^ k)
+unfolding bytesOf
+bytes-add zero j v = rw (zero-add, div-one)
+bytes-add (suc k) j v =
+    let low : v % 256 ^ suc k % 256 ≡ v % 256 = ap (λ (n : ℕ). n % 256) (mod-step k v) ∙ digits-mod (v / 256 % 256 ^ k) (mod-lt v (lit< tt)) in
+    let high : v % 256 ^ suc k / 256 ≡ v / 256 % 256 ^ k = ap (λ (n : ℕ). n / 256) (mod-step k v) ∙ digits-div (v / 256 % 256 ^ k) (mod-lt v (lit< tt)) in
+    let rest : v / 256 ^ suc k ≡ v / 256 / 256 ^ k = ap (λ (n : ℕ). v / n) (pow-succ' 256 k) ∙ sym (div-div-eq-div-mul v 256 (256 ^ k)) in
+    rw (suc-add, low, high, rest, bytes-add k j (v / 256))
+
+pub write-append : (mem : List ℕ) (at : ℕ) (a b : List ℕ) → write mem at (a ++ b) ≡ write (write mem at a) (at + length a) b
+unfolding write
+write-append mem at [] b = rw add-zero
+write-append mem at (x ∷ a) b =
+    let e : at + 1 + length a ≡ at + suc (length a) = omega arith in
+    rw (write-append (set mem at x) (at + 1) a b, e)
+
+pub get-add : (k j : ℕ) (mem : List ℕ) (at : ℕ) → get (k + j) mem at ≡ get k mem at + 256 ^ k * get j mem (at + k)
+unfolding get
+get-add k j mem at =
+    ap value (read-add mem at k j) ∙ value-append (read mem at k) (read mem (at + k) j)
+    ∙ ap (λ (n : ℕ). value (read mem at k) + 256 ^ n * value (read mem (at + k) j)) (length-read mem at k)
+
+pub put-add : (k j : ℕ) (mem : List ℕ) (at v : ℕ) → put (k + j) mem at v ≡ put j (put k mem at (v % 256 ^ k)) (at + k) (v / 256 ^ k)
+unfolding put
+put-add k j mem at v =
+    let b : List ℕ = bytesOf k (v % 256 ^ k) in
+    ap (write mem at) (bytes-add k j v) ∙ write-append mem at b (bytesOf j (v / 256 ^ k))
+    ∙ ap (λ (n : ℕ). write (write mem at b) (at + n) (bytesOf j (v / 256 ^ k))) (length-bytesOf k (v % 256 ^ k))
+
+-- one byte: where the widths begin
+pub get-one : (mem : List ℕ) (at : ℕ) → getD mem at 0 ≡ get 1 mem at
+unfolding get value read
+get-one mem at = omega arith
+
+pub put-one : (mem : List ℕ) (at v : ℕ) → v < 256 → set mem at v ≡ put 1 mem at v
+unfolding put write bytesOf
+put-one mem at v h = ap (set mem at) (sym (mod-eq-of-lt h))
+
+-- a number, and a run behind it
+pub put-write : (k : ℕ) (mem : List ℕ) (at v : ℕ) (bs : List ℕ) → write (put k mem at v) (at + k) bs ≡ write mem at (bytesOf k v ++ bs)
+unfolding put
+put-write k mem at v bs =
+    sym (write-append mem at (bytesOf k v) bs ∙ ap (λ (n : ℕ). write (write mem at (bytesOf k v)) (at + n) bs) (length-bytesOf k v))
+
+-- ---- a read at a place apart from the l bytes that were written: below them, or above
+
+abbrev pub Apart : ℕ → ℕ → ℕ → ℕ → Type 0
+Apart p k at l = (p + k ≤ at) ⊎ (at + l ≤ p)
+
+pub byte-apart : (mem : List ℕ) (at : ℕ) (bs : List ℕ) (p : ℕ) → Apart p 1 at (length bs) → getD (write mem at bs) p 0 ≡ getD mem p 0
+unfolding write
+byte-apart mem at [] p h = refl
+byte-apart mem at (b ∷ bs) p (inl h) = byte-apart (set mem at b) (at + 1) bs p (inl (omega arith)) ∙ getD-set-other mem at p b 0 (λ e. omega arith)
+byte-apart mem at (b ∷ bs) p (inr h) = byte-apart (set mem at b) (at + 1) bs p (inr (omega arith)) ∙ getD-set-other mem at p b 0 (λ e. omega arith)
+
+pub read-apart : (mem : List ℕ) (at : ℕ) (bs : List ℕ) (l p k : ℕ) → length bs ≡ l → Apart p k at l → read (write mem at bs) p k ≡ read mem p k
+unfolding read
+read-apart mem at bs l p zero e h = refl
+read-apart mem at bs l p (suc k) e (inl h) = λ i. byte-apart mem at bs p (inl (omega arith)) i ∷ read-apart mem at bs l (p + 1) k e (inl (omega arith)) i
+read-apart mem at bs l p (suc k) e (inr h) = λ i. byte-apart mem at bs p (inr (omega arith)) i ∷ read-apart mem at bs l (p + 1) k e (inr (omega arith)) i
+
+pub get-apart : (k : ℕ) (mem : List ℕ) (at : ℕ) (bs : List ℕ) (l p : ℕ) → length bs ≡ l → Apart p k at l → get k (write mem at bs) p ≡ get k mem p
+unfolding get
+get-apart k mem at bs l p e h = ap value (read-apart mem at bs l p k e h)
+
+pub read-put-apart : (j : ℕ) (mem : List ℕ) (at v p k : ℕ) → Apart p k at j → read (put j mem at v) p k ≡ read mem p k
+unfolding put
+read-put-apart j mem at v p k h = read-apart mem at (bytesOf j v) j p k (length-bytesOf j v) h
+
+pub get-put-apart : (k j : ℕ) (mem : List ℕ) (at v p : ℕ) → Apart p k at j → get k (put j mem at v) p ≡ get k mem p
+unfolding get
+get-put-apart k j mem at v p h = ap value (read-put-apart j mem at v p k h)
+
+-- ---- a part of a run
+
+-- two runs are equal by their bytes
+pub read-ext : (a b : List ℕ) (p q k : ℕ) → ((i : ℕ) → i < k → getD a (p + i) 0 ≡ getD b (q + i) 0) → read a p k ≡ read b q k
+unfolding read
+read-ext a b p q zero h = refl
+read-ext a b p q (suc k) h =
+    λ t. (rw (add-zero p, add-zero q) at (h 0 (omega arith))) t
+    ∷ read-ext a b (p + 1) (q + 1) k (λ i l.
+    let e : p + (i + 1) ≡ p + 1 + i = omega arith in
+    let f : q + (i + 1) ≡ q + 1 + i = omega arith in
+    rw (e, f) at (h (i + 1) (omega arith))) t
+
+byte-read : (mem : List ℕ) (p k i : ℕ) → i < k → getD (read mem p k) i 0 ≡ getD mem (p + i) 0
+unfolding read
+byte-read mem p zero i h = absurd (omega arith)
+byte-read mem p (suc k) zero h = rw add-zero
+byte-read mem p (suc k) (suc i) h =
+    let e : p + 1 + i ≡ p + suc i = omega arith in
+    byte-read mem (p + 1) k i (omega arith) ∙ rw e
+
+-- w bytes, d bytes into a run
+pub read-part : (mem : List ℕ) (p k d w : ℕ) → d + w ≤ k → read (read mem p k) d w ≡ read mem (p + d) w
+read-part mem p k d w h =
+    read-ext (read mem p k) mem d (p + d) w (λ i b.
+    let e : p + d + i ≡ p + (d + i) = omega arith in
+    rw e (byte-read mem p k (d + i) (omega arith)))
+
+-- the beginning of a run
+pub take-read : (mem : List ℕ) (p k w : ℕ) → w ≤ k → take w (read mem p k) ≡ read mem p w
+take-read mem p k w h =
+    let l : length (read mem p k) ≡ k = length-read mem p k in
+    sym (read-slice (read mem p k) 0 w (omega arith)) ∙ read-part mem p k 0 w (omega arith) ∙ rw add-zero
+
+-- ---- a read at the place of the l bytes that were written, or of a part of them
+
+byte-write : (mem : List ℕ) (at : ℕ) (bs : List ℕ) (i : ℕ) → at + length bs ≤ length mem → i < length bs → getD (write mem at bs) (at + i) 0 ≡ getD bs i 0
+unfolding write
+byte-write mem at [] i h k = absurd (omega arith)
+byte-write mem at (b ∷ bs) zero h k = rw add-zero (byte-apart (set mem at b) (at + 1) bs at (inl (omega arith)) ∙ getD-set-same mem at b 0 (omega arith))
+byte-write mem at (b ∷ bs) (suc i) h k =
+    let e : at + suc i ≡ at + 1 + i = omega arith in
+    let l : length (set mem at b) ≡ length mem = length-set mem at b in
+    rw e (byte-write (set mem at b) (at + 1) bs i (omega arith) (omega arith))
+
+-- w bytes, d bytes into what was written
+pub read-within : (mem : List ℕ) (at : ℕ) (bs : List ℕ) (l d w : ℕ) → length bs ≡ l → at + l ≤ length mem → d + w ≤ l
+    → read (write mem at bs) (at + d) w ≡ read bs d w
+read-within mem at bs l d w n h k =
+    read-ext (write mem at bs) bs (at + d) d w (λ i b.
+    let e : at + d + i ≡ at + (d + i) = omega arith in
+    rw e (byte-write mem at bs (d + i) (omega arith) (omega arith)))
+
+-- all that was written
+pub read-same : (mem : List ℕ) (at : ℕ) (bs : List ℕ) (l : ℕ) → length bs ≡ l → at + l ≤ length mem → read (write mem at bs) at l ≡ bs
+read-same mem at bs l n h = rw add-zero at (read-within mem at bs l 0 l n h (omega arith)) ∙ ap (read bs 0) (sym n) ∙ read-all bs
+
+pub read-put-same : (k : ℕ) (mem : List ℕ) (at v : ℕ) → at + k ≤ length mem → read (put k mem at v) at k ≡ bytesOf k v
+unfolding put
+read-put-same k mem at v h = read-same mem at (bytesOf k v) k (length-bytesOf k v) h
+
+pub get-put-same : (k : ℕ) (mem : List ℕ) (at v : ℕ) → at + k ≤ length mem → v < 256 ^ k → get k (put k mem at v) at ≡ v
+unfolding get
+get-put-same k mem at v h f = ap value (read-put-same k mem at v h) ∙ value-bytes k v ∙ mod-eq-of-lt f
+
+-- ---- runs copied or moved, and runs of one byte
+
+-- w bytes, d bytes into a run of l bytes that came from another place, of this memory or another
+pub read-moved : (mem src : List ℕ) (to from l d w : ℕ) → to + l ≤ length mem → d + w ≤ l
+    → read (write mem to (read src from l)) (to + d) w ≡ read src (from + d) w
+read-moved mem src to from l d w h k = read-within mem to (read src from l) l d w (length-read src from l) h k ∙ read-part src from l d w k
+
+pub get-moved : (k : ℕ) (mem src : List ℕ) (to from l d : ℕ) → to + l ≤ length mem → d + k ≤ l
+    → get k (write mem to (read src from l)) (to + d) ≡ get k src (from + d)
+unfolding get
+get-moved k mem src to from l d h b = ap value (read-moved mem src to from l d k h b)
+
+read-one : (l v d w : ℕ) → d + w ≤ l → read (replicate l v) d w ≡ replicate w v
+unfolding read
+read-one l v d zero h = refl
+read-one l v d (suc w) h = λ t. getD-replicate l d v 0 (omega arith) t ∷ read-one l v (d + 1) w (omega arith) t
+
+-- w bytes, d bytes into l times one byte
+pub read-filled : (mem : List ℕ) (at l v d w : ℕ) → at + l ≤ length mem → d + w ≤ l → read (write mem at (replicate l v)) (at + d) w ≡ replicate w v
+read-filled mem at l v d w h k = read-within mem at (replicate l v) l d w (length-replicate l v) h k ∙ read-one l v d w k
+
+value-zeros : (k : ℕ) → value (replicate k 0) ≡ 0
+unfolding value
+value-zeros zero = refl
+value-zeros (suc k) = omega (arith, value-zeros k)
+
+-- a number within zeros
+pub get-zeros : (k : ℕ) (mem : List ℕ) (at l d : ℕ) → at + l ≤ length mem → d + k ≤ l → get k (write mem at (replicate l 0)) (at + d) ≡ 0
+unfolding get
+get-zeros k mem at l d h b = ap value (read-filled mem at l 0 d k h b) ∙ value-zeros k

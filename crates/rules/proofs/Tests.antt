@@ -1,0 +1,39 @@
+-- Tests: both, neither, all of a list, and which of two numbers is the smaller. Assumes nothing.
+use mathlib.Core.Path.{_≡_, refl}
+use mathlib.Core.Bool.{Bool, true, false, _&&_, _||_, true≢false, false≢true}
+use mathlib.Core.Logic.{_⊎_, inl, inr}
+use mathlib.Core.List.{List, [], _∷_}
+use Prim.Native.Nat.{ℕ, _≤_, _<_}
+use native.Mathlib.Omega.{arith}
+use native.Mathlib.Decide.{decLe}
+use Rattle.rules.specs.Saved.{every}
+
+pub known : (b : Bool) → (b ≡ true) ⊎ (b ≡ false)
+known true = inl refl
+known false = inr refl
+
+pub le-or-lt : (m n : ℕ) → (m ≤ n) ⊎ (n < m)
+le-or-lt m n = elim (decLe m n) [ yes h ↦ inl h | no h ↦ inr (omega arith) ]
+
+pub and-both : (a b : Bool) → (a && b) ≡ true → (a ≡ true) × (b ≡ true)
+and-both true b e = (refl, e)
+and-both false b e = absurd (false≢true e)
+
+pub or-neither : (a b : Bool) → (a || b) ≡ false → (a ≡ false) × (b ≡ false)
+or-neither true b e = absurd (true≢false e)
+or-neither false b e = (refl, e)
+
+abbrev pub Holds : List Bool → Type 0
+Holds [] = Unit {0}
+Holds (t ∷ ts) = (t ≡ true) × Holds ts
+
+pub pass : (ts : List Bool) → Holds ts → every ts ≡ true
+unfolding every
+pass [] h = refl
+pass (t ∷ ts) h = rw (h .0, pass ts (h .1))
+
+pub passed : (ts : List Bool) → every ts ≡ true → Holds ts
+unfolding every
+passed [] h = tt
+passed (true ∷ ts) h = (refl, passed ts h)
+passed (false ∷ ts) h = absurd (false≢true h)
