@@ -1,0 +1,6 @@
+-- What is proved of paths, for the proofs of this crate and of its callers.
+pub mod Places
+pub mod Table
+pub mod Naming
+pub mod Words
+pub mod Steps

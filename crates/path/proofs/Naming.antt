@@ -1,0 +1,99 @@
+-- Laws of `.`, `..`, a byte in a name, and the component check. Assumes nothing.
+use mathlib.Core.Path.{_≡_, refl, sym}
+use mathlib.Core.Bool.{true, false, _&&_, and-true, and-false, false≢true, and-eq-true-iff, or-true}
+use mathlib.Core.List.{List, [], _∷_}
+use Prim.Native.Nat.{ℕ, _+_, _≤_, _<_}
+use native.Mathlib.Omega.{arith}
+use lib.ListN.{length, getD, drop, drop-of-length-le}
+use lib.Dec.{eqb}
+use borrow.Author.Tests.{eq-eqb, ne-eqb, eqb-true}
+use Rattle.rules.specs.Bytes.{same, holds}
+use Rattle.rules.specs.Numbers.{DONE, INVAL}
+use Rattle.rules.specs.Path.{slash, dot, isDot, isDots, badComponent}
+use Rattle.path.specs.declared.names.Checked.{Checked}
+use Rattle.path.specs.declared.names.Checked.the-variants.{Done, Inval}
+use Rattle.path.specs.Checks.{code, checkCode}
+use Rattle.path.proofs.Places.{here}
+
+pub same-eq : (p q : List ℕ) → same p q ≡ true → p ≡ q
+unfolding same
+same-eq [] [] e = refl
+same-eq [] (y ∷ ys) e = absurd (false≢true e)
+same-eq (x ∷ xs) [] e = absurd (false≢true e)
+same-eq (x ∷ xs) (y ∷ ys) e =
+    let b = and-eq-true-iff (eqb x y) (same xs ys) .0 e in
+    rw (eqb-true x y (b .0), same-eq xs ys (b .1))
+
+-- two names of different lengths differ
+pub same-length : (p q : List ℕ) → (length p ≡ length q → ⊥) → false ≡ same p q
+unfolding same
+same-length [] [] h = absurd (h refl)
+same-length [] (y ∷ ys) h = refl
+same-length (x ∷ xs) [] h = refl
+same-length (x ∷ xs) (y ∷ ys) h = rw (sym (same-length xs ys (λ e. h (omega arith))), and-false)
+
+-- ---- `.` and `..`, by the tests of their bytes
+
+pub dot-one : (p : List ℕ) → length p ≡ 1 → eqb (getD p 0 0) dot ≡ isDot p
+unfolding same
+dot-one [] h = absurd (omega arith)
+dot-one (a ∷ []) h = rw and-true
+dot-one (a ∷ b ∷ p) h = absurd (omega arith)
+
+dots-two : (p : List ℕ) → length p ≡ 2 → (eqb (getD p 0 0) dot && eqb (getD p 1 0) dot) ≡ isDots p
+unfolding same
+dots-two [] h = absurd (omega arith)
+dots-two (a ∷ []) h = absurd (omega arith)
+dots-two (a ∷ b ∷ []) h = rw and-true
+dots-two (a ∷ b ∷ d ∷ p) h = absurd (omega arith)
+
+pub dots-first : (p : List ℕ) → length p ≡ 2 → (getD p 0 0 ≡ dot → ⊥) → false ≡ isDots p
+dots-first p h e = rw (← dots-two p h, ne-eqb (getD p 0 0) dot e)
+
+pub dots-second : (p : List ℕ) → length p ≡ 2 → getD p 0 0 ≡ dot → eqb (getD p 1 0) dot ≡ isDots p
+dots-second p h e = rw (← dots-two p h, eq-eqb (getD p 0 0) dot e)
+
+-- ---- a byte in a name, from a place on
+
+module _ (b : ℕ) (s : List ℕ) (i : ℕ) where
+  pub holds-end : length s ≤ i → holds b (drop i s) ≡ false
+  unfolding holds
+  holds-end h = rw (drop-of-length-le s h)
+
+  pub holds-here : i < length s → getD s i 0 ≡ b → holds b (drop i s) ≡ true
+  unfolding holds
+  holds-here h e = rw (here s i h, eq-eqb (getD s i 0) b e)
+
+  pub holds-more : i < length s → (getD s i 0 ≡ b → ⊥) → holds b (drop i s) ≡ holds b (drop (i + 1) s)
+  unfolding holds
+  holds-more h e = rw (here s i h, ne-eqb (getD s i 0) b e)
+
+-- ---- the check
+
+-- no two answers have one number
+pub code-apart : (x y : Checked) → code x ≡ code y → x ≡ y
+code-apart Done Done e = refl
+code-apart Done Inval e = absurd (omega arith)
+code-apart Inval Done e = absurd (omega arith)
+code-apart Inval Inval e = refl
+
+module _ (p : List ℕ) where
+  pub bad-dot : isDot p ≡ true → INVAL ≡ checkCode p
+  unfolding checkCode badComponent
+  bad-dot e = rw e
+
+  pub bad-dots : isDots p ≡ true → INVAL ≡ checkCode p
+  unfolding checkCode badComponent
+  bad-dots e = rw (e, or-true)
+
+  pub bad-slash : holds slash p ≡ true → INVAL ≡ checkCode p
+  unfolding checkCode badComponent
+  bad-slash e = rw (e, or-true)
+
+  pub bad-zero : holds 0 p ≡ true → INVAL ≡ checkCode p
+  unfolding checkCode badComponent
+  bad-zero e = rw (e, or-true)
+
+  pub good : isDot p ≡ false → isDots p ≡ false → holds slash p ≡ false → holds 0 p ≡ false → DONE ≡ checkCode p
+  unfolding checkCode badComponent
+  good a b c d = rw (a, b, c, d)

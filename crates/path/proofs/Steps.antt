@@ -1,0 +1,246 @@
+-- Stepping from place to place with the next component gives the components of the path. Assumes nothing.
+use mathlib.Core.Path.{_≡_, refl, ap, sym, _∙_, subst}
+use mathlib.Core.Bool.{Bool, true, false, cond, false≢true}
+use mathlib.Core.List.{List, [], _∷_}
+use Prim.Native.Nat.{ℕ, zero, suc, _+_, _-_, _≤_, _<_}
+use native.Mathlib.Nat.{add-zero}
+use native.Mathlib.Decide.{decLt}
+use native.Mathlib.Omega.{arith}
+use lib.ListN.{length, getD, take, drop, drop-of-length-le, length-drop}
+use lib.Seq.{drop-drop, length-take-le}
+use lib.Dec.{eqb}
+use Rattle.rules.specs.Bytes.{same}
+use Rattle.rules.specs.Path.{slash, dot, isDot, isDots, Part, name, parent, onto, pieces, sorted, kept, components}
+use Rattle.path.specs.declared.components.Component.{Component}
+use Rattle.path.specs.declared.components.Component.the-variants.{Name, Parent, End}
+use Rattle.path.specs.Steps.{part, between, wordLength, wordEnd, stepOf, nextAt, onStep, stepped}
+use Rattle.path.proofs.Places.{here, between-length}
+use Rattle.path.proofs.Naming.{same-eq, same-length}
+use Rattle.path.proofs.Words.{word-nil, word-cons, word-le, end-length, behind, first-piece}
+
+-- ---- the components: what the first part is, and those from its end on
+
+rest-kept : (k : ℕ) (s : List ℕ) → kept (k + 1) (behind (drop (wordLength s) s)) ≡ components k (drop (wordLength s) s)
+unfolding components sorted kept pieces same
+rest-kept k [] = rw word-nil
+rest-kept k (b ∷ s) = rw (word-cons b s) (go (eqb b slash) refl (rest-kept k s))
+  where
+    go : (t : Bool) → eqb b slash ≡ t → kept (k + 1) (behind (drop (wordLength s) s)) ≡ components k (drop (wordLength s) s)
+        → kept (k + 1) (behind (drop (cond t 0 (suc (wordLength s))) (b ∷ s))) ≡ components k (drop (cond t 0 (suc (wordLength s))) (b ∷ s))
+    go true q e = rw (q, add-zero)
+    go false q e = e
+
+first-part : (at : ℕ) (s : List ℕ) → components at s ≡ sorted at (take (wordLength s) s) (components (at + wordLength s) (drop (wordLength s) s))
+unfolding components kept
+first-part at s =
+    let e = length-take-le (wordLength s) s (word-le s) in
+    rw (first-piece s, e) (ap (sorted at (take (wordLength s) s)) (rest-kept (at + wordLength s) s))
+
+module _ (s : List ℕ) (at : ℕ) where
+  -- the part that stands at a place
+  abbrev pub word : List ℕ
+  word = part s at (wordLength (drop at s))
+
+  pub word-length : length word ≡ wordLength (drop at s)
+  word-length = length-take-le (wordLength (drop at s)) (drop at s) (word-le (drop at s))
+
+  pub word-between : {end : ℕ} → end ≡ wordEnd s at → between s at end ≡ word
+  word-between e = rw (e, end-length s at)
+
+  -- the components from its end on
+  abbrev after : List Part
+  after = components (at + wordLength (drop at s)) (drop (at + wordLength (drop at s)) s)
+
+  part-first : components at (drop at s) ≡ sorted at word after
+  part-first = rw (← drop-drop (wordLength (drop at s)) at s) (first-part at (drop at s))
+
+  slash-first : at < length s → wordLength (drop at s) ≡ 0 → components at (drop at s) ≡ components (at + 1) (drop (at + 1) s)
+  unfolding components sorted kept pieces same
+  slash-first h e = rw (here s at h) (go (eqb (getD s at 0) slash) refl (sym (word-cons (getD s at 0) (drop (at + 1) s)) ∙ rw (here s at h) at e))
+    where
+      go : (t : Bool) → eqb (getD s at 0) slash ≡ t → cond t 0 (suc (wordLength (drop (at + 1) s))) ≡ 0
+          → kept at (cond t ([] ∷ pieces (drop (at + 1) s)) (onto (getD s at 0) (pieces (drop (at + 1) s)))) ≡ kept (at + 1) (pieces (drop (at + 1) s))
+      go true q z = rw add-zero
+      go false q z = absurd (omega arith)
+
+-- ---- what a part is
+
+pub data Sort (w : List ℕ) : Type 0 where
+  empty : w ≡ [] → Sort w
+  single : w ≡ dot ∷ [] → Sort w
+  double : w ≡ dot ∷ dot ∷ [] → Sort w
+  plain : 0 < length w → ((at : ℕ) (ps : List Part) → sorted at w ps ≡ name at w ∷ ps) → Sort w
+
+some-bytes : (w : List ℕ) → same w [] ≡ false → 0 < length w
+unfolding same
+some-bytes [] e = absurd (false≢true (sym e))
+some-bytes (b ∷ w) e = omega arith
+
+pub sort : (w : List ℕ) → Sort w
+unfolding sorted
+sort w = go (same w []) (isDot w) (isDots w) refl refl refl
+  where
+    go : (x y z : Bool) → same w [] ≡ x → isDot w ≡ y → isDots w ≡ z → Sort w
+    go true y z a b c = empty (same-eq w [] a)
+    go false true z a b c = single (same-eq w (dot ∷ []) b)
+    go false false true a b c = double (same-eq w (dot ∷ dot ∷ []) c)
+    go false false false a b c = plain (some-bytes w a) (λ (at : ℕ) (ps : List Part). rw (a, b, c))
+
+-- ---- the tests of the code on the part from one place to another
+
+module _ (s : List ℕ) (at end : ℕ) (h : (at ≤ end) × (end ≤ length s)) where
+  pub is-empty : length (between s at end) ≡ 0 → End ≡ stepOf (sorted at (between s at end) [])
+  unfolding stepOf sorted same
+  is-empty e = go (between s at end) e
+    where
+      go : (p : List ℕ) → length p ≡ 0 → End ≡ stepOf (sorted at p [])
+      go [] e = refl
+      go (b ∷ p) e = absurd (omega arith)
+
+  pub is-single : isDot (between s at end) ≡ true → End ≡ stepOf (sorted at (between s at end) [])
+  unfolding stepOf sorted same
+  is-single e = rw (same-eq (between s at end) (dot ∷ []) e)
+
+  pub is-double : isDots (between s at end) ≡ true → Parent at end ≡ stepOf (sorted at (between s at end) [])
+  unfolding stepOf sorted same
+  is-double e =
+      let q = same-eq (between s at end) (dot ∷ dot ∷ []) e in
+      let n : end ≡ at + 2 = omega (arith, between-length s at end (h .0) (h .1), ap length q) in
+      rw q (ap (Parent at) n)
+
+  pub is-plain : (length (between s at end) ≡ 0 → ⊥) → isDot (between s at end) ≡ false → isDots (between s at end) ≡ false → Name at (end - at) end ≡ stepOf (sorted at (between s at end) [])
+  unfolding stepOf sorted
+  is-plain e x y =
+      let z : same (between s at end) [] ≡ false = sym (same-length (between s at end) [] e) in
+      let m : at + (end - at) ≡ end = omega arith in
+      rw (z, x, y, between-length s at end (h .0) (h .1), m)
+
+-- ---- one turn of the code: from the place i, by the part that stands there
+
+module _ (s : List ℕ) (i : ℕ) (h : i < length s) where
+  dropped : stepOf (sorted i (word s i) []) ≡ End → components i (drop i s) ≡ components (i + 1) (drop (i + 1) s)
+  unfolding stepOf sorted same
+  dropped e = go (sort (word s i))
+    where
+      go : Sort (word s i) → components i (drop i s) ≡ components (i + 1) (drop (i + 1) s)
+      go (empty q) = slash-first s i h (sym (word-length s i) ∙ ap length q)
+      go (single q) =
+          let n : wordLength (drop i s) ≡ 1 = sym (word-length s i) ∙ ap length q in
+          part-first s i ∙ rw (q, n)
+      go (double q) = absurd (let z : _≡_ {A = ℕ} 0 1 = cc (rw q at e) in omega arith)
+      go (plain l p) = absurd (let z : _≡_ {A = ℕ} 0 1 = cc (rw (p i []) at e) in omega arith)
+
+  found : (stepOf (sorted i (word s i) []) ≡ End → ⊥) → nextAt s i ≡ stepOf (sorted i (word s i) [])
+  unfolding nextAt stepOf sorted same
+  found e = rw (part-first s i) (go (sort (word s i)))
+    where
+      go : Sort (word s i) → stepOf (sorted i (word s i) (after s i)) ≡ stepOf (sorted i (word s i) [])
+      go (empty q) = absurd (e (rw q))
+      go (single q) = absurd (e (rw q))
+      go (double q) = rw q
+      go (plain l p) = rw (p i (after s i), p i [])
+
+  module _ {end : ℕ} {c : Component} (w : end ≡ wordEnd s i) (k : c ≡ stepOf (sorted i (between s i end) [])) where
+    told : c ≡ stepOf (sorted i (word s i) [])
+    told = k ∙ ap (λ (p : List ℕ). stepOf (sorted i p [])) (word-between s i w)
+
+    pub next-dropped : c ≡ End → nextAt s i ≡ nextAt s (i + 1)
+    unfolding nextAt
+    next-dropped e = ap stepOf (dropped (sym told ∙ e))
+
+    pub next-parent : {a n : ℕ} → c ≡ Parent a n → nextAt s i ≡ c
+    next-parent e = found (λ z. absurd (let f : _≡_ {A = ℕ} 0 1 = cc told in omega arith)) ∙ sym told
+
+    pub next-name : {a l n : ℕ} → c ≡ Name a l n → nextAt s i ≡ c
+    next-name e = found (λ z. absurd (let f : _≡_ {A = ℕ} 0 1 = cc told in omega arith)) ∙ sym told
+
+pub next-end : (s : List ℕ) (i : ℕ) → length s ≤ i → nextAt s i ≡ End
+unfolding nextAt stepOf components kept sorted pieces same
+next-end s i h = rw (drop-of-length-le s h)
+
+-- ---- the theorem: each answer is a step along the components
+
+-- a part of n bytes that starts at a place, and the place behind it, where the path goes on
+pub record Goes (s : List ℕ) (at : ℕ) (p : Part) (start n next : ℕ) : Type 0 where
+  pub parts : components at (drop at s) ≡ p ∷ components next (drop next s)
+  pub from : at ≤ start
+  pub some : 0 < n
+  pub end : start + n ≡ next
+  pub further : at < next
+  pub within : next ≤ length s
+
+abbrev pub Step : List ℕ → ℕ → Component → Type 0
+Step s at End = components at (drop at s) ≡ []
+Step s at (Parent start next) = Goes s at (parent start) start 2 next
+Step s at (Name start n next) = Goes s at (name start (part s start n)) start n next
+
+-- a step from one place is a step from the place before it, where nothing but dropped bytes stands between
+earlier : (s : List ℕ) (at : ℕ) (p : Part) (start n next : ℕ) → components at (drop at s) ≡ components (at + 1) (drop (at + 1) s) → Goes s (at + 1) p start n next → Goes s at p start n next
+earlier s at p start n next e g = record { parts = e ∙ g .parts; from = omega arith; some = g .some; end = g .end; further = omega arith; within = g .within }
+
+step-earlier : (s : List ℕ) (at : ℕ) (r : Component) → components at (drop at s) ≡ components (at + 1) (drop (at + 1) s) → Step s (at + 1) r → Step s at r
+step-earlier s at End e g = e ∙ g
+step-earlier s at (Parent start next) e g = earlier s at (parent start) start 2 next e g
+step-earlier s at (Name start n next) e g = earlier s at (name start (part s start n)) start n next e g
+
+module _ (s : List ℕ) (at : ℕ) (h : at < length s) where
+  step-here : Step s (at + 1) (nextAt s (at + 1)) → Step s at (nextAt s at)
+  unfolding nextAt stepOf sorted same
+  step-here g = go (sort (word s at))
+    where
+      fits : at + wordLength (drop at s) ≤ length s
+      fits = omega (arith, word-le (drop at s), length-drop at s)
+
+      by : (ps : List Part) → components at (drop at s) ≡ ps → Step s at (stepOf ps) → Step s at (nextAt s at)
+      by ps e p = subst (λ (ps : List Part). Step s at (stepOf ps)) (sym e) p
+
+      skip : components at (drop at s) ≡ components (at + 1) (drop (at + 1) s) → Step s at (nextAt s at)
+      skip e = by (components (at + 1) (drop (at + 1) s)) e (step-earlier s at (nextAt s (at + 1)) e g)
+
+      go : Sort (word s at) → Step s at (nextAt s at)
+      go (empty q) = skip (dropped s at h (rw q))
+      go (single q) = skip (dropped s at h (rw q))
+      go (double q) =
+          let n : wordLength (drop at s) ≡ 2 = sym (word-length s at) ∙ ap length q in
+          let e : components at (drop at s) ≡ parent at ∷ components (at + 2) (drop (at + 2) s) = part-first s at ∙ rw (q, n) in
+          by (parent at ∷ components (at + 2) (drop (at + 2) s)) e (record { parts = e; from = omega arith; some = omega arith; end = refl; further = omega arith; within = omega (arith, fits) })
+      go (plain l p) =
+          let e : components at (drop at s) ≡ name at (word s at) ∷ after s at = part-first s at ∙ p at (after s at) in
+          let n = word-length s at in
+          by (name at (word s at) ∷ after s at) e
+          (rw n (record { parts = e; from = omega arith; some = omega arith; end = refl; further = omega arith; within = fits }))
+
+steps-by : (k : ℕ) (s : List ℕ) (at : ℕ) → length s ≤ at + k → Step s at (nextAt s at)
+unfolding components kept pieces sorted same
+steps-by zero s at h =
+    let l : length s ≤ at = omega arith in
+    rw (next-end s at l, drop-of-length-le s l)
+steps-by (suc k) s at h = go (decLt at (length s)) (steps-by k s (at + 1) (omega arith))
+  where
+    go : Dec (at < length s) → Step s (at + 1) (nextAt s (at + 1)) → Step s at (nextAt s at)
+    go (yes l) p = step-here s at l p
+    go (no l) p =
+        let m : length s ≤ at = omega arith in
+        rw (next-end s at m, drop-of-length-le s m)
+
+pub steps : (s : List ℕ) (at : ℕ) → Step s at (nextAt s at)
+steps s at = steps-by (length s) s at (omega arith)
+
+-- the same of an answer of the code, known by its variant
+pub step-of : (s : List ℕ) (at : ℕ) {r q : Component} → r ≡ nextAt s at → r ≡ q → Step s at q
+step-of s at e f = subst (Step s at) (sym e ∙ f) (steps s at)
+
+-- ---- the theorem: stepping through a path yields its components
+
+pub stepped-from : (k : ℕ) (s : List ℕ) (at : ℕ) → length s < at + k → stepped k s at ≡ components at (drop at s)
+unfolding components kept pieces sorted same
+stepped-from zero s at h = let l : length s ≤ at = omega arith in rw (drop-of-length-le s l)
+stepped-from (suc k) s at h = go (nextAt s at) (steps s at) (λ (next : ℕ) (l : at < next). stepped-from k s next (omega arith))
+  where
+    go : (r : Component) → Step s at r → ((next : ℕ) → at < next → stepped k s next ≡ components next (drop next s)) → onStep r s (λ (next : ℕ). stepped k s next) ≡ components at (drop at s)
+    go End p ih = sym p
+    go (Parent start next) p ih = rw (ih next (p .further)) (sym (p .parts))
+    go (Name start n next) p ih = rw (ih next (p .further)) (sym (p .parts))
+
+pub stepped-all : (s : List ℕ) → stepped (suc (length s)) s 0 ≡ components 0 s
+stepped-all s = stepped-from (suc (length s)) s 0 (omega arith)

@@ -1,0 +1,47 @@
+-- One step along a path, read off the rules' list of its components.
+use Prim.Native.Nat.{ℕ, zero, suc, _+_, _-_}
+use mathlib.Core.List.{List, [], _∷_}
+use lib.ListN.{length, take, drop}
+use Rattle.rules.specs.Path.{Part, name, parent, pieces, components}
+use Rattle.path.specs.declared.components.Component.{Component}
+use Rattle.path.specs.declared.components.Component.the-variants.{Name, Parent, End}
+
+-- the n bytes of s from a place on
+abbrev pub part : List ℕ → ℕ → ℕ → List ℕ
+part s at n = take n (drop at s)
+
+-- the bytes of s from one place to another
+abbrev pub between : List ℕ → ℕ → ℕ → List ℕ
+between s at end = part s at (end - at)
+
+abbrev pub firstLength : List (List ℕ) → ℕ
+firstLength [] = 0
+firstLength (p ∷ ps) = length p
+
+-- how many bytes stand before the next slash: the first part between slashes
+unfoldable pub wordLength : List ℕ → ℕ
+wordLength s = firstLength (pieces s)
+
+-- where the part that stands at a place ends
+unfoldable pub wordEnd : List ℕ → ℕ → ℕ
+wordEnd path at = at + wordLength (drop at path)
+
+-- the first of these components, with the place where it starts and the place behind it
+unfoldable pub stepOf : List Part → Component
+stepOf [] = End
+stepOf (name at p ∷ ps) = Name at (length p) (at + length p)
+stepOf (parent at ∷ ps) = Parent at (at + 2)
+
+-- the next component of a path from a place on
+unfoldable pub nextAt : List ℕ → ℕ → Component
+nextAt path at = stepOf (components at (drop at path))
+
+-- the components that at most k steps yield, from a place on
+abbrev pub onStep : Component → List ℕ → (ℕ → List Part) → List Part
+onStep End path more = []
+onStep (Parent start next) path more = parent start ∷ more next
+onStep (Name start n next) path more = name start (part path start n) ∷ more next
+
+abbrev pub stepped : ℕ → List ℕ → ℕ → List Part
+stepped zero path at = []
+stepped (suc k) path at = onStep (nextAt path at) path (λ (next : ℕ). stepped k path next)

@@ -1,0 +1,88 @@
+// The components of a path, one after the other (R37), and its leading slash.
+use crate::names::is_dot;
+use crate::names::is_dots;
+ghost use mathlib.Core.Path.{_≡_};
+ghost use mathlib.Core.List.{[]};
+ghost use Prim.Native.Nat.{_≤_};
+ghost use lib.ListN.{length};
+ghost use Rattle.rules.specs.Path.{sorted, rooted};
+ghost use Rattle.path.specs.Steps.{between, wordEnd, stepOf, nextAt};
+
+pub enum Component {
+    Name {
+        start: usize,
+        len: usize,
+        next: usize,
+    },
+    Parent {
+        start: usize,
+        next: usize,
+    },
+    End,
+}
+
+// Whether the path has its leading slash (R36, R43).
+pub fn is_rooted(path: &[u8]) -> bool
+    ensures { λ r. ⌜ r ≡ rooted (now (path .entry)) ⌝ }
+{
+    if path.len() == 0 {
+        return false;
+    }
+    path[0] == b'/'
+}
+
+// Where the bytes from `at` on meet the next slash, or end (R37).
+pub fn word_end(path: &[u8], at: usize) -> usize
+    ensures { λ r. ⌜ r ≡ wordEnd (now (path .entry)) at ⌝ }
+{
+    let mut i = at;
+    while i < path.len() {
+        if path[i] == b'/' {
+            return i;
+        }
+        i += 1;
+    }
+    i
+}
+
+// The component that the part from `at` to `end` is; End where it is dropped.
+fn component_at(path: &[u8], at: usize, end: usize) -> Component
+    requires { ⌜ (at ≤ end) × (end ≤ length (now path)) ⌝ }
+    ensures { λ r. ⌜ r ≡ stepOf (sorted at (between (now (path .entry)) at end) []) ⌝ }
+{
+    let word = &path[at..end];
+    if word.len() == 0 {
+        return Component::End;
+    }
+    if is_dot(word) {
+        return Component::End;
+    }
+    if is_dots(word) {
+        return Component::Parent {
+            start: at,
+            next: end,
+        };
+    }
+    Component::Name {
+        start: at,
+        len: end - at,
+        next: end,
+    }
+}
+
+// The next component from `at` on, with the place where it starts and the place behind it (R37).
+pub fn next_component(path: &[u8], at: usize) -> Component
+    ensures { λ r. ⌜ r ≡ nextAt (now (path .entry)) at ⌝ }
+{
+    let mut i = at;
+    while i < path.len() {
+        let end = word_end(path, i);
+        let c = component_at(path, i, end);
+        match c {
+            Component::End => i += 1,
+            Component::Parent { .. } => return c,
+            Component::Name { .. } => return c,
+        }
+    }
+    Component::End
+}

@@ -1,0 +1,66 @@
+// One name: `.`, `..`, a byte in it, and the component check.
+ghost use mathlib.Core.Path.{_≡_};
+ghost use Rattle.rules.specs.Bytes.{holds};
+ghost use Rattle.rules.specs.Path.{isDot, isDots};
+ghost use Rattle.path.specs.Checks.{code, checkCode};
+
+pub enum Checked {
+    Done,
+    Inval,
+}
+
+// Whether the name is `.` (R37).
+pub fn is_dot(name: &[u8]) -> bool
+    ensures { λ r. ⌜ r ≡ isDot (now (name .entry)) ⌝ }
+{
+    if name.len() != 1 {
+        return false;
+    }
+    name[0] == b'.'
+}
+
+// Whether the name is `..` (R37).
+pub fn is_dots(name: &[u8]) -> bool
+    ensures { λ r. ⌜ r ≡ isDots (now (name .entry)) ⌝ }
+{
+    if name.len() != 2 {
+        return false;
+    }
+    if name[0] != b'.' {
+        return false;
+    }
+    name[1] == b'.'
+}
+
+// Whether the byte stands in the name (R57, R61).
+pub fn has_byte(name: &[u8], b: u8) -> bool
+    ensures { λ r. ⌜ r ≡ holds b (now (name .entry)) ⌝ }
+{
+    let mut i = 0;
+    while i < name.len() {
+        if name[i] == b {
+            return true;
+        }
+        i += 1;
+    }
+    false
+}
+
+// The check of one component: `.`, `..`, a slash or a byte 0 is refused (R61, R62).
+pub fn validate_path_component(name: &[u8]) -> Checked
+    ensures { λ r. ⌜ code r ≡ checkCode (now (name .entry)) ⌝ }
+{
+    if is_dot(name) {
+        return Checked::Inval;
+    }
+    if is_dots(name) {
+        return Checked::Inval;
+    }
+    if has_byte(name, b'/') {
+        return Checked::Inval;
+    }
+    if has_byte(name, 0) {
+        return Checked::Inval;
+    }
+    Checked::Done
+}
