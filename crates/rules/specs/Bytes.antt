@@ -7,14 +7,14 @@ use mathlib.Core.List.{List, [], _∷_}
 use lib.ListN.{getD}
 use lib.Dec.{eqb}
 
--- the two are equal
+-- the two are equal, byte for byte (R45)
 unfoldable pub same : List ℕ → List ℕ → Bool
 same [] [] = true
 same [] (y ∷ ys) = false
 same (x ∷ xs) [] = false
 same (x ∷ xs) (y ∷ ys) = eqb x y && same xs ys
 
--- the byte stands in the string
+-- the byte stands in the string (R57, R61)
 unfoldable pub holds : ℕ → List ℕ → Bool
 holds b [] = false
 holds b (x ∷ xs) = eqb x b || holds b xs

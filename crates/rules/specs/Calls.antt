@@ -10,6 +10,7 @@ use Rattle.rules.specs.Lookup.{routeRule, lookupRule, remapRule}
 use Rattle.rules.specs.Listing.{ListRequest, listRule}
 use Rattle.rules.specs.Restore.{saveRule, restoreRule}
 
+-- the calls on an instance (R1); creation stands apart
 pub data Call : Type 0 where
   mount : Request → Call
   restore-mount : ℕ → Request → Call
@@ -26,6 +27,7 @@ pub data Call : Type 0 where
   save : ℕ → Call
   restore : List ℕ → Call
 
+-- the rule of each call: every request has an outcome (R4); the remove call sets its flag at any time (R32)
 unfoldable pub rule : Instance → Call → Outcome
 rule i (mount r) = mountRule i r
 rule i (restore-mount k r) = restoreMountRule i k r

@@ -10,27 +10,29 @@ use Rattle.rules.specs.Ids.{Mapping, badMapping}
 use Rattle.rules.specs.Instance.{Fixed, Options, Instance, newIndexes, newTree}
 use Rattle.rules.specs.Outcome.{_⇒_, firstOf}
 
+-- what creation takes: N, the mask of known option bits, the options (R26, R27)
 pub record Creation : Type 0 where
   pub capacity : ℕ
   pub known : ℕ
   pub options : Options
 
--- N outside its limits, or too few bytes for it
+-- N outside its limits, or too few bytes for it (R9, R20)
 unfoldable pub tooSmall : ℕ → ℕ → Bool
 tooSmall bytes n = ltb n 1 || ltb maxNodes n || ltb bytes (storageFor n)
 
--- a bit outside the mask
+-- a bit outside the mask (R28)
 unfoldable pub outside : ℕ → ℕ → Bool
 outside known bits = not (eqb (bitAnd bits known) bits)
 
--- an option bit of either word outside the mask of known bits
+-- an option bit of either word outside the mask of known bits (R28, R130)
 unfoldable pub unknown : ℕ → Options → Bool
 unknown known o = outside known (o .inOpts) || outside known (o .outOpts)
 
--- at creation also a flag above bit 5
+-- at creation also a flag above bit 5 (R28, R29)
 unfoldable pub badOptions : ℕ → Options → Bool
 badOptions known o = unknown known o || ltb 63 (o .flags)
 
+-- the root alone, no mount, the given options; removal unset, `initialized` false; the mapping given is the one in force (R31 to R34)
 unfoldable pub newInstance : Creation → Instance
 newInstance q = record {
   fixed = record { capacity = q .capacity; known = q .known; mapping = q .options .mapping };
@@ -46,10 +48,11 @@ pub record Created : Type 0 where
   pub code : ℕ
   pub instance : Option Instance
 
+-- refused: nothing is made
 abbrev pub uncreated : ℕ → Created
 uncreated code = record { code = code; instance = none }
 
--- with so many bytes of storage
+-- creation with so many bytes of storage: SMALL first, then BADOPT, BADMAP, or done (R19, R26)
 unfoldable pub createRule : ℕ → Creation → Created
 createRule bytes q =
     firstOf

@@ -21,33 +21,34 @@ use Rattle.rules.specs.Calls.{Call, restore, rule}
 abbrev pub Typed : Call → Type 0
 Typed c = (b : List ℕ) → c ≡ restore b → Bytes b
 
--- the mask is a number of 64 bits
+-- a done creation, whose mask is a number of 64 bits; then any calls
 pub data Driven : Instance → Type 0 where
   creation : (bytes : ℕ) (q : Creation) (i : Instance) → q .known < 2 ^ 64 → createRule bytes q .instance ≡ some i → Driven i
   call : (i j : Instance) (c : Call) → Typed c → Driven i → rule i c .after ≡ j → Driven j
 
 -- ---- the nodes, their mounts left aside
 
--- numbers rise, from low on, below high
+-- numbers rise, from low on, below high (R49, R126)
 unfoldable pub Rises : ℕ → List Entry → ℕ → Type 0
 Rises low [] high = low ≤ high
 Rises low (e ∷ es) high = (low ≤ e .number) × Rises (e .number + 1) es high
 
--- each parent's number is from 1 up and below the node's
+-- each parent's number is from 1 up and below the node's (R48)
 unfoldable pub Below : List Entry → Type 0
 Below [] = Unit {0}
 Below (e ∷ es) = (1 ≤ e .above) × (e .above < e .number) × Below es
 
--- each name has 1 to 255 bytes, is UTF-8, has no slash, and is not `.` or `..`
+-- each name has 1 to 255 bytes, is UTF-8, has no slash, and is not `.` or `..` (R10, R37)
 unfoldable pub Named : List Entry → Type 0
 Named [] = Unit {0}
 Named (e ∷ es) = (goodName (e .called) ≡ true) × Named es
 
--- no name stands twice under one parent
+-- no name stands twice under one parent (R45, R48)
 unfoldable pub Unique : List Entry → Type 0
 Unique [] = Unit {0}
 Unique (e ∷ es) = (used (e .above) (e .called) es ≡ false) × Unique es
 
+-- what holds of the nodes
 pub record Shape (es : List Entry) (next : ℕ) : Type 0 where
   pub rises : Rises 2 es next
   pub below : Below es
@@ -56,10 +57,12 @@ pub record Shape (es : List Entry) (next : ℕ) : Type 0 where
 
 -- ---- mounts
 
+-- the mount is there, and has that index
 abbrev pub IsAt : ℕ → Option Mount → Type 0
 IsAt k none = ⊥
 IsAt k (some m) = m .index ≡ k
 
+-- a mount of that index stands on one of the nodes
 unfoldable pub MountIn : ℕ → List Node → Type 0
 MountIn k [] = ⊥
 MountIn k (n ∷ ns) = IsAt k (n .mount) ⊎ MountIn k ns
@@ -70,6 +73,7 @@ Mounted k t = IsAt k (t .root) ⊎ MountIn k (t .nodes)
 
 -- ---- what holds
 
+-- tree (R9, R10, R48, R49, R67), mask and options (R28, R29), mapping in force (R30), slots and counter (R31), and a mount for each held slot (R76, R98)
 pub record Facts (i : Instance) : Type 0 where
   pub shape : Shape (entriesFor (i .tree .nodes)) (i .tree .next)
   pub top : i .tree .next ≤ topNumber
@@ -83,12 +87,13 @@ pub record Facts (i : Instance) : Type 0 where
   pub counter : counterOf i < 256
   pub held : (k : ℕ) → heldIn i k ≡ true → Mounted k (i .tree)
 
+-- of every driven instance
 abbrev pub EveryDriven : Type 0
 EveryDriven = (i : Instance) → Driven i → Facts i
 
 -- ---- save and restore
 
--- each node's parent is the root or live
+-- each node's parent is the root or live (R135)
 unfoldable pub Present : List Node → List Node → Type 0
 Present all [] = Unit {0}
 Present all (n ∷ ns) = (isKnown all (n .above) ≡ true) × Present all ns

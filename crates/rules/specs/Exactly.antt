@@ -24,36 +24,39 @@ use Rattle.rules.specs.Saved.{encode, accepted, stateOf}
 use Rattle.rules.specs.Restore.{saved, fresh}
 use Rattle.rules.specs.Calls.{Call, mount, restore-mount, umount, set-remove-pseudo-root, path-walk, get-rootfs, route, lookup, readdir, remap-attr-id, options, initialized, save, restore, rule}
 
--- a test, and the number that answers where it is the first that holds
+-- a test, and the number that answers where it is the first that holds (R18)
 pub record Test : Type 0 where
   pub holds : Bool
   pub number : ℕ
 
 infix 20 _⟼_
+-- a test and its number
 abbrev pub _⟼_ : Bool → ℕ → Test
 b ⟼ k = record { holds = b; number = k }
 
--- the first test that holds has the number k; where none holds, k is 0
+-- the first test that holds has the number k; where none holds, k is 0 (R18)
 abbrev pub FirstIs : ℕ → List Test → Type 0
 FirstIs k [] = k ≡ 0
 FirstIs k (t ∷ ts) = ((t .holds ≡ true) × (k ≡ t .number)) ⊎ ((t .holds ≡ false) × FirstIs k ts)
 
--- a number is answered exactly then
+-- a number is answered exactly then (R15, R18)
 abbrev pub Decides : ℕ → List Test → Type 0
 Decides code ts = (k : ℕ) → (code ≡ k) ↔ FirstIs k ts
 
--- more nodes than N, or numbers than there are
+-- more nodes than N, or numbers than there are (R67)
 abbrev pub lacksRoom : Instance → List ℕ → Bool
 lacksRoom i path = ltb (i .fixed .capacity) (live i + needed (i .tree) path) || ltb topNumber (i .tree .next + needed (i .tree) path)
 
--- no index from 1 to 255 is free
+-- no index from 1 to 255 is free (R72, R84)
 abbrev pub noIndex : Instance → Bool
 noIndex i = isNone (allocate (heldIn i) (i .indexes .counter) .found)
 
+-- there is a mount, and the slot of its index is empty (R103, R105)
 abbrev pub slotEmpty : Instance → Option Mount → Bool
 slotEmpty i none = false
 slotEmpty i (some m) = isNone (tagOf i (m .index))
 
+-- rows 1 to 7 of a mount (R68 to R74)
 abbrev pub mountTests : Instance → Request → List Test
 mountTests i r =
     (tooLong (r .path) ⟼ TOOLONG)
@@ -65,6 +68,7 @@ mountTests i r =
     ∷ (ltb maxIno (r .root) ⟼ INODE)
     ∷ []
 
+-- rows 1, 2, BADINDEX, 3, 4, 6, 7 of a restored mount (R91)
 abbrev pub restoreMountTests : Instance → ℕ → Request → List Test
 restoreMountTests i k r =
     (tooLong (r .path) ⟼ TOOLONG)
@@ -76,13 +80,15 @@ restoreMountTests i k r =
     ∷ (ltb maxIno (r .root) ⟼ INODE)
     ∷ []
 
+-- not UTF-8, then no leading slash, then more (R36)
 abbrev pub pathTests : List ℕ → List Test → List Test
 pathTests path ts = (not (wellFormed path) ⟼ INVAL) ∷ (not (rooted path) ⟼ INVAL) ∷ ts
 
--- the number asked for is the root's, and the root has a mount
+-- the number asked for is the root's, and the root has a mount (R105)
 abbrev pub diverted : Instance → ℕ → Bool
 diverted i x = eqb (numberOf x) rootNumber && not (isNone (i .tree .root))
 
+-- the tests of each call (R47, R57 to R59, R63, R68 to R74, R91, R96, R103, R105, R106, R125, R128 to R131)
 abbrev pub tests : Instance → Call → List Test
 tests i (mount r) = mountTests i r
 tests i (restore-mount k r) = restoreMountTests i k r
@@ -116,6 +122,7 @@ tests i (restore b) =
     ∷ (ltb (i .fixed .capacity) (1 + length (stateOf b .nodes)) ⟼ NOROOM)
     ∷ []
 
+-- the tests of creation (R26, R28, R29, R30)
 abbrev pub createTests : ℕ → Creation → List Test
 createTests bytes q =
     (ltb (q .capacity) 1 ⟼ SMALL)
@@ -128,6 +135,6 @@ createTests bytes q =
     ∷ (ltb 4294967295 (q .options .mapping .external + q .options .mapping .range) ⟼ BADMAP)
     ∷ []
 
--- of every call on every instance, and of creation
+-- of every call on every instance, and of creation (R15, R18)
 abbrev pub Exactly : Type 0
 Exactly = ((i : Instance) (c : Call) → Decides (rule i c .code) (tests i c)) × ((bytes : ℕ) (q : Creation) → Decides (createRule bytes q .code) (createTests bytes q))

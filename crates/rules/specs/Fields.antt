@@ -8,12 +8,12 @@ unfoldable pub read : List ℕ → ℕ → ℕ → List ℕ
 read b at zero = []
 read b at (suc k) = getD b at 0 ∷ read b (at + 1) k
 
--- the number that bytes spell
+-- the number that bytes spell, the lowest byte first (R167)
 unfoldable pub value : List ℕ → ℕ
 value [] = 0
 value (b ∷ bs) = b + 256 * value bs
 
--- a number in k bytes
+-- a number in k bytes, the lowest byte first (R167)
 unfoldable pub bytesOf : ℕ → ℕ → List ℕ
 bytesOf zero v = []
 bytesOf (suc k) v = v % 256 ∷ bytesOf k (v / 256)
@@ -22,7 +22,7 @@ bytesOf (suc k) v = v % 256 ∷ bytesOf k (v / 256)
 unfoldable pub get : ℕ → List ℕ → ℕ → ℕ
 get k b at = value (read b at k)
 
--- a row of fields, written: the widths and the values
+-- a row of fields, written: the widths and the values (R64, R120, R121, R123)
 unfoldable pub fields : List ℕ → List ℕ → List ℕ
 fields [] vs = []
 fields (w ∷ ws) [] = []

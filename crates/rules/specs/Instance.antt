@@ -9,34 +9,36 @@ use Rattle.rules.specs.Numbers.{rootNumber, firstNumber, indexes}
 use Rattle.rules.specs.Ids.{Mapping}
 use Rattle.rules.specs.Tree.{Mount, Node, nodeIn, mountAt, without}
 
--- what creation fixes for good: N, the mask of known option bits, the mapping in force
+-- what creation fixes for good: N, the mask of known option bits, the mapping in force (R9, R26, R34)
 pub record Fixed : Type 0 where
   pub capacity : ℕ
   pub known : ℕ
   pub mapping : Mapping
 
--- the options; a restore replaces them, their own mapping too
+-- the options; a restore replaces them, their own mapping too (R27, R34)
 pub record Options : Type 0 where
   pub inOpts : ℕ
   pub outOpts : ℕ
   pub mapping : Mapping
   pub flags : ℕ
 
+-- a slot: held or not, and its tag (R56)
 pub record Slot : Type 0 where
   pub held : Bool
   pub tag : ℕ
 
--- the 256 index slots and the counter
+-- the 256 index slots and the counter (R31)
 pub record Indexes : Type 0 where
   pub slots : List Slot
   pub counter : ℕ
 
--- the next number, the root's mount, and the live nodes, root left out, in creation order
+-- the next number, the root's mount, and the live nodes, root left out, in the order in which they were made (R44, R49)
 pub record Tree : Type 0 where
   pub next : ℕ
   pub root : Option Mount
   pub nodes : List Node
 
+-- the tables; `removal` is `remove_pseudo_root` (R32), `initialized` is as in R33 and R134
 pub record Instance : Type 0 where
   pub fixed : Fixed
   pub removal : Bool
@@ -47,59 +49,72 @@ pub record Instance : Type 0 where
 
 -- ---- an instance with one part changed
 
+-- the slots and the counter changed
 abbrev pub withIndexes : Indexes → Instance → Instance
 withIndexes x i = record { fixed = i .fixed; removal = i .removal; initialized = i .initialized; options = i .options; indexes = x; tree = i .tree }
 
+-- the tree changed
 abbrev pub withTree : Tree → Instance → Instance
 withTree t i = record { fixed = i .fixed; removal = i .removal; initialized = i .initialized; options = i .options; indexes = i .indexes; tree = t }
 
+-- `remove_pseudo_root` is set; nothing unsets it (R32)
 abbrev pub removing : Instance → Instance
 removing i = record { fixed = i .fixed; removal = true; initialized = i .initialized; options = i .options; indexes = i .indexes; tree = i .tree }
 
+-- the counter
 abbrev pub counterOf : Instance → ℕ
 counterOf i = i .indexes .counter
 
+-- the counter changed
 abbrev pub withCounter : ℕ → Instance → Instance
 withCounter c i = withIndexes (record { slots = i .indexes .slots; counter = c }) i
 
 -- ---- slots
 
+-- an empty slot, as new and as freed: its tag is 0 (R31, R56)
 abbrev pub emptySlot : Slot
 emptySlot = record { held = false; tag = 0 }
 
+-- a slot held with a tag, 0 included (R76, R78)
 abbrev pub heldBy : ℕ → Slot
 heldBy t = record { held = true; tag = t }
 
+-- the slot of an index
 abbrev pub slotOf : Instance → ℕ → Slot
 slotOf i k = getD (i .indexes .slots) k emptySlot
 
--- the tag in a slot, or none
+-- the tag in a slot, or none, which is kept apart from tag 0 (R78, R97)
 abbrev pub tagIn : Slot → Option ℕ
 tagIn s = cond (s .held) (some (s .tag)) none
 
+-- the tag in the slot of an index, or none
 abbrev pub tagOf : Instance → ℕ → Option ℕ
 tagOf i k = tagIn (slotOf i k)
 
+-- the slot of an index is held (R81)
 abbrev pub heldIn : Instance → ℕ → Bool
 heldIn i k = slotOf i k .held
 
+-- the slot of an index changed
 abbrev pub withSlot : ℕ → Slot → Instance → Instance
 withSlot k s i = withIndexes (record { slots = set (i .indexes .slots) k s; counter = i .indexes .counter }) i
 
--- a new instance's: 256 empty slots, counter 1
+-- a new instance's: 256 empty slots, counter 1 (R31)
 abbrev pub newIndexes : Indexes
 newIndexes = record { slots = replicate indexes emptySlot; counter = 1 }
 
 -- ---- mounts
 
+-- the mount on a node that was found
 abbrev pub mountIn : Option Node → Option Mount
 mountIn none = none
 mountIn (some n) = n .mount
 
--- the mount on a node; 1 is the root before any node is asked
+-- the mount on a node; 1 is the root before any node is asked (R52, R53)
 unfoldable pub mountOf : Tree → ℕ → Option Mount
 mountOf t x = cond (eqb x rootNumber) (t .root) (mountIn (nodeIn (t .nodes) x))
 
+-- the node has that mount, or none; 1 is the root before any node is asked (R52, R53, R76, R98)
 unfoldable pub setMount : Tree → ℕ → Option Mount → Tree
 setMount t x m =
     cond (eqb x rootNumber)
@@ -108,17 +123,18 @@ setMount t x m =
 
 -- ---- nodes
 
--- a new instance's tree: the root alone
+-- a new instance's tree: the root alone, next number 2 (R12, R31)
 abbrev pub newTree : Tree
 newTree = record { next = firstNumber; root = none; nodes = [] }
 
--- the nodes that a mount walk made are live
+-- the nodes that a mount walk made stand last, and the next number has risen by one for each (R48, R49)
 abbrev pub grown : List Node → Tree → Tree
 grown made t = record { next = t .next + length made; root = t .root; nodes = t .nodes ++ made }
 
+-- a node is taken out; the next number stays (R49, R100)
 abbrev pub cut : ℕ → Tree → Tree
 cut x t = record { next = t .next; root = t .root; nodes = without (t .nodes) x }
 
--- the root and the live nodes
+-- the root and all nodes of the table, reachable or not; what was removed counts no more (R9, R25, R51)
 abbrev pub live : Instance → ℕ
 live i = 1 + length (i .tree .nodes)

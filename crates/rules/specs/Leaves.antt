@@ -11,27 +11,27 @@ use Rattle.rules.specs.Outcome.{nothing, Outcome, count}
 use Rattle.rules.specs.Mount.{Request, walkedTo}
 use Rattle.rules.specs.Calls.{Call, mount, restore-mount, rule}
 
--- the counter moved by the call's count
+-- the counter moved by the call's count (R83)
 abbrev pub moved : Instance → Outcome → Instance
 moved i o = withCounter ((counterOf i + count o) % 256) i
 
--- a mount refused for its missing slash: the counter alone
+-- a mount refused for its missing slash: the counter alone (R73)
 pub record Row6 (i : Instance) (c : Call) (o : Outcome) (r : Request) : Type 0 where
   pub call : c ≡ mount r
   pub slash : rooted (r .path) ≡ false
   pub leaves : o .after ≡ moved i o
 
--- a mount refused for its root number: the counter, the next number, and the nodes made behind the others
+-- a mount refused for its root number: the counter, the next number, and the nodes made behind the others (R74)
 pub record Row7 (i : Instance) (c : Call) (o : Outcome) (r : Request) : Type 0 where
   pub call : c ≡ mount r
   pub leaves : o .after ≡ walkedTo (r .path) (moved i o)
 
--- the same of a restored mount, without the counter
+-- the same of a restored mount, without the counter (R92)
 pub record RestoredRow7 (i : Instance) (c : Call) (o : Outcome) (k : ℕ) (r : Request) : Type 0 where
   pub call : c ≡ restore-mount k r
   pub leaves : o .after ≡ walkedTo (r .path) i
 
--- what the outcome o of the call c on the instance i leaves
+-- what the outcome o of the call c on the instance i leaves, by its number (R15), with every value none and nothing written (R16, R17)
 pub record Leaves (i : Instance) (c : Call) (o : Outcome) : Type 0 where
   pub full : o .code ≡ FULL → o .after ≡ withCounter ((counterOf i + 1) % 256) i
   pub inval : o .code ≡ INVAL → (o .after ≡ i) ⊎ ((r : Request) × Row6 i c o r)
@@ -39,5 +39,6 @@ pub record Leaves (i : Instance) (c : Call) (o : Outcome) : Type 0 where
   pub others : (o .code ≡ 0 → ⊥) → (o .code ≡ FULL → ⊥) → (o .code ≡ INVAL → ⊥) → (o .code ≡ INODE → ⊥) → o .after ≡ i
   pub values : (o .code ≡ 0 → ⊥) → (o .answer ≡ nothing) × (o .written ≡ [])
 
+-- of every call on every instance (R15, R16, R17)
 abbrev pub EveryRefusal : Type 0
 EveryRefusal = (i : Instance) (c : Call) → Leaves i c (rule i c)

@@ -10,39 +10,40 @@ use Rattle.rules.specs.Tree.{Node, isKnown, childrenIn}
 use Rattle.rules.specs.Instance.{Instance}
 use Rattle.rules.specs.Outcome.{Outcome, refused, writes, _⇒_, firstOf}
 
--- the zeros behind n bytes, up to a multiple of 8
+-- the zeros behind n bytes, up to a multiple of 8 (R64)
 abbrev pub padding : ℕ → ℕ
 padding n = (8 - n % 8) % 8
 
--- a fixed part, the name, and zeros to a multiple of 8
+-- a fixed part, the name, and zeros to a multiple of 8 (R64)
 unfoldable pub recordOf : List ℕ → List ℕ → List ℕ
 recordOf front p = front ++ (p ++ replicate (padding (length front + length p)) 0)
 
--- node number, offset, name length, type
+-- node number, offset, name length, type (R64)
 abbrev pub direntRow : List ℕ
 direntRow = 8 ∷ 8 ∷ 4 ∷ 4 ∷ []
 
--- the directory entry of the child at a place; its offset is the place + 1
+-- the directory entry of the child at a place; its offset is the place + 1, its type 0 (R64)
 unfoldable pub dirent : ℕ → Node → List ℕ
 dirent place n = recordOf (fields direntRow (n .number ∷ (place + 1) ∷ length (n .called) ∷ 0 ∷ [])) (n .called)
 
--- of the children from a place on
+-- of the children from a place on (R64)
 unfoldable pub direntsFrom : ℕ → List Node → List (List ℕ)
 direntsFrom place [] = []
 direntsFrom place (n ∷ ns) = dirent place n ∷ direntsFrom (place + 1) ns
 
--- each record behind the one before it, stopping at the first that does not fit
+-- each record behind the one before it, whole ones only, stopping at the first that does not fit (R65)
 unfoldable pub laid : ℕ → List (List ℕ) → List ℕ
 laid room [] = []
 laid room (r ∷ rs) = cond (leb (length r) room) (r ++ laid (room - length r) rs) []
 
--- a node number, the size asked for, the offset, and the length of the lent buffer
+-- a node number, the size asked for, the offset, and the length of the lent buffer (R60, R66)
 pub record ListRequest : Type 0 where
   pub node : ℕ
   pub size : ℕ
   pub offset : ℕ
   pub buffer : ℕ
 
+-- size 0 is done with nothing; an unknown node is NOENT; else the records from the offset on, none where it is past the children (R63 to R66)
 unfoldable pub listRule : Instance → ListRequest → Outcome
 listRule i q =
     firstOf

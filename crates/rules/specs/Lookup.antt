@@ -15,16 +15,17 @@ use Rattle.rules.specs.Outcome.{toTree, toBackend, entry, ids, Outcome, 
 
 -- ---- routing, of a full number
 
--- an index to its tag
+-- an index to its tag, or NOENT where its slot is empty (R105, R106)
 unfoldable pub routeTag : Instance → ℕ → ℕ → Option ℕ → Outcome
 routeTag i k number none = refused NOENT i
 routeTag i k number (some t) = says (toBackend t k number) i
 
--- index 0: number 1 with a mount on the root goes there, all else to the tree
+-- index 0: number 1 with a mount on the root goes there, all else to the tree, known or not (R105, R107)
 unfoldable pub routeTree : Instance → ℕ → Option Mount → Outcome
 routeTree i x none = says (toTree x) i
 routeTree i x (some m) = cond (eqb x rootNumber) (routeTag i (m .index) (m .root) (tagOf i (m .index))) (says (toTree x) i)
 
+-- by the index of the full number (R60, R105, R106)
 unfoldable pub routeRule : Instance → ℕ → Outcome
 routeRule i x =
     cond (eqb (indexOf x) 0)
@@ -33,22 +34,25 @@ routeRule i x =
 
 -- ---- lookup, of a node number and a name
 
+-- an id by the mapping in force (R118)
 abbrev pub outward : Instance → ℕ → ℕ
 outward i id = mapped (i .fixed .mapping) id
 
--- the stored root entry has its ids mapped once; a lookup maps them again
+-- the stored root entry has its ids mapped once; a lookup maps them again (R77, R108)
 abbrev pub twice : Instance → ℕ → ℕ
 twice i id = outward i (outward i id)
 
--- the entry of a node that was found, by the mount on it
+-- the entry of a node that was found: the pseudo entry (R13, R110), or by the mount on it the root entry, whether or not its slot is held (R108, R109, R111)
 unfoldable pub entryOf : Instance → ℕ → Option Mount → Outcome
 entryOf i x none = says (entry (full 0 x) dirMode (outward i 0) (outward i 0) blockSize) i
 entryOf i x (some m) = says (entry (full (m .index) (m .root)) (m .mode) (twice i (m .uid)) (twice i (m .gid)) 0) i
 
+-- of what was found (R59)
 unfoldable pub entryAt : Instance → Option ℕ → Outcome
 entryAt i none = refused NOENT i
 entryAt i (some x) = entryOf i x (mountOf (i .tree) x)
 
+-- NOENT for an unknown node, INVAL for a bad name, then `.`, `..`, or the child of that name (R57 to R60)
 unfoldable pub lookupRule : Instance → ℕ → List ℕ → Outcome
 lookupRule i x p =
     firstOf
@@ -61,9 +65,11 @@ lookupRule i x p =
 
 -- ---- ids
 
+-- out or back, by the mapping in force (R113, R114, R118)
 abbrev pub remapped : Bool → Instance → ℕ → ℕ
 remapped true i id = mapped (i .fixed .mapping) id
 remapped false i id = unmapped (i .fixed .mapping) id
 
+-- uid and gid by the mapping in force (R118)
 unfoldable pub remapRule : Instance → Bool → ℕ → ℕ → Outcome
 remapRule i out uid gid = says (ids (remapped out i uid) (remapped out i gid)) i

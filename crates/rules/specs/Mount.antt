@@ -13,6 +13,7 @@ use Rattle.rules.specs.Round.{Allocation, allocate}
 use Rattle.rules.specs.Instance.{Tree, Instance, withTree, withCounter, withSlot, emptySlot, heldBy, tagOf, heldIn, mountOf, setMount, grown, live}
 use Rattle.rules.specs.Outcome.{Answer, nothing, mounted, restored, Outcome, refused, says, _⇒_, firstOf}
 
+-- a mount request: a path, a tag, the root number, the largest number, uid, gid and mode (R3)
 pub record Request : Type 0 where
   pub path : List ℕ
   pub tag : ℕ
@@ -24,21 +25,23 @@ pub record Request : Type 0 where
 
 -- ---- the mount walk
 
--- what it makes, and the node where it ends
+-- what the mount walk makes, and the node where it ends (R48)
 unfoldable pub planned : Tree → List ℕ → Made
 planned t path = makes (t .nodes) (t .next) atRoot (components 0 path)
 
+-- the number of nodes that the mount walk would make (R50)
 unfoldable pub needed : Tree → List ℕ → ℕ
 needed t path = length (planned t path .nodes)
 
--- live plus needed nodes exceed N, or the next number plus needed exceeds 2^56
+-- live plus needed nodes exceed N, or the next number plus needed exceeds 2^56 (R67)
 unfoldable pub noRoom : Instance → List ℕ → Bool
 noRoom i path = ltb (i .fixed .capacity) (live i + needed (i .tree) path) || ltb topNumber (i .tree .next + needed (i .tree) path)
 
+-- the node where the mount walk ends
 abbrev pub ended : Instance → List ℕ → ℕ
 ended i path = planned (i .tree) path .here
 
--- the nodes made are live
+-- the nodes made are live (R48)
 abbrev pub walkedTo : List ℕ → Instance → Instance
 walkedTo path i = withTree (grown (planned (i .tree) path .nodes) (i .tree)) i
 
@@ -48,20 +51,21 @@ mountThere i path = mountOf (walkedTo path i .tree) (ended i path)
 
 -- ---- the change
 
--- a mount that was there loses its index
+-- a mount that was there loses its index: its slot is emptied (R56, R76)
 unfoldable pub freed : Option Mount → Instance → Instance
 freed none i = i
 freed (some m) i = withSlot (m .index) emptySlot i
 
--- the tag that a mount's index holds
+-- the tag that a mount's index holds, whoever put it there (R78)
 unfoldable pub tagAt : Option Mount → Instance → Option ℕ
 tagAt none i = none
 tagAt (some m) i = tagOf i (m .index)
 
+-- the mount of a request at an index; the numbers are converted and mapped where they are answered (R77, R108)
 abbrev pub mountOn : ℕ → Request → Mount
 mountOn k r = record { index = k; root = r .root; uid = r .uid; gid = r .gid; mode = r .mode }
 
--- the old index is freed before the new tag is set
+-- the old index is freed before the new tag is set, and the mount is on the node (R76, R93)
 unfoldable pub placed : ℕ → Request → ℕ → Instance → Instance
 placed k r x i =
     let j = freed (mountOf (i .tree) x) i in
@@ -69,18 +73,19 @@ placed k r x i =
 
 -- ---- mount
 
--- the allocation of a mount
+-- the allocation of a mount: the search by value, with the slots as they are before it (R90)
 unfoldable pub allocation : Instance → Allocation
 allocation i = allocate (heldIn i) (i .indexes .counter)
 
+-- the counter has moved (R83)
 abbrev pub stepped : Instance → Instance
 stepped i = withCounter (allocation i .counter) i
 
--- with the allocation that the instance before gives
+-- with the allocation that the instance before gives: refused or done, its index is handed out and its visits count (R79, R85)
 abbrev pub allocated : Instance → ℕ → Answer → Instance → Outcome
 allocated i code a j = record { code = code; answer = a; visits = allocation i .visits; found = allocation i .found; written = []; after = j }
 
--- rows 5 to 8, by what the allocation found
+-- rows 5 to 8, by what the allocation found: FULL, INVAL, INODE, done (R72 to R79)
 unfoldable pub mountAs : Instance → Request → Option ℕ → Outcome
 mountAs i r none = allocated i FULL nothing (stepped i)
 mountAs i r (some k) =
@@ -90,7 +95,7 @@ mountAs i r (some k) =
     ∷ [])
     (allocated i 0 (mounted k (tagAt (mountThere i (r .path)) i)) (placed k r (ended i (r .path)) (walkedTo (r .path) (stepped i))))
 
--- rows 1 to 4, then the rest
+-- rows 1 to 4, which visit nothing: TOOLONG, INVAL, INODE, NOROOM; then the rest (R68 to R71, R79)
 unfoldable pub mountRule : Instance → Request → Outcome
 mountRule i r =
     firstOf
@@ -103,6 +108,7 @@ mountRule i r =
 
 -- ---- restored mount: rows 1, 2, BADINDEX, 3, 4, 6, 7, 8; no allocation
 
+-- rows 1, 2, BADINDEX, 3, 4, 6, 7, 8, with the index given; the counter stays; what then still stands in the slot is displaced (R91 to R95)
 unfoldable pub restoreMountRule : Instance → ℕ → Request → Outcome
 restoreMountRule i k r =
     firstOf

@@ -6,58 +6,64 @@ use lib.ListN.{length}
 use lib.Dec.{eqb, ltb}
 use Rattle.rules.specs.Bytes.{same, holds}
 
+-- the byte `/`
 abbrev pub slash : ℕ
 slash = 47
 
+-- the byte `.`
 abbrev pub dot : ℕ
 dot = 46
 
--- a component, with the place of the path where it starts
+-- a component, a name or the parent, with the place of the path where it starts (R37)
 pub data Part : Type 0 where
   name : ℕ → List ℕ → Part
   parent : ℕ → Part
 
+-- the byte before the first of the parts
 abbrev pub onto : ℕ → List (List ℕ) → List (List ℕ)
 onto b [] = (b ∷ []) ∷ []
 onto b (p ∷ ps) = (b ∷ p) ∷ ps
 
--- the parts between the slashes, empty ones too
+-- the parts between the slashes, empty ones too (R37, R40)
 unfoldable pub pieces : List ℕ → List (List ℕ)
 pieces [] = [] ∷ []
 pieces (b ∷ s) = cond (eqb b slash) ([] ∷ pieces s) (onto b (pieces s))
 
+-- the part is `.` (R37, R58, R61)
 abbrev pub isDot : List ℕ → Bool
 isDot p = same p (dot ∷ [])
 
+-- the part is `..` (R37, R58, R61)
 abbrev pub isDots : List ℕ → Bool
 isDots p = same p (dot ∷ dot ∷ [])
 
--- an empty part and `.` are dropped, `..` goes to the parent
+-- an empty part and `.` are dropped, `..` is the parent, any other part is a name; no name is folded away (R37, R38)
 unfoldable pub sorted : ℕ → List ℕ → List Part → List Part
 sorted at p ps = cond (same p []) ps (cond (isDot p) ps (cond (isDots p) (parent at ∷ ps) (name at p ∷ ps)))
 
--- of the pieces, the first of which stands at a place; a slash stands behind each
+-- of the pieces, the first of which stands at a place; a slash stands behind each (R37)
 unfoldable pub kept : ℕ → List (List ℕ) → List Part
 kept at [] = []
 kept at (p ∷ ps) = sorted at p (kept (at + length p + 1) ps)
 
--- the components of the bytes s, which stand at a place of the path
+-- the components of the bytes s, which stand at a place of the path (R37, R38)
 unfoldable pub components : ℕ → List ℕ → List Part
 components at s = kept at (pieces s)
 
--- the path has its leading slash
+-- the path has its leading slash; the empty path has none (R36, R43)
 unfoldable pub rooted : List ℕ → Bool
 rooted [] = false
 rooted (b ∷ s) = eqb b slash
 
+-- one of the parts has more than n bytes (R40)
 unfoldable pub anyLonger : ℕ → List (List ℕ) → Bool
 anyLonger n [] = false
 anyLonger n (p ∷ ps) = ltb n (length p) || anyLonger n ps
 
--- over a limit: 4,096 bytes, or 255 between slashes
+-- over a limit: 4,096 bytes, or 255 between slashes; on raw bytes (R10, R40)
 unfoldable pub tooLong : List ℕ → Bool
 tooLong s = ltb 4096 (length s) || anyLonger 255 (pieces s)
 
--- what `validate_path_component` refuses: `.`, `..`, any slash, any byte 0
+-- what `validate_path_component` refuses: `.`, `..`, any slash, any byte 0; no other name, the empty one included (R24, R61, R62)
 unfoldable pub badComponent : List ℕ → Bool
 badComponent p = isDot p || isDots p || holds slash p || holds 0 p

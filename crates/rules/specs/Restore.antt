@@ -12,35 +12,38 @@ use Rattle.rules.specs.Create.{unknown}
 use Rattle.rules.specs.Saved.{Entry, State, encode, accepted, stateOf}
 use Rattle.rules.specs.Outcome.{nothing, Outcome, refused, says, writes, _⇒_, firstOf}
 
+-- a node as it is saved, its mount left out (R127)
 abbrev pub entryFor : Node → Entry
 entryFor n = record { number = n .number; above = n .above; called = n .called }
 
--- in table order
+-- in table order (R126)
 unfoldable pub entriesFor : List Node → List Entry
 entriesFor [] = []
 entriesFor (n ∷ ns) = entryFor n ∷ entriesFor ns
 
+-- the nodes of the records, without mounts (R127, R134)
 unfoldable pub nodesFrom : List Entry → List Node
 nodesFrom [] = []
 nodesFrom (e ∷ es) = bare (e .number) (e .above) (e .called) ∷ nodesFrom es
 
--- what an instance saves: tree, options, next number, counter
+-- what an instance saves: tree, options, next number, counter (R119, R127)
 unfoldable pub saved : Instance → State
 saved i = record { nodes = entriesFor (i .tree .nodes); options = i .options; next = i .tree .next; counter = i .indexes .counter }
 
--- into a lent buffer of that length
+-- into a lent buffer of that length: SMALL, or the bytes; the instance stays (R125)
 unfoldable pub saveRule : Instance → ℕ → Outcome
 saveRule i buffer = firstOf ((ltb buffer (length (encode (saved i))) ⇒ refused SMALL i) ∷ []) (writes (encode (saved i)) i)
 
+-- there is no node besides the root
 unfoldable pub noNodes : List Node → Bool
 noNodes [] = true
 noNodes (n ∷ ns) = false
 
--- no node besides the root, and no mount
+-- no node besides the root, and no mount; nothing else is asked (R132)
 unfoldable pub fresh : Instance → Bool
 fresh i = noNodes (i .tree .nodes) && isNone (i .tree .root)
 
--- tree, next number, counter and options are the state's; `initialized` says whether in_opts has a bit; the rest stays
+-- tree, next number, counter and options are the state's; `initialized` says whether in_opts has a bit; the rest stays (R134)
 unfoldable pub restoredTo : State → Instance → Instance
 restoredTo s i = record {
   fixed = i .fixed;
@@ -51,6 +54,7 @@ restoredTo s i = record {
   tree = record { next = s .next; root = none; nodes = nodesFrom (s .nodes) };
 }
 
+-- NOTFRESH, BADSAVE, BADOPT, NOROOM, or done; BADMAP is not tested (R128, R130, R131, R133)
 unfoldable pub restoreRule : Instance → List ℕ → Outcome
 restoreRule i b =
     firstOf

@@ -12,26 +12,26 @@ use Rattle.rules.specs.Saved.{encode}
 use Rattle.rules.specs.Restore.{entriesFor, nodesFrom, saved, fresh, restoreRule}
 use Rattle.rules.specs.Driven.{Driven, Present}
 
--- the tree without its mounts
+-- the tree without its mounts (R127)
 abbrev pub bareTree : Tree → Tree
 bareTree t = record { next = t .next; root = none; nodes = nodesFrom (entriesFor (t .nodes)) }
 
--- a restore is done, and gives back tree and next number, counter, and options
+-- a restore is done, and gives back tree and next number, counter, and options (R135)
 pub record GivesBack (i : Instance) (o : Outcome) : Type 0 where
   pub done : o .code ≡ 0
   pub tree : o .after .tree ≡ bareTree (i .tree)
   pub counter : counterOf (o .after) ≡ counterOf i
   pub options : o .after .options ≡ i .options
 
--- into any fresh instance with room and the same mask, from any driven one whose parents are all present
+-- into any fresh instance with room and the same mask, from any driven one whose parents are all present (R135)
 abbrev pub SaveThenRestore : Type 0
 SaveThenRestore = (i j : Instance) → Driven i → Present (i .tree .nodes) (i .tree .nodes) → fresh j ≡ true → j .fixed .known ≡ i .fixed .known → live i ≤ j .fixed .capacity
     → GivesBack i (restoreRule j (encode (saved i)))
 
--- what a done restore read is what a save writes at once
+-- what a done restore read is what a save writes at once (R136)
 abbrev pub RestoreThenSave : Type 0
 RestoreThenSave = (j : Instance) (b : List ℕ) → Bytes b → restoreRule j b .code ≡ 0 → encode (saved (restoreRule j b .after)) ≡ b
 
--- no state is longer
+-- no state is longer (R124)
 abbrev pub NoLonger : Type 0
 NoLonger = (i : Instance) → Driven i → length (encode (saved i)) ≤ 279335

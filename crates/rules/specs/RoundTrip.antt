@@ -13,15 +13,18 @@ use Rattle.rules.specs.Restore.{saved}
 
 -- ---- each field within its width
 
+-- the fields of a record (R120)
 pub record EntryFits (n : Entry) : Type 0 where
   pub number : n .number < 2 ^ 64
   pub above : n .above < 2 ^ 64
   pub called : length (n .called) < 2 ^ 16
 
+-- of every record (R120)
 unfoldable pub EntriesFit : List Entry → Type 0
 EntriesFit [] = Unit {0}
 EntriesFit (n ∷ ns) = EntryFits n × EntriesFit ns
 
+-- the fields of the options; flags 6 and 7 are unset (R121, R129 f)
 pub record OptionsFit (o : Options) : Type 0 where
   pub inOpts : o .inOpts < 2 ^ 64
   pub outOpts : o .outOpts < 2 ^ 64
@@ -30,6 +33,7 @@ pub record OptionsFit (o : Options) : Type 0 where
   pub range : o .mapping .range < 2 ^ 32
   pub flags : o .flags < 64
 
+-- the fields of the whole (R120, R121, R123)
 pub record Fits (s : State) : Type 0 where
   pub nodes : EntriesFit (s .nodes)
   pub options : OptionsFit (s .options)
@@ -40,32 +44,35 @@ pub record Fits (s : State) : Type 0 where
 
 -- ---- the claims
 
--- what was written is read again
+-- what was written is read again (R135)
 abbrev pub ThereAndBack : Type 0
 ThereAndBack = (s : State) → Fits s → valid s ≡ true → decode (encode s) ≡ some s
 
--- no other bytes are accepted for a state
+-- the bytes are what is written for the state, and the state is a good one (R136)
 pub record Only (b : List ℕ) (s : State) : Type 0 where
   pub bytes : b ≡ encode s
   pub fits : Fits s
   pub good : valid s ≡ true
 
+-- no other bytes are accepted for a state (R136)
 abbrev pub NoOther : Type 0
 NoOther = (b : List ℕ) (s : State) → Bytes b → decode b ≡ some s → Only b s
 
--- a fresh state has 56 bytes
+-- a fresh state has 56 bytes (R124)
 abbrev pub FreshLength : Type 0
 FreshLength = (q : Creation) → length (encode (saved (newInstance q))) ≡ 56
 
+-- each name has at most n bytes
 unfoldable pub NamesTo : ℕ → List Entry → Type 0
 NamesTo n [] = Unit {0}
 NamesTo n (e ∷ es) = (length (e .called) ≤ n) × NamesTo n es
 
+-- each name has n bytes
 unfoldable pub NamesOf : ℕ → List Entry → Type 0
 NamesOf n [] = Unit {0}
 NamesOf n (e ∷ es) = (length (e .called) ≡ n) × NamesOf n es
 
--- 1,023 nodes and the root, with names of 255 bytes, are the longest
+-- 1,023 nodes and the root, with names of 255 bytes, are the longest (R124)
 pub record Longest : Type 0 where
   pub most : (s : State) → length (s .nodes) ≤ 1023 → NamesTo 255 (s .nodes) → length (encode s) ≤ 279335
   pub exact : (s : State) → length (s .nodes) ≡ 1023 → NamesOf 255 (s .nodes) → length (encode s) ≡ 279335

@@ -12,13 +12,13 @@ use Rattle.rules.specs.Path.{slash, isDot, isDots}
 use Rattle.rules.specs.Fields.{read, get, fields}
 use Rattle.rules.specs.Instance.{Options}
 
--- a node, as it is saved
+-- a node, as it is saved (R120)
 pub record Entry : Type 0 where
   pub number : ℕ
   pub above : ℕ
   pub called : List ℕ
 
--- the nodes, root left out, ascending by number; mounts are not saved
+-- the nodes, root left out, ascending by number; mounts are not saved (R120, R127)
 pub record State : Type 0 where
   pub nodes : List Entry
   pub options : Options
@@ -27,32 +27,37 @@ pub record State : Type 0 where
 
 -- ---- written
 
--- number, parent, name length; the name follows
+-- number, parent, name length; the name follows (R120)
 abbrev pub nodeRow : List ℕ
 nodeRow = 8 ∷ 8 ∷ 2 ∷ []
 
--- in_opts, out_opts, internal, external, range, flags, three zeros
+-- in_opts, out_opts, internal, external, range, flags, three zeros (R121)
 abbrev pub optionsRow : List ℕ
 optionsRow = 8 ∷ 8 ∷ 4 ∷ 4 ∷ 4 ∷ 1 ∷ 3 ∷ []
 
--- offset of the options, node count, next number, counter, version 1, six zeros
+-- offset of the options, node count, next number, counter, version 1, six zeros (R123)
 abbrev pub trailerRow : List ℕ
 trailerRow = 4 ∷ 4 ∷ 8 ∷ 1 ∷ 1 ∷ 6 ∷ []
 
+-- a node record (R120)
 unfoldable pub nodeBytes : Entry → List ℕ
 nodeBytes n = fields nodeRow (n .number ∷ n .above ∷ length (n .called) ∷ []) ++ n .called
 
+-- the node records, one behind the other (R120)
 unfoldable pub nodesBytes : List Entry → List ℕ
 nodesBytes [] = []
 nodesBytes (n ∷ ns) = nodeBytes n ++ nodesBytes ns
 
+-- the options (R121)
 unfoldable pub optionsBytes : Options → List ℕ
 optionsBytes o =
     fields optionsRow (o .inOpts ∷ o .outOpts ∷ o .mapping .internal ∷ o .mapping .external ∷ o .mapping .range ∷ o .flags ∷ 0 ∷ [])
 
+-- the trailer (R123)
 unfoldable pub trailerBytes : ℕ → ℕ → ℕ → ℕ → List ℕ
 trailerBytes offset count next counter = fields trailerRow (offset ∷ count ∷ next ∷ counter ∷ 1 ∷ 0 ∷ [])
 
+-- the node records, the options, the trailer, and nothing else (R119)
 unfoldable pub encode : State → List ℕ
 encode s =
     nodesBytes (s .nodes)
@@ -60,6 +65,7 @@ encode s =
 
 -- ---- read: any bytes
 
+-- the record at a place (R120)
 unfoldable pub nodeAt : List ℕ → ℕ → Entry
 nodeAt b at = record { number = get 8 b at; above = get 8 b (at + 8); called = read b (at + 18) (get 2 b (at + 16)) }
 
@@ -67,15 +73,17 @@ nodeAt b at = record { number = get 8 b at; above = get 8 b (at + 8); called = r
 abbrev pub behind : List ℕ → ℕ → ℕ
 behind b at = at + 18 + get 2 b (at + 16)
 
--- the k records from a place on, and where they end
+-- the k records from a place on
 unfoldable pub nodesAt : List ℕ → ℕ → ℕ → List Entry
 nodesAt b zero at = []
 nodesAt b (suc k) at = nodeAt b at ∷ nodesAt b k (behind b at)
 
+-- where the k records from a place on end
 unfoldable pub endAt : List ℕ → ℕ → ℕ → ℕ
 endAt b zero at = at
 endAt b (suc k) at = endAt b k (behind b at)
 
+-- the options at a place (R121)
 unfoldable pub optionsAt : List ℕ → ℕ → Options
 optionsAt b at = record {
   inOpts = get 8 b at;
@@ -84,25 +92,31 @@ optionsAt b at = record {
   flags = get 1 b (at + 28);
 }
 
--- options and trailer are the last 56 and the last 24 bytes
+-- options and trailer are the last 56 and the last 24 bytes (R119, R121, R123)
 abbrev pub optionsIn : List ℕ → ℕ
 optionsIn b = length b - 56
 
+-- where the trailer stands (R123)
 abbrev pub trailerIn : List ℕ → ℕ
 trailerIn b = length b - 24
 
+-- the offset of the options, as the trailer says it (R123)
 unfoldable pub offsetOf : List ℕ → ℕ
 offsetOf b = get 4 b (trailerIn b)
 
+-- the number of node records, as the trailer says it (R123)
 unfoldable pub countOf : List ℕ → ℕ
 countOf b = get 4 b (trailerIn b + 4)
 
+-- the next number (R123)
 unfoldable pub nextOf : List ℕ → ℕ
 nextOf b = get 8 b (trailerIn b + 8)
 
+-- the counter (R123)
 unfoldable pub counterIn : List ℕ → ℕ
 counterIn b = get 1 b (trailerIn b + 16)
 
+-- the state that any bytes spell
 unfoldable pub stateOf : List ℕ → State
 stateOf b = record { nodes = nodesAt b (countOf b) 0; options = optionsAt b (optionsIn b); next = nextOf b; counter = counterIn b }
 
@@ -113,7 +127,7 @@ unfoldable pub every : List Bool → Bool
 every [] = true
 every (t ∷ ts) = t && every ts
 
--- not short, and filled exactly: the offset, the version, the zero bytes, the flags, and the count
+-- not short (R129 a), the offset (b), the version (d), the zero bytes (e), the flags (f), the records fill the bytes exactly (c)
 unfoldable pub laidOut : List ℕ → Bool
 laidOut b =
     every
@@ -126,26 +140,26 @@ laidOut b =
     ∷ eqb (endAt b (countOf b) 0) (optionsIn b)
     ∷ [])
 
--- a record is judged among those before it, the nearest first; the root stands before all
+-- a record is judged among those before it, the nearest first; the root stands before all (R129 g)
 unfoldable pub lastNumber : List Entry → ℕ
 lastNumber [] = rootNumber
 lastNumber (m ∷ ms) = m .number
 
--- the parent is 1 or an earlier record
+-- the parent is 1 or an earlier record (R129 i)
 unfoldable pub present : ℕ → List Entry → Bool
 present x [] = eqb x rootNumber
 present x (m ∷ ms) = eqb (m .number) x || present x ms
 
--- the name is there already under that parent
+-- the name is there already under that parent (R129 k)
 unfoldable pub used : ℕ → List ℕ → List Entry → Bool
 used x p [] = false
 used x p (m ∷ ms) = (eqb (m .above) x && same (m .called) p) || used x p ms
 
--- not empty, at most 255 bytes, no slash, not `.` or `..` itself, UTF-8
+-- not empty, at most 255 bytes, no slash, not `.` or `..` itself, UTF-8 (R10, R129 j)
 unfoldable pub goodName : List ℕ → Bool
 goodName p = every (leb 1 (length p) ∷ leb (length p) 255 ∷ not (holds slash p) ∷ not (isDot p) ∷ not (isDots p) ∷ wellFormed p ∷ [])
 
--- strictly rising from 2 up, below the next number, with a good name, a parent that is there, and no equal name beside it
+-- strictly rising from 2 up (R129 g), below the next number (h), with a good name (j), a parent that is there (i), no equal name beside it (k)
 unfoldable pub goodNode : ℕ → List Entry → Entry → Bool
 goodNode next before n =
     every
@@ -156,17 +170,19 @@ goodNode next before n =
     ∷ not (used (n .above) (n .called) before)
     ∷ [])
 
+-- each record, among those before it (R129 g to k)
 unfoldable pub goodNodes : ℕ → List Entry → List Entry → Bool
 goodNodes next before [] = true
 goodNodes next before (n ∷ ns) = goodNode next before n && goodNodes next (n ∷ before) ns
 
--- the next number is from 2 to 2^56, and the records are good
+-- the next number is from 2 to 2^56 (R129 h), and the records are good
 unfoldable pub valid : State → Bool
 valid s = every (leb 2 (s .next) ∷ leb (s .next) topNumber ∷ goodNodes (s .next) [] (s .nodes) ∷ [])
 
--- what BADSAVE refuses is what is not accepted
+-- what BADSAVE refuses is what is not accepted (R129)
 unfoldable pub accepted : List ℕ → Bool
 accepted b = laidOut b && valid (stateOf b)
 
+-- the state of bytes that are accepted (R135, R136)
 unfoldable pub decode : List ℕ → Option State
 decode b = cond (accepted b) (some (stateOf b)) none

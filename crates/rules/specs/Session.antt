@@ -14,58 +14,64 @@ use Rattle.rules.specs.Mount.{Request}
 use Rattle.rules.specs.Outcome.{Answer, nothing, mounted, restored, unmounted, walked, rootfs, toTree, toBackend, entry, ids, wrote, settings, truth, Outcome, count}
 use Rattle.rules.specs.Calls.{Call, mount as mount-call, umount as umount-call, path-walk, route, lookup, rule}
 
+-- the byte between fields (R146)
 abbrev pub space : ℕ
 space = 32
 
 -- ---- numbers: digits judged by value, leading zeros to any length, no sign
 
+-- an ASCII digit (R148)
 unfoldable pub isDigit : ℕ → Bool
 isDigit b = leb 48 b && leb b 57
 
+-- nothing but digits (R148)
 unfoldable pub allDigits : List ℕ → Bool
 allDigits [] = true
 allDigits (b ∷ s) = isDigit b && allDigits s
 
--- the number that digits spell behind a number that was spelt before them
+-- the number that digits spell behind a number that was spelt before them (R148)
 unfoldable pub spelt : ℕ → List ℕ → ℕ
 spelt n [] = n
 spelt n (b ∷ s) = spelt (n * 10 + (b - 48)) s
 
--- a number of so many bits, where it is one
+-- a number of so many bits, where it is one (R148, R149)
 unfoldable pub number : ℕ → List ℕ → Option ℕ
 number bits s = cond (not (same s []) && allDigits s && ltb (spelt 0 s) (2 ^ bits)) (some (spelt 0 s)) none
 
--- the decimal digits of a number that has at most k of them
+-- the decimal digits of a number that has at most k of them, without leading zeros (R152)
 unfoldable pub digits : ℕ → ℕ → List ℕ
 digits zero n = []
 digits (suc k) n = cond (ltb n 10) ((48 + n) ∷ []) (digits k (n / 10) ++ ((48 + n % 10) ∷ []))
 
--- numbers of 64 bits have at most 20
+-- numbers of 64 bits have at most 20 (R152)
 unfoldable pub decimal : ℕ → List ℕ
 decimal n = digits 20 n
 
 -- ---- a line in
 
--- the fields between single spaces
+-- the fields between single spaces (R146)
 unfoldable pub words : List ℕ → List (List ℕ)
 words [] = [] ∷ []
 words (b ∷ s) = cond (eqb b space) ([] ∷ words s) (onto b (words s))
 
+-- a field is empty: a leading, trailing or double space (R146)
 unfoldable pub anyEmpty : List (List ℕ) → Bool
 anyEmpty [] = false
 anyEmpty (w ∷ ws) = same w [] || anyEmpty ws
 
+-- the four forms of a line (R138 to R141)
 pub data Line : Type 0 where
   mount : List ℕ → ℕ → ℕ → ℕ → Line
   umount : List ℕ → Line
   walk : List ℕ → Line
   look : ℕ → List ℕ → Line
 
+-- a mount line, where its three numbers are numbers (R138, R149)
 abbrev pub mountLine : List ℕ → Option ℕ → Option ℕ → Option ℕ → Option Line
 mountLine path tag root largest =
     onward tag (λ (t : ℕ). onward root (λ (r : ℕ). onward largest (λ (m : ℕ). some (mount path t r m))))
 
--- by its fields: mount PATH TAG ROOT MAX, umount PATH, walk PATH, look NODE NAME; TAG has 32 bits, the others 64
+-- by its fields: mount PATH TAG ROOT MAX, umount PATH, walk PATH, look NODE NAME; TAG has 32 bits, the others 64 (R138 to R141, R147, R149)
 unfoldable pub lineOf : List (List ℕ) → Option Line
 lineOf [] = none
 lineOf (v ∷ []) = none
@@ -75,33 +81,38 @@ lineOf (v ∷ a ∷ b ∷ c ∷ []) = none
 lineOf (v ∷ p ∷ t ∷ r ∷ m ∷ []) = cond (same v (ascii "mount")) (mountLine p (number 32 t) (number 64 r) (number 64 m)) none
 lineOf (v ∷ a ∷ b ∷ c ∷ d ∷ e ∷ fs) = none
 
--- over 8,192 bytes, or of another form: none
+-- over 8,192 bytes, or of another form: none (R145, R150)
 unfoldable pub parsed : List ℕ → Option Line
 parsed s = cond (ltb 8192 (length s) || anyEmpty (words s)) none (lineOf (words s))
 
 -- ---- a line out
 
+-- by single spaces (R152)
 unfoldable pub joined : List (List ℕ) → List ℕ
 joined [] = []
 joined (w ∷ []) = w
 joined (w ∷ v ∷ ws) = w ++ (space ∷ joined (v ∷ ws))
 
+-- each as a decimal (R152)
 unfoldable pub numbers : List ℕ → List (List ℕ)
 numbers [] = []
 numbers (n ∷ ns) = decimal n ∷ numbers ns
 
+-- an answer line of numbers (R152)
 unfoldable pub textOf : List ℕ → List ℕ
 textOf ns = joined (numbers ns)
 
+-- the answer line, and the instance after (R137)
 pub record Reply : Type 0 where
   pub text : List ℕ
   pub instance : Instance
 
+-- a missing name is 0 (R140)
 abbrev pub orZero : Option ℕ → ℕ
 orZero none = 0
 orZero (some x) = x
 
--- the values of an answer that a line shows, the first at place 0; a refusal shows zeros
+-- the values of an answer that a line shows, the first at place 0; a refusal has none (R138 to R141)
 unfoldable pub values : Answer → List ℕ
 values nothing = []
 values (mounted k t) = k ∷ []
@@ -117,20 +128,21 @@ values (wrote n) = []
 values (settings o) = []
 values (truth b) = []
 
--- the first k values, zeros where there are none
+-- the first k values, zeros where there are none (R144)
 unfoldable pub shown : ℕ → List ℕ → List ℕ
 shown zero vs = []
 shown (suc k) [] = 0 ∷ shown k []
 shown (suc k) (v ∷ vs) = v ∷ shown k vs
 
--- code, k values, and more
+-- code, k values, and more (R144)
 abbrev pub reply : ℕ → List ℕ → Outcome → Reply
 reply k more o = record { text = textOf (o .code ∷ (shown k (values (o .answer)) ++ more)); instance = o .after }
 
+-- ids 0 and mode 16895 (R138)
 abbrev pub requestOf : List ℕ → ℕ → ℕ → ℕ → Request
 requestOf path tag root largest = record { path = path; tag = tag; root = root; largest = largest; uid = 0; gid = 0; mode = dirMode }
 
--- a look goes where the route goes: to the tree, or to a backend, which gives r, tag and number
+-- a look goes where the route goes: to the tree, or to a backend, which gives r, tag and number (R141, R142, R143)
 unfoldable pub routed : Instance → List ℕ → Outcome → Answer → Reply
 routed i p o nothing = reply 1 [] o
 routed i p o (mounted k t) = reply 1 [] o
@@ -146,6 +158,7 @@ routed i p o (wrote n) = reply 1 [] o
 routed i p o (settings s) = reply 1 [] o
 routed i p o (truth b) = reply 1 [] o
 
+-- mount answers code, index, count; umount code, node, parent; walk code, node; look code, full number (R138 to R141)
 unfoldable pub says : Instance → Line → Reply
 says i (mount path tag root largest) =
     let o = rule i (mount-call (requestOf path tag root largest)) in
@@ -154,10 +167,11 @@ says i (umount path) = reply 2 [] (rule i (umount-call path))
 says i (walk path) = reply 1 [] (rule i (path-walk path))
 says i (look x p) = routed i p (rule i (route x)) (rule i (route x) .answer)
 
--- a line of no such form changes nothing
+-- a line of no such form answers `?` and changes nothing (R145)
 unfoldable pub answers : Instance → Option Line → Reply
 answers i none = record { text = ascii "?"; instance = i }
 answers i (some l) = says i l
 
+-- one line in, one line out, and the instance after (R137)
 unfoldable pub replyTo : Instance → List ℕ → Reply
 replyTo i s = answers i (parsed s)

@@ -12,15 +12,17 @@ use Rattle.rules.specs.Mount.{Request}
 use Rattle.rules.specs.Calls.{Call, mount, restore-mount, umount, restore, rule}
 use Rattle.rules.specs.Driven.{Driven}
 
--- the nodes with a mount, and their mounts
+-- a node with its mount, before others
 abbrev pub mounted : ℕ → Option Mount → List (ℕ × Mount) → List (ℕ × Mount)
 mounted x none ms = ms
 mounted x (some m) ms = (x, m) ∷ ms
 
+-- the nodes with a mount, and their mounts
 unfoldable pub mountsIn : List Node → List (ℕ × Mount)
 mountsIn [] = []
 mountsIn (n ∷ ns) = mounted (n .number) (n .mount) (mountsIn ns)
 
+-- of the root and of the nodes
 abbrev pub mountsOf : Tree → List (ℕ × Mount)
 mountsOf t = mounted rootNumber (t .root) (mountsIn (t .nodes))
 
@@ -30,6 +32,7 @@ pub record NoMounting (c : Call) : Type 0 where
   pub no-restored : (k : ℕ) (r : Request) → c ≡ restore-mount k r → ⊥
   pub no-unmount : (path : List ℕ) → c ≡ umount path → ⊥
 
+-- what the outcome o of the call c on the instance i keeps (R32, R34, R49, R118)
 pub record Stays (i : Instance) (c : Call) (o : Outcome) : Type 0 where
   -- N, the mask and the mapping in force stay
   pub fixed : o .after .fixed ≡ i .fixed
@@ -41,18 +44,22 @@ pub record Stays (i : Instance) (c : Call) (o : Outcome) : Type 0 where
   -- the next number falls by a state restore alone
   pub next : ((b : List ℕ) → c ≡ restore b → ⊥) → i .tree .next ≤ o .after .tree .next
 
+-- of every call on every instance (R32, R34, R49, R118)
 abbrev pub EveryStays : Type 0
 EveryStays = (i : Instance) (c : Call) → Stays i c (rule i c)
 
 -- ---- no live number is given twice
 
+-- none of the nodes has that number
 unfoldable pub Absent : ℕ → List Node → Type 0
 Absent x [] = Unit {0}
 Absent x (n ∷ ns) = (n .number ≡ x → ⊥) × Absent x ns
 
+-- no two nodes have one number, and none has the root's (R12, R49)
 unfoldable pub Distinct : List Node → Type 0
 Distinct [] = Unit {0}
 Distinct (n ∷ ns) = (n .number ≡ rootNumber → ⊥) × Absent (n .number) ns × Distinct ns
 
+-- of every driven instance (R49)
 abbrev pub NumbersOnce : Type 0
 NumbersOnce = (i : Instance) → Driven i → Distinct (i .tree .nodes)

@@ -10,7 +10,7 @@ infix 75 _‥_
 pub data Range : Type 0 where
   _‥_ : ℕ → ℕ → Range
 
--- the nine rows of table 3-7: the ranges of the first, second, third and fourth byte
+-- the rows of table 3-7: the ranges of the first, second, third and fourth byte (R35)
 unfoldable pub table : List (List Range)
 table =
     (0x00 ‥ 0x7F ∷ [])
@@ -24,6 +24,7 @@ table =
     ∷ (0xF4 ‥ 0xF4 ∷ 0x80 ‥ 0x8F ∷ 0x80 ‥ 0xBF ∷ 0x80 ‥ 0xBF ∷ [])
     ∷ []
 
+-- the byte lies in the range
 abbrev pub within : Range → ℕ → Bool
 within (low ‥ high) b = leb low b && leb b high
 
@@ -38,10 +39,11 @@ unfoldable pub firstRow : List (List Range) → List ℕ → ℕ
 firstRow [] s = 0
 firstRow (row ∷ rows) s = cond (fits row s) (length row) (firstRow rows s)
 
--- the length of the well-formed sequence that the bytes begin with; 0 where they begin with none
+-- the length of the well-formed sequence that the bytes begin with; 0 where they begin with none (R35)
 unfoldable pub sequence : List ℕ → ℕ
 sequence s = firstRow table s
 
+-- a sequence of that length is passed byte by byte; 0 ends the well-formed part
 abbrev pub onSequence : ℕ → (ℕ → ℕ) → ℕ
 onSequence zero rest = zero
 onSequence (suc k) rest = suc (rest k)
@@ -52,10 +54,10 @@ endFrom inside [] = zero
 endFrom (suc k) (b ∷ s) = suc (endFrom k s)
 endFrom zero (b ∷ s) = onSequence (sequence (b ∷ s)) (λ (k : ℕ). endFrom k s)
 
--- where well-formed UTF-8 ends
+-- where well-formed UTF-8 ends (R35)
 unfoldable pub validTo : List ℕ → ℕ
 validTo s = endFrom 0 s
 
--- the whole of it is well-formed
+-- the whole of it is well-formed (R35, R36)
 unfoldable pub wellFormed : List ℕ → Bool
 wellFormed s = eqb (validTo s) (length s)

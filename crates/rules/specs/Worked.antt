@@ -10,7 +10,7 @@ use Rattle.rules.specs.Instance.{Slot, Instance, withIndexes, emptySlot,
 use Rattle.rules.specs.Create.{newInstance}
 use Rattle.rules.specs.Session.{replyTo}
 
--- an instance of n nodes: no option bits, no mapping, nodes kept
+-- an instance of n nodes: no option bits, no mapping, nodes kept (R137)
 abbrev pub plain : ℕ → Instance
 plain n = newInstance (record {
   capacity = n;
@@ -18,18 +18,21 @@ plain n = newInstance (record {
   options = record { inOpts = 0; outOpts = 0; mapping = record { internal = 0; external = 0; range = 0 }; flags = 0 };
 })
 
--- with these slots and this counter
+-- with these slots and this counter (R154 to R156)
 abbrev pub holding : List Slot → ℕ → Instance
 holding slots c = withIndexes (record { slots = slots; counter = c }) (plain 64)
 
+-- every slot is held (R156)
 abbrev pub allHeld : List Slot
 allHeld = replicate indexes (heldBy 7)
 
 infix 20 _↝_
+-- a line, and its answer
 pub record Said : Type 0 where
   pub line : String
   pub answer : String
 
+-- the line is answered so
 abbrev pub _↝_ : String → String → Said
 l ↝ a = record { line = l; answer = a }
 
@@ -39,6 +42,7 @@ pub record Case : Type 0 where
   pub said : List Said
   pub counter : ℕ
 
+-- the eight lines (R153), then the five edges (R154, R155, R156, R157, R158)
 abbrev pub cases : List Case
 cases =
     record {
@@ -68,28 +72,33 @@ cases =
 
 -- ---- what the rules say to the lines, and what the table says
 
+-- the answers, the last first, and the counter at the end
 pub record Result : Type 0 where
   pub answers : List (List ℕ)
   pub counter : ℕ
 
+-- what the rules answer to the lines, one after another
 unfoldable pub said : Instance → List Said → List (List ℕ) → Result
 said i [] before = record { answers = before; counter = counterOf i }
 said i (s ∷ ss) before =
     let r = replyTo i (ascii (s .line)) in
     said (r .instance) ss (r .text ∷ before)
 
+-- what the table answers to them
 unfoldable pub wanted : List Said → List (List ℕ) → List (List ℕ)
 wanted [] before = before
 wanted (s ∷ ss) before = wanted ss (ascii (s .answer) ∷ before)
 
+-- of every case by the rules
 unfoldable pub results : List Case → List Result
 results [] = []
 results (c ∷ cs) = said (c .from) (c .said) [] ∷ results cs
 
+-- of every case by the table
 unfoldable pub expected : List Case → List Result
 expected [] = []
 expected (c ∷ cs) = record { answers = wanted (c .said) []; counter = c .counter } ∷ expected cs
 
--- every line is answered as the table says, and the counter ends where it says
+-- every line is answered as the table says, and the counter ends where it says (R166)
 abbrev pub Worked : Type 0
 Worked = results cases ≡ expected cases
