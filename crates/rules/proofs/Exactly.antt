@@ -1,9 +1,11 @@
 -- Each call answers a number exactly if a test with that number holds and none before it does. Assumes nothing.
-use mathlib.Core.Path.{_≡_, refl}
-use mathlib.Core.Bool.{Bool, true, false, cond, not, _&&_, _||_, true≢false, false≢true}
+use mathlib.Core.Path.{_≡_, refl, sym, ap, _∙_}
+use mathlib.Core.Bool.{Bool, true, false, cond, not, _&&_, _||_, true≢false, false≢true, and-false}
 use mathlib.Core.List.{List, [], _∷_}
 use mathlib.Core.Option.{Option, none, some}
-use Prim.Native.Nat.{ℕ, _+_}
+use Prim.Native.Nat.{ℕ, zero, suc, _+_, _≤_, _<_}
+use native.Mathlib.Omega.{arith}
+use native.Mathlib.Decide.{ℕ-discrete}
 use lib.Dec.{eqb, ltb}
 use Rattle.rules.specs.Numbers.{rootNumber, maxIno, maxNodes, storageFor, indexOf, numberOf, NOENT, INVAL, INODE, FULL, NOTFOUND, SMALL, BADOPT, BADMAP}
 use Rattle.rules.specs.Bytes.{holds}
@@ -11,7 +13,8 @@ use Rattle.rules.specs.Utf8.{wellFormed}
 use Rattle.rules.specs.Path.{rooted, isDot, isDots}
 use Rattle.rules.specs.Ids.{badMapping}
 use Rattle.rules.specs.Tree.{Mount, isNone, parentIn, childIn}
-use Rattle.rules.specs.Instance.{Instance, tagOf, mountOf}
+use Rattle.rules.specs.Instance.{Instance, heldIn, tagOf, mountOf, counterOf}
+use Rattle.rules.specs.Round.{allocate}
 use Rattle.rules.specs.Outcome.{Outcome, Row, _⇒_, firstOf, refused}
 use Rattle.rules.specs.Create.{Creation, Created, outside, unknown, badOptions, tooSmall, createRule}
 use Rattle.rules.specs.Mount.{Request, noRoom, allocation, mountAs, mountRule, restoreMountRule}
@@ -20,8 +23,9 @@ use Rattle.rules.specs.Lookup.{routeTag, routeTree, routeRule, entryOf, 
 use Rattle.rules.specs.Listing.{ListRequest, listRule}
 use Rattle.rules.specs.Restore.{saveRule, restoreRule}
 use Rattle.rules.specs.Calls.{Call, mount, restore-mount, umount, set-remove-pseudo-root, path-walk, get-rootfs, route, lookup, readdir, remap-attr-id, options, initialized, save, restore, rule}
-use Rattle.rules.specs.Exactly.{Test, _⟼_, slotEmpty, mountTests, restoreMountTests, pathTests, tests, createTests, Exactly}
+use Rattle.rules.specs.Exactly.{Test, _⟼_, heldTo, slotEmpty, mountTests, restoreMountTests, pathTests, tests, createTests, Exactly}
 use Rattle.rules.proofs.Tests.{known}
+use Rattle.rules.proofs.Allocation.{exact}
 use Rattle.rules.proofs.Rows.{Settles, decides, settled, passes, stops, settle, settle-last, settle-or}
 
 abbrev codeOf : Outcome → ℕ
@@ -31,6 +35,32 @@ codeOf o = o .code
 end : (o : Outcome) → o .code ≡ 0 → Settles (codeOf (firstOf [] o)) []
 end o e = settle-last codeOf o [] (settled (o .code) e)
 
+-- ---- the search finds none exactly if the slots 1 to 255 are held
+
+all-to : (i : Instance) (n k : ℕ) → k ≤ n → ((j : ℕ) → 1 ≤ j → j ≤ n → heldIn i j ≡ true) → heldTo k i ≡ true
+unfolding heldTo
+all-to i n zero l h = refl
+all-to i n (suc k) l h = rw (h (suc k) (omega arith) l, all-to i n k (omega arith) h)
+
+not-all : (i : Instance) (k j : ℕ) → 1 ≤ j → j ≤ k → heldIn i j ≡ false → heldTo k i ≡ false
+unfolding heldTo
+not-all i zero j a b e = absurd (omega arith)
+not-all i (suc k) j a b e =
+    elim (ℕ-discrete j (suc k)) [
+      | yes q ↦ rw (ap (heldIn i) (sym q) ∙ e)
+      | no q ↦ rw (not-all i k j a (omega arith) e, and-false)
+    ]
+
+found-or-held : (i : Instance) → counterOf i < 256 → isNone (allocation i .found) ≡ heldTo 255 i
+unfolding allocation
+found-or-held i h = go (allocate (heldIn i) (counterOf i) .found) refl
+  where
+    go : (o : Option ℕ) → allocate (heldIn i) (counterOf i) .found ≡ o → isNone o ≡ heldTo 255 i
+    go none e = sym (all-to i 255 255 (omega arith) (exact (heldIn i) (counterOf i) h .refused .0 e))
+    go (some k) e =
+        let f = exact (heldIn i) (counterOf i) h .handed-out k .0 e .1 in
+        sym (not-all i 255 k (f .least) (f .most) (f .empty))
+
 -- ---- mounts
 
 mount-as : (i : Instance) (r : Request) (k : Option ℕ)
@@ -39,10 +69,10 @@ unfolding mountAs
 mount-as i r none = stops _ _ _ refl
 mount-as i r (some k) = passes _ _ _ (settle codeOf _ _ _ _ _ _ refl (settle codeOf _ _ _ _ _ _ refl (end _ refl)))
 
-mount-settles : (i : Instance) (r : Request) → Settles (mountRule i r .code) (mountTests i r)
-unfolding mountRule noRoom allocation
-mount-settles i r =
-    settle codeOf _ _ _ _ _ _ refl (settle codeOf _ _ _ _ _ _ refl (settle codeOf _ _ _ _ _ _ refl (settle codeOf _ _ _ _ _ _ refl (settle-last codeOf _ _ (mount-as i r (allocation i .found))))))
+mount-settles : (i : Instance) (r : Request) → counterOf i < 256 → Settles (mountRule i r .code) (mountTests i r)
+unfolding mountRule noRoom
+mount-settles i r h =
+    settle codeOf _ _ _ _ _ _ refl (settle codeOf _ _ _ _ _ _ refl (settle codeOf _ _ _ _ _ _ refl (settle codeOf _ _ _ _ _ _ refl (settle-last codeOf _ _ (rw (← found-or-held i h) (mount-as i r (allocation i .found)))))))
 
 restored-settles : (i : Instance) (k : ℕ) (r : Request) → Settles (restoreMountRule i k r .code) (restoreMountTests i k r)
 unfolding restoreMountRule noRoom
@@ -151,22 +181,22 @@ unfolding restoreRule unknown
 restore-settles i b =
     settle codeOf _ _ _ _ _ _ refl (settle codeOf _ _ _ _ _ _ refl (settle codeOf _ _ _ _ _ _ refl (settle codeOf _ _ _ _ _ _ refl (end _ refl))))
 
-settles : (i : Instance) (c : Call) → Settles (rule i c .code) (tests i c)
+settles : (i : Instance) → counterOf i < 256 → (c : Call) → Settles (rule i c .code) (tests i c)
 unfolding rule walkRule unmountRule rootRule remapRule
-settles i (mount r) = mount-settles i r
-settles i (restore-mount k r) = restored-settles i k r
-settles i (umount path) = on-path i path _ _ (unmount-at i (reached i path) (mountUnder i (reached i path)))
-settles i set-remove-pseudo-root = settled _ refl
-settles i (path-walk path) = on-path i path _ _ (settled _ refl)
-settles i (get-rootfs path) = on-path i path _ _ (root-at i (mountUnder i (reached i path)))
-settles i (route x) = route-settles i x
-settles i (lookup x p) = lookup-settles i x p
-settles i (readdir q) = list-settles i q
-settles i (remap-attr-id out uid gid) = settled _ refl
-settles i options = settled _ refl
-settles i initialized = settled _ refl
-settles i (save n) = save-settles i n
-settles i (restore b) = restore-settles i b
+settles i h (mount r) = mount-settles i r h
+settles i h (restore-mount k r) = restored-settles i k r
+settles i h (umount path) = on-path i path _ _ (unmount-at i (reached i path) (mountUnder i (reached i path)))
+settles i h set-remove-pseudo-root = settled _ refl
+settles i h (path-walk path) = on-path i path _ _ (settled _ refl)
+settles i h (get-rootfs path) = on-path i path _ _ (root-at i (mountUnder i (reached i path)))
+settles i h (route x) = route-settles i x
+settles i h (lookup x p) = lookup-settles i x p
+settles i h (readdir q) = list-settles i q
+settles i h (remap-attr-id out uid gid) = settled _ refl
+settles i h options = settled _ refl
+settles i h initialized = settled _ refl
+settles i h (save n) = save-settles i n
+settles i h (restore b) = restore-settles i b
 
 -- ---- creation
 
@@ -195,4 +225,4 @@ module _ (bytes : ℕ) (q : Creation) where
 
 -- the theorem
 pub exactly : Exactly
-exactly = (λ i c. decides (tests i c) (rule i c .code) (settles i c), λ bytes q. decides (createTests bytes q) (createRule bytes q .code) (create-settles bytes q))
+exactly = (λ i h c. decides (tests i c) (rule i c .code) (settles i h c), λ bytes q. decides (createTests bytes q) (createRule bytes q .code) (create-settles bytes q))

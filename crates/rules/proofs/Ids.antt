@@ -6,7 +6,7 @@ use Prim.Native.Nat.{ℕ, _+_, _-_, _%_, _^_, _≤_, _<_}
 use native.Mathlib.Omega.{arith}
 use lib.Dec.{leb, ltb}
 use borrow.Author.Tests.{leb-true, leb-false, ltb-true, ltb-false, le-leb, lt-leb, lt-ltb, le-ltb}
-use Rattle.rules.specs.Ids.{Mapping, turned, badMapping, inside, mapped, unmapped, wrapped, unwrapped}
+use Rattle.rules.specs.Ids.{Mapping, turned, badMapping, inside, mapped, unmapped, wrapped, unwrapped, WrappedIsWhole, OutAndBack}
 use Rattle.rules.proofs.Tests.{le-or-lt, or-neither}
 
 -- within the mapping's limits
@@ -52,7 +52,7 @@ module _ (m : Mapping) (x : ℕ) (good : badMapping m ≡ false) (low : x < 2 ^ 
       (λ (k : x < m .internal + m .range). rw (lt-ltb (x - m .internal) (m .range) (omega arith), lt-ltb x (m .internal + m .range) k)) (le-or-lt (m .internal + m .range) x)))
       (λ (l : x < m .internal). rw (lt-leb (m .internal) x l)) (le-or-lt (m .internal) x)
 
-  pub wrapped-whole : wrapped m x ≡ mapped m x
+  wrapped-whole : wrapped m x ≡ mapped m x
   unfolding wrapped mapped
   wrapped-whole = rw same-test (go (inside m x) refl)
     where
@@ -62,9 +62,9 @@ module _ (m : Mapping) (x : ℕ) (good : badMapping m ≡ false) (low : x < 2 ^ 
       go false e = refl
 
 -- the theorem: what wraps is the formula in whole numbers, out and back
-pub unwrapped-whole : (m : Mapping) (x : ℕ) → badMapping m ≡ false → x < 2 ^ 32 → unwrapped m x ≡ unmapped m x
+pub wrapped-is-whole : WrappedIsWhole
 unfolding unwrapped unmapped
-unwrapped-whole m x good low = wrapped-whole (turned m) x (turned-good m good) low
+wrapped-is-whole m x good low = (wrapped-whole m x good low, wrapped-whole (turned m) x (turned-good m good) low)
 
 -- ---- out and back
 
@@ -77,7 +77,7 @@ unfolding mapped
 mapped-out m x e = rw e
 
 -- the theorem: on ids in the internal range or in neither
-pub out-and-back : (m : Mapping) (x : ℕ) → (inside m x ≡ true) ⊎ ((inside m x ≡ false) × (inside (turned m) x ≡ false)) → unmapped m (mapped m x) ≡ x
+pub out-and-back : OutAndBack
 unfolding unmapped
 out-and-back m x (inl e) =
     let i = inside-is m x e in

@@ -38,9 +38,9 @@ module _ (i : Instance) (c : Call) where
   still : (o : Outcome) → Still i o → Leaves i c o
   still o s = record {
     full = λ f. absurd (s .not-full f);
-    inval = λ f. inl (s .after);
-    inode = λ f. inl (s .after);
-    others = λ f g h k. s .after;
+    inval = λ f. inl (s .visits, s .after);
+    inode = λ f. inl (s .visits, s .after);
+    others = λ f g h k. (s .visits, s .after);
     values = λ f. ⊎-elim (λ (z : o .code ≡ 0). absurd (f z)) (λ v. v) (s .bare);
   }
 

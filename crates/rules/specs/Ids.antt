@@ -1,6 +1,8 @@
 -- Ids: one range mapped out and back.
-use Prim.Native.Nat.{ℕ, _+_, _-_, _%_, _^_}
-use mathlib.Core.Bool.{Bool, cond, _&&_, _||_}
+use Prim.Native.Nat.{ℕ, _+_, _-_, _%_, _^_, _<_}
+use mathlib.Core.Bool.{Bool, true, false, cond, _&&_, _||_}
+use mathlib.Core.Logic.{_⊎_}
+use mathlib.Core.Path.{_≡_}
 use lib.Dec.{leb, ltb}
 
 -- (internal start, external start, range); range 0 means no mapping (R27, R112)
@@ -36,3 +38,13 @@ wrapped m id = cond (leb (m .internal) id && ltb (id - m .internal) (m .range)) 
 -- and back (R24, R114, R115, R117)
 unfoldable pub unwrapped : Mapping → ℕ → ℕ
 unwrapped m id = wrapped (turned m) id
+
+-- ---- the claims
+
+-- of a mapping that passes its test, what wraps is the formula in whole numbers (R115)
+abbrev pub WrappedIsWhole : Type 0
+WrappedIsWhole = (m : Mapping) (id : ℕ) → badMapping m ≡ false → id < 2 ^ 32 → (wrapped m id ≡ mapped m id) × (unwrapped m id ≡ unmapped m id)
+
+-- out and back is the identity on ids in the internal range or in neither (R116)
+abbrev pub OutAndBack : Type 0
+OutAndBack = (m : Mapping) (id : ℕ) → (inside m id ≡ true) ⊎ ((inside m id ≡ false) × (inside (turned m) id ≡ false)) → unmapped m (mapped m id) ≡ id

@@ -31,12 +31,16 @@ pub record RestoredRow7 (i : Instance) (c : Call) (o : Outcome) (k : ℕ) (r : R
   pub call : c ≡ restore-mount k r
   pub leaves : o .after ≡ walkedTo (r .path) i
 
+-- nothing was visited, and the instance is as it was
+abbrev pub Unchanged : Instance → Outcome → Type 0
+Unchanged i o = (o .visits ≡ []) × (o .after ≡ i)
+
 -- what the outcome o of the call c on the instance i leaves, by its number (R15), with every value none and nothing written (R16, R17)
 pub record Leaves (i : Instance) (c : Call) (o : Outcome) : Type 0 where
   pub full : o .code ≡ FULL → o .after ≡ withCounter ((counterOf i + 1) % 256) i
-  pub inval : o .code ≡ INVAL → (o .after ≡ i) ⊎ ((r : Request) × Row6 i c o r)
-  pub inode : o .code ≡ INODE → (o .after ≡ i) ⊎ (((r : Request) × Row7 i c o r) ⊎ ((k : ℕ) × (r : Request) × RestoredRow7 i c o k r))
-  pub others : (o .code ≡ 0 → ⊥) → (o .code ≡ FULL → ⊥) → (o .code ≡ INVAL → ⊥) → (o .code ≡ INODE → ⊥) → o .after ≡ i
+  pub inval : o .code ≡ INVAL → Unchanged i o ⊎ ((r : Request) × Row6 i c o r)
+  pub inode : o .code ≡ INODE → Unchanged i o ⊎ (((r : Request) × Row7 i c o r) ⊎ ((k : ℕ) × (r : Request) × RestoredRow7 i c o k r))
+  pub others : (o .code ≡ 0 → ⊥) → (o .code ≡ FULL → ⊥) → (o .code ≡ INVAL → ⊥) → (o .code ≡ INODE → ⊥) → Unchanged i o
   pub values : (o .code ≡ 0 → ⊥) → (o .answer ≡ nothing) × (o .written ≡ [])
 
 -- of every call on every instance (R15, R16, R17)

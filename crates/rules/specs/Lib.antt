@@ -27,3 +27,4 @@ pub mod RoundTrip
 pub mod Driven
 pub mod Restored
 pub mod Stays
+pub mod Needed
