@@ -19,7 +19,7 @@ use Rattle.rules.specs.Outcome.{Outcome, Row, _⇒_, firstOf, refused}
 use Rattle.rules.specs.Create.{Creation, Created, outside, unknown, badOptions, tooSmall, createRule}
 use Rattle.rules.specs.Mount.{Request, noRoom, allocation, mountAs, mountRule, restoreMountRule}
 use Rattle.rules.specs.Unmount.{badPath, reached, mountUnder, walkRule, unmounts, unmountAt, unmountRule, rootHeld, rootAt, rootRule}
-use Rattle.rules.specs.Lookup.{routeTag, routeTree, routeRule, entryOf, entryAt, lookupRule, remapRule}
+use Rattle.rules.specs.Lookup.{routeTag, routeTree, routeRule, entryOf, entryAt, lookupBy, lookupRule, remapRule}
 use Rattle.rules.specs.Listing.{ListRequest, listRule}
 use Rattle.rules.specs.Restore.{saveRule, restoreRule}
 use Rattle.rules.specs.Calls.{Call, mount, restore-mount, umount, set-remove-pseudo-root, path-walk, get-rootfs, route, lookup, readdir, remap-attr-id, options, initialized, save, restore, rule}
@@ -142,29 +142,30 @@ unfolding entryOf
 entry-code i x none = refl
 entry-code i x (some m) = refl
 
-entry-some : (i : Instance) (x : ℕ) → entryAt i (some x) .code ≡ 0
-unfolding entryAt
-entry-some i x = entry-code i x (mountOf (i .tree) x)
+module _ (mounts : ℕ → Option Mount) (i : Instance) where
+  entry-some : (x : ℕ) → entryAt mounts i (some x) .code ≡ 0
+  unfolding entryAt
+  entry-some x = entry-code i x (mounts x)
 
-entry-at : (i : Instance) (x : Option ℕ) → Settles (entryAt i x .code) ((isNone x ⟼ NOENT) ∷ [])
-unfolding entryAt
-entry-at i none = stops _ _ _ refl
-entry-at i (some x) = passes _ _ _ (settled _ (entry-code i x (mountOf (i .tree) x)))
+  entry-at : (x : Option ℕ) → Settles (entryAt mounts i x .code) ((isNone x ⟼ NOENT) ∷ [])
+  unfolding entryAt
+  entry-at none = stops _ _ _ refl
+  entry-at (some x) = passes _ _ _ (settled _ (entry-code i x (mounts x)))
 
-found-by : (i : Instance) (x y : ℕ) (z : Option ℕ) (b d : Bool)
-    → Settles (firstOf ((b ⇒ entryAt i (some x)) ∷ (d ⇒ entryAt i (some y)) ∷ []) (entryAt i z) .code) ((not b && not d && isNone z ⟼ NOENT) ∷ [])
-unfolding firstOf
-found-by i x y z true d = passes _ _ _ (settled _ (entry-some i x))
-found-by i x y z false true = passes _ _ _ (settled _ (entry-some i y))
-found-by i x y z false false = entry-at i z
+  found-by : (x y : ℕ) (z : Option ℕ) (b d : Bool)
+      → Settles (firstOf ((b ⇒ entryAt mounts i (some x)) ∷ (d ⇒ entryAt mounts i (some y)) ∷ []) (entryAt mounts i z) .code) ((not b && not d && isNone z ⟼ NOENT) ∷ [])
+  unfolding firstOf
+  found-by x y z true d = passes _ _ _ (settled _ (entry-some x))
+  found-by x y z false true = passes _ _ _ (settled _ (entry-some y))
+  found-by x y z false false = entry-at z
 
 lookup-settles : (i : Instance) (x : ℕ) (p : List ℕ) → Settles (lookupRule i x p .code) (tests i (lookup x p))
-unfolding lookupRule
+unfolding lookupRule lookupBy
 lookup-settles i x p =
     let nodes = i .tree .nodes in
     settle codeOf _ _ _ _ _ _ refl
     (settle-or _ (holds 0 p) (not (wellFormed p)) INVAL _
-    (settle codeOf (holds 0 p || not (wellFormed p)) _ _ _ _ _ refl (found-by i x (parentIn nodes x) (childIn nodes x p) (isDot p) (isDots p))))
+    (settle codeOf (holds 0 p || not (wellFormed p)) _ _ _ _ _ refl (found-by (mountOf (i .tree)) i x (parentIn nodes x) (childIn nodes x p) (isDot p) (isDots p))))
 
 -- ---- listing, save, restore
 

@@ -13,7 +13,7 @@ use Rattle.rules.specs.Instance.{Instance, mountOf, tagOf, removing}
 use Rattle.rules.specs.Outcome.{Answer, nothing, Outcome, refused, says, writes}
 use Rattle.rules.specs.Mount.{Request, mountRule, restoreMountRule}
 use Rattle.rules.specs.Unmount.{reached, mountUnder, walkRule, unmountRule, rootHeld, rootAt, rootRule}
-use Rattle.rules.specs.Lookup.{routeTag, routeTree, routeRule, entryOf, entryAt, lookupRule, remapRule}
+use Rattle.rules.specs.Lookup.{routeTag, routeTree, routeRule, entryOf, entryAt, lookupBy, lookupRule, remapRule}
 use Rattle.rules.specs.Listing.{ListRequest, listRule}
 use Rattle.rules.specs.Restore.{saveRule, restoreRule}
 use Rattle.rules.specs.Calls.{Call, mount, restore-mount, umount, set-remove-pseudo-root, path-walk, get-rootfs, route, lookup, readdir, remap-attr-id, options, initialized, save, restore, rule}
@@ -84,16 +84,20 @@ module _ (i : Instance) where
   entry-of x none = still-says _
   entry-of x (some m) = still-says _
 
-  entry-at : (x : Option ℕ) → Still i (entryAt i x)
+  entry-at : (mounts : ℕ → Option Mount) (x : Option ℕ) → Still i (entryAt mounts i x)
   unfolding entryAt
-  entry-at none = noent-still
-  entry-at (some x) = entry-of x (mountOf (i .tree) x)
+  entry-at mounts none = noent-still
+  entry-at mounts (some x) = entry-of x (mounts x)
+
+  pub lookup-by-still : (mounts : ℕ → Option Mount) (x : ℕ) (p : List ℕ) → Still i (lookupBy mounts i x p)
+  unfolding lookupBy
+  lookup-by-still mounts x p =
+      each-of (Still i) _ _
+      (noent-still, (inval-still, (entry-at mounts (some x), (entry-at mounts (some (parentIn (i .tree .nodes) x)), entry-at mounts (childIn (i .tree .nodes) x p)))))
 
   lookup-still : (x : ℕ) (p : List ℕ) → Still i (lookupRule i x p)
   unfolding lookupRule
-  lookup-still x p =
-      each-of (Still i) _ _
-      (noent-still, (inval-still, (entry-at (some x), (entry-at (some (parentIn (i .tree .nodes) x)), entry-at (childIn (i .tree .nodes) x p)))))
+  lookup-still x p = lookup-by-still (mountOf (i .tree)) x p
 
   list-still : (q : ListRequest) → Still i (listRule i q)
   unfolding listRule

@@ -12,11 +12,11 @@ use Rattle.rules.specs.Outcome.{firstOf}
 use Rattle.rules.specs.Create.{newInstance}
 use Rattle.rules.specs.Mount.{planned, needed, noRoom, freed, tagAt, placed, allocation, mountAs, mountRule}
 use Rattle.rules.specs.Unmount.{badPath, reached, walkRule, taken, unmounts, unmountAt, unmountRule}
-use Rattle.rules.specs.Lookup.{routeTag, routeTree, routeRule, entryOf, entryAt, lookupRule}
+use Rattle.rules.specs.Lookup.{routeTag, routeTree, routeRule, entryOf, entryAt, lookupBy, lookupRule}
 use Rattle.rules.specs.Calls.{rule}
 use Rattle.rules.specs.Session.{isDigit, allDigits, spelt, number, digits, decimal, words, anyEmpty, lineOf, parsed, joined, numbers, textOf, values, shown, routed, says, answers, replyTo}
 use Rattle.rules.specs.Worked.{Worked, said, wanted, results, expected}
 
 pub worked : Worked
-unfolding same holds ascii table fits firstRow sequence endFrom validTo wellFormed pieces sorted kept components rooted anyLonger tooLong full indexOf numberOf inside mapped goingRound untilTwice visited firstFree allocate isChild childIn nodeIn isKnown parentIn walk step makes mountAt without mountOf setMount firstOf newInstance planned needed noRoom freed tagAt placed allocation mountAs mountRule badPath reached walkRule taken unmounts unmountAt unmountRule routeTag routeTree routeRule entryOf entryAt lookupRule rule isDigit allDigits spelt number digits decimal words anyEmpty lineOf parsed joined numbers textOf values shown routed says answers replyTo said wanted results expected
+unfolding same holds ascii table fits firstRow sequence endFrom validTo wellFormed pieces sorted kept components rooted anyLonger tooLong full indexOf numberOf inside mapped goingRound untilTwice visited firstFree allocate isChild childIn nodeIn isKnown parentIn walk step makes mountAt without mountOf setMount firstOf newInstance planned needed noRoom freed tagAt placed allocation mountAs mountRule badPath reached walkRule taken unmounts unmountAt unmountRule routeTag routeTree routeRule entryOf entryAt lookupBy lookupRule rule isDigit allDigits spelt number digits decimal words anyEmpty lineOf parsed joined numbers textOf values shown routed says answers replyTo said wanted results expected
 worked = refl

@@ -47,21 +47,29 @@ unfoldable pub entryOf : Instance → ℕ → Option Mount → Outcome
 entryOf i x none = says (entry (full 0 x) dirMode (outward i 0) (outward i 0) blockSize) i
 entryOf i x (some m) = says (entry (full (m .index) (m .root)) (m .mode) (twice i (m .uid)) (twice i (m .gid)) 0) i
 
--- of what was found (R59)
-unfoldable pub entryAt : Instance → Option ℕ → Outcome
-entryAt i none = refused NOENT i
-entryAt i (some x) = entryOf i x (mountOf (i .tree) x)
+-- a find is answered by its entry, a miss is NOENT (R57, R59); the mounts that are asked are those of the tree, or none
+unfoldable pub entryAt : (ℕ → Option Mount) → Instance → Option ℕ → Outcome
+entryAt mounts i none = refused NOENT i
+entryAt mounts i (some x) = entryOf i x (mounts x)
 
--- NOENT for an unknown node, INVAL for a bad name, then `.`, `..`, or the child of that name (R57 to R60)
-unfoldable pub lookupRule : Instance → ℕ → List ℕ → Outcome
-lookupRule i x p =
+-- in a directory: unknown parent, then a bad name, then `.`, `..` and the children (R57, R58, R59)
+unfoldable pub lookupBy : (ℕ → Option Mount) → Instance → ℕ → List ℕ → Outcome
+lookupBy mounts i x p =
     firstOf
     ((not (isKnown (i .tree .nodes) x) ⇒ refused NOENT i)
     ∷ (holds 0 p || not (wellFormed p) ⇒ refused INVAL i)
-    ∷ (isDot p ⇒ entryAt i (some x))
-    ∷ (isDots p ⇒ entryAt i (some (parentIn (i .tree .nodes) x)))
+    ∷ (isDot p ⇒ entryAt mounts i (some x))
+    ∷ (isDots p ⇒ entryAt mounts i (some (parentIn (i .tree .nodes) x)))
     ∷ [])
-    (entryAt i (childIn (i .tree .nodes) x p))
+    (entryAt mounts i (childIn (i .tree .nodes) x p))
+
+-- in the tree alone (R13, R57 to R60)
+unfoldable pub pseudoLookupRule : Instance → ℕ → List ℕ → Outcome
+pseudoLookupRule i x p = lookupBy (λ (y : ℕ). none) i x p
+
+-- across mounts (R108 to R111)
+unfoldable pub lookupRule : Instance → ℕ → List ℕ → Outcome
+lookupRule i x p = lookupBy (mountOf (i .tree)) i x p
 
 -- ---- ids
 

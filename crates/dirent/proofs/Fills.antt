@@ -1,0 +1,110 @@
+-- Records laid one behind the other, each into the unwritten rest of the lent bytes (R65, R66): what a call on the rest
+-- gives, said of the whole, and all the calls of a listing together. Assumes nothing.
+use mathlib.Core.Path.{_≡_, refl, sym, ap, _∙_}
+use mathlib.Core.List.{List, [], _∷_, _++_}
+use Prim.Native.Nat.{ℕ, _+_, _-_, _≤_, _<_}
+use native.Mathlib.Nat.{add-zero, zero-add, sub-zero}
+use native.Mathlib.Omega.{arith}
+use lib.ListN.{length, take, drop, length-append, length-drop}
+use lib.Seq.{length-take-le}
+use borrow.Rule.Slice.PartMut.{putMid, put-same}
+use Rattle.rules.specs.Tree.{Node}
+use Rattle.rules.specs.Listing.{direntsFrom, laid}
+use Rattle.le.specs.Mem.{write}
+use Rattle.le.proofs.Lens.{length-write, write-append}
+use Rattle.dirent.specs.Entry.{entry, Lays}
+use Rattle.dirent.proofs.Writes.{write-part}
+use Rattle.dirent.proofs.Records.{entry-some, entry-of, laid-in, laid-out, was-laid, was-not}
+
+-- the bytes from `at` to `end`, as they are lent; and the whole with these back as ys
+abbrev pub rest : List ℕ → ℕ → ℕ → List ℕ
+rest d at end = take (end - at) (drop at d)
+
+abbrev pub back : List ℕ → ℕ → ℕ → List ℕ → List ℕ
+back d at end ys = putMid at (end - at) d ys
+
+-- one record into the rest: n is answered, and the rest is back as ys
+abbrev pub Wrote : List ℕ → ℕ → ℕ → List ℕ → ℕ → List ℕ → Type 0
+Wrote d at end r n ys = Lays (rest d at end) (length (rest d at end)) (r ∷ []) n ys
+
+-- `at` bytes of d are done, and the records rs are left: laying these into the rest gives what laying rs₀ into d₀ gives
+pub record Going (d₀ : List ℕ) (end : ℕ) (rs₀ : List (List ℕ)) (d : List ℕ) (at : ℕ) (rs : List (List ℕ)) : Type 0 where
+  pub within : at ≤ end
+  pub fits : end ≤ length d
+  pub long : length d ≡ length d₀
+  pub count : at + length (laid (end - at) rs) ≡ length (laid end rs₀)
+  pub bytes : write d at (laid (end - at) rs) ≡ write d₀ 0 (laid end rs₀)
+
+pub going-start : (d : List ℕ) (end : ℕ) (rs : List (List ℕ)) → end ≤ length d → Going d end rs d 0 rs
+going-start d end rs h = record { within = omega arith; fits = h; long = refl; count = rw (sub-zero, zero-add); bytes = rw sub-zero }
+
+-- no record is left
+pub going-done : (d₀ : List ℕ) (end : ℕ) (rs₀ : List (List ℕ)) (d : List ℕ) (at : ℕ) → Going d₀ end rs₀ d at [] → Lays d₀ end rs₀ at d
+unfolding laid write
+going-done d₀ end rs₀ d at g = record { count = sym (add-zero at) ∙ g .count; bytes = g .bytes }
+
+module _ (d₀ : List ℕ) (end : ℕ) (rs₀ : List (List ℕ)) (d : List ℕ) (at : ℕ) (r : List ℕ) (rs : List (List ℕ)) (n : ℕ) (ys : List ℕ)
+    (g : Going d₀ end rs₀ d at (r ∷ rs)) (w : Wrote d at end r n ys) where
+  rest-length : length (rest d at end) ≡ end - at
+  rest-length = length-take-le (end - at) (drop at d) (omega (arith, length-drop at d, g .fits))
+
+  -- the record is laid, and the next goes behind it
+  pub went : (n ≡ 0 → ⊥) → Going d₀ end rs₀ (back d at end ys) (at + n) rs
+  went z =
+      let v = was-laid (rest d at end) (length (rest d at end)) r n ys w z in
+      let q : length r ≤ end - at = omega (arith, rest-length, v .fits) in
+      let now : back d at end ys ≡ write d at r =
+      ap (back d at end) (v .bytes) ∙ write-part d at (end - at) r (omega (arith, g .within, g .fits)) (v .fits) in
+      let left : end - at - length r ≡ end - (at + length r) = omega arith in
+      let all : laid (end - at) (r ∷ rs) ≡ r ++ laid (end - (at + length r)) rs = laid-in (end - at) r rs q ∙ rw left in
+      let l : length (write d at r) ≡ length d = length-write d at r in
+      rw (now, v .count)
+      (record {
+        within = omega (arith, g .within);
+        fits = omega (arith, g .fits);
+        long = l ∙ g .long;
+        count = omega (arith, g .count, ap length all, length-append r (laid (end - (at + length r)) rs));
+        bytes = sym (write-append d at r (laid (end - (at + length r)) rs)) ∙ ap (write d at) (sym all) ∙ g .bytes;
+      })
+
+  -- the record does not fit, and ends the listing
+  pub stopped : 0 < length r → n ≡ 0 → Lays d₀ end rs₀ at (back d at end ys)
+  unfolding write
+  stopped some z =
+      let v = was-not (rest d at end) (length (rest d at end)) r n ys w some z in
+      let none : laid (end - at) (r ∷ rs) ≡ [] = laid-out (end - at) r rs (omega (arith, rest-length, v .short)) in
+      let now : back d at end ys ≡ d = ap (back d at end) (v .bytes) ∙ put-same at (end - at) d in
+      record { count = omega (arith, g .count, ap length none); bytes = now ∙ ap (write d at) (sym none) ∙ g .bytes }
+
+-- ---- all the calls of a listing
+
+-- the entries of the children from a place on: that of the first, and the others
+pub dirents-more : (place : ℕ) (c : Node) (cs : List Node) → direntsFrom place (c ∷ cs) ≡ entry (c .number) (place + 1) (c .called) ∷ direntsFrom (place + 1) cs
+unfolding direntsFrom
+dirents-more place c cs = ap (λ (r : List ℕ). r ∷ direntsFrom (place + 1) cs) (sym (entry-of place c))
+
+-- the children from a place on, each as the contract of `write_dirent` allows, until none is left or one does not fit:
+-- from the lent bytes d, of which `at` are done, to e with m done
+pub data Calls (end : ℕ) : ℕ → List Node → List ℕ → ℕ → ℕ → List ℕ → Type 0 where
+  none : {place : ℕ} {d : List ℕ} {at : ℕ} → Calls end place [] d at at d
+  full : {place : ℕ} {c : Node} {cs : List Node} {d : List ℕ} {at : ℕ} {ys : List ℕ}
+      → Wrote d at end (entry (c .number) (place + 1) (c .called)) 0 ys → Calls end place (c ∷ cs) d at at (back d at end ys)
+  next : {place : ℕ} {c : Node} {cs : List Node} {d : List ℕ} {at n m : ℕ} {ys e : List ℕ}
+      → Wrote d at end (entry (c .number) (place + 1) (c .called)) n ys → (n ≡ 0 → ⊥) → Calls end (place + 1) cs (back d at end ys) (at + n) m e
+      → Calls end place (c ∷ cs) d at m e
+
+module _ (d₀ : List ℕ) (end : ℕ) (rs₀ : List (List ℕ)) where
+  to-the-end : (place : ℕ) (cs : List Node) (d : List ℕ) (at m : ℕ) (e : List ℕ)
+      → Going d₀ end rs₀ d at (direntsFrom place cs) → Calls end place cs d at m e → Lays d₀ end rs₀ m e
+  unfolding direntsFrom
+  to-the-end place [] d at m e g none = going-done d₀ end rs₀ d at g
+  to-the-end place (c ∷ cs) d at m e g (full {ys = ys} w) =
+      let h = rw (dirents-more place c cs) at g in
+      stopped d₀ end rs₀ d at _ _ 0 ys h w (entry-some (c .number) (place + 1) (c .called)) refl
+  to-the-end place (c ∷ cs) d at m e g (next {n = n} {ys = ys} w z k) =
+      let h = rw (dirents-more place c cs) at g in
+      to-the-end (place + 1) cs (back d at end ys) (at + n) m e (went d₀ end rs₀ d at _ _ n ys h w z) k
+
+-- they lay what the rules say, and answer how much
+pub listed : (d : List ℕ) (end place : ℕ) (cs : List Node) (m : ℕ) (e : List ℕ) → end ≤ length d → Calls end place cs d 0 m e → Lays d end (direntsFrom place cs) m e
+listed d end place cs m e h k = to-the-end d end (direntsFrom place cs) place cs d 0 m e (going-start d end (direntsFrom place cs) h) k

@@ -1,0 +1,5 @@
+-- The laws that belong to no one function: `Writes` of bytes written into a list that is made of parts, `Records` of one
+-- record, `Fills` for whoever lays one record behind another.
+pub mod Writes
+pub mod Records
+pub mod Fills

@@ -1,0 +1,49 @@
+// The record writer of listings: a record is laid whole at the start of the lent bytes, or not at all.
+ghost use mathlib.Core.List.{[], _∷_};
+ghost use lib.ListN.{length};
+ghost use Rattle.le.specs.Mem.{read};
+ghost use Rattle.rules.specs.Listing.{recordOf};
+ghost use Rattle.dirent.specs.Entry.{entry, Lays};
+
+// The bytes of an entry in front of its name: number, offset, name length, type (R64).
+const FRONT: usize = 24;
+
+// The name length stands in four bytes (R64).
+const TWO_32: usize = 4294967296;
+
+// Lays the name behind a fixed part of `front` bytes, which is the caller's to write, and zeros to a multiple of 8: the
+// length of the whole record, or 0 with every byte as it was where that does not fit (R64, R65).
+fn put_name(out: &mut [u8], front: usize, name: &[u8]) -> usize
+    ensures { λ r. ⌜ Lays (now (out .entry)) (length (now (out .entry))) (recordOf (read (now (out .entry)) 0 front) (now (name .entry)) ∷ []) r (now (out .exit)) ⌝ }
+{
+    if out.len() < front {
+        return 0;
+    }
+    if out.len() - front < name.len() {
+        return 0;
+    }
+    let end = front + name.len();
+    let room = out.len() - end;
+    let pad = (8 - end % 8) % 8;
+    if room < pad {
+        return 0;
+    }
+    le::runs::copy_at(out, front, name);
+    le::runs::fill_at(out, end, pad, 0);
+    end + pad
+}
+
+// Lays a directory entry at the start of the lent bytes: its length, or 0 and all as it was where it does not fit (R64, R65).
+pub fn write_dirent(out: &mut [u8], ino: u64, off: u64, name: &[u8]) -> usize
+    ensures { λ r. ⌜ Lays (now (out .entry)) (length (now (out .entry))) (entry ino off (now (name .entry)) ∷ []) r (now (out .exit)) ⌝ }
+{
+    let size = put_name(out, FRONT, name);
+    if size == 0 {
+        return 0;
+    }
+    le::fields::put_u64(out, 0, ino);
+    le::fields::put_u64(out, 8, off);
+    le::fields::put_u32(out, 16, (name.len() % TWO_32) as u32);
+    le::fields::put_u32(out, 20, 0);
+    size
+}
