@@ -1,0 +1,96 @@
+-- What each way through the functions gives. Assumes nothing.
+use mathlib.Core.Path.{_≡_, refl, sym, ap, _∙_, subst}
+use mathlib.Core.Bool.{Bool, true, false, cond, not, _&&_}
+use mathlib.Core.List.{List}
+use mathlib.Core.Option.{Option, none, some}
+use Prim.Native.Nat.{ℕ, _<_}
+use lib.Dec.{eqb}
+use borrow.Author.Tests.{not-true, not-false, eq-eqb, ne-eqb}
+use Rattle.rules.specs.Numbers.{rootNumber}
+use Rattle.rules.specs.Tree.{Mount}
+use Rattle.rules.specs.Instance.{Instance, tagIn as tagInSlot, tagOf, mountOf}
+use Rattle.rules.specs.Mount.{tagAt}
+use Rattle.tables.specs.View.{flag, headOf, slotAt, nodesOf, view}
+use Rattle.tables.specs.Rule.{laid}
+use Rattle.tables.specs.Write.{setSlot, removeRow}
+use Rattle.tables.specs.Answer.{tagIn, rowIn, mountOfPoint, mountIn, placeIn, atPlace, mountMem, removeMem}
+use Rattle.tables.specs.declared.slots.Tag.{Tag}
+use Rattle.tables.specs.declared.slots.Tag.the-variants.{Empty}
+use Rattle.tables.specs.declared.mounts.MountPoint.{MountPoint}
+use Rattle.tables.specs.declared.mounts.MountOn.{MountOn}
+use Rattle.tables.specs.declared.mounts.MountOn.the-variants.{Point, Nothing}
+use Rattle.placing.specs.declared.Tags.{Tags}
+use Rattle.placing.specs.Place.{freedMem, placeMem, outMem, takeOffMem, InSlots, Frees, Places, TakesOff}
+use Rattle.tables.specs.Layout.{countOf}
+use Rattle.tables.specs.declared.rows.Row.{Row}
+use Rattle.tables.specs.declared.rows.Row.the-variants.{At, Nothing as RowNothing}
+use Rattle.tables.proofs.Find.{row-below}
+use Rattle.tables.proofs.Keeps.{keeps-mount}
+use Rattle.placing.proofs.Stands.{tag-of-is, view-freed, keeps-freed}
+
+pub frees-point : (mem : List ℕ) (old : MountOn) (m : MountPoint) (r : Tag) (after : List ℕ) → old ≡ Point m → m .«fs_idx» < 256
+    → tagIn r ≡ tagInSlot (slotAt mem (m .«fs_idx»)) → after ≡ setSlot (m .«fs_idx») false 0 mem → Frees mem old r after
+unfolding mountIn tagAt freedMem
+frees-point mem old m r after e h t b =
+    subst (λ (o : MountOn). Frees mem o r after) (sym e) (record { tag = tag-of-is mem (m .«fs_idx») (tagIn r) h t; bytes = b; within = h })
+
+pub frees-none : (mem : List ℕ) (old : MountOn) → old ≡ Nothing → Frees mem old Empty mem
+unfolding mountIn tagAt freedMem tagIn
+frees-none mem old e = subst (λ (o : MountOn). Frees mem o Empty mem) (sym e) (record { tag = refl; bytes = refl; within = tt })
+
+pub places : (mem m₁ m₂ after : List ℕ) (x : ℕ) (m : Mount) (t : ℕ) (old : MountOn) (r : Tags) → laid mem ≡ true → m .index < 256
+    → mountIn old ≡ mountOf (view mem .tree) x → Frees mem old (r .replaced) m₁ → tagIn (r .displaced) ≡ tagInSlot (slotAt m₁ (m .index))
+    → m₂ ≡ mountMem (nodesOf m₁) (some m) x m₁ → after ≡ setSlot (m .index) true t m₂ → Places mem m t x r after
+unfolding placeMem
+places mem m₁ m₂ after x m t old r l h o f d e g =
+    let a : m₁ ≡ freedMem (mountOf (view mem .tree) x) mem = f .bytes ∙ ap (λ (z : Option Mount). freedMem z mem) o in
+    let w : InSlots (mountOf (view mem .tree) x) = subst InSlots o (f .within) in
+    record {
+      replaced = f .tag ∙ ap (λ (z : Option Mount). tagAt z (view mem)) o;
+      displaced = tag-of-is m₁ (m .index) (tagIn (r .displaced)) h d ∙ ap (λ (i : Instance). tagOf i (m .index)) (ap view a ∙ view-freed mem l (mountOf (view mem .tree) x) w);
+      bytes = g ∙ ap (setSlot (m .index) true t) (e ∙ ap (λ (z : List ℕ). mountMem (nodesOf z) (some m) x z) a);
+      within = w;
+    }
+
+-- ---- the layout rule on the way
+
+pub laid-freed : (mem m₁ : List ℕ) (old : MountOn) (r : Tag) → laid mem ≡ true → Frees mem old r m₁ → laid m₁ ≡ true
+laid-freed mem m₁ old r e f = ap laid (f .bytes) ∙ keeps-freed mem e (mountIn old) (f .within)
+
+pub laid-mounted : (mem m₁ : List ℕ) (m : Option Mount) (x : ℕ) → laid mem ≡ true → m₁ ≡ mountMem (nodesOf mem) m x mem → laid m₁ ≡ true
+laid-mounted mem m₁ m x e f = ap laid f ∙ keeps-mount mem e m x
+
+pub row-of : (mem : List ℕ) (x : ℕ) (w : Row) (i : ℕ) → rowIn w ≡ placeIn (nodesOf mem) x → w ≡ At i → i < countOf mem
+unfolding rowIn
+row-of mem x w i e f = row-below mem x i (sym e ∙ ap rowIn f)
+
+-- ---- the node taken out, or not; r says whether nodes are removed
+
+module _ (x : ℕ) (mem : List ℕ) (r : Bool) (set : r ≡ flag 15 (headOf mem)) where
+  pub stays-unset : not r ≡ true → mem ≡ outMem x mem
+  unfolding outMem
+  stays-unset e = rw (sym set ∙ not-true r e)
+
+  pub stays-root : not r ≡ false → x ≡ rootNumber → mem ≡ outMem x mem
+  unfolding outMem
+  stays-root e q = rw (sym set ∙ not-false r e, eq-eqb x rootNumber q)
+
+  out-removes : not r ≡ false → (x ≡ rootNumber → ⊥) → outMem x mem ≡ removeMem (nodesOf mem) x mem
+  unfolding outMem
+  out-removes e q = rw (sym set ∙ not-false r e, ne-eqb x rootNumber q)
+
+  pub goes : not r ≡ false → (x ≡ rootNumber → ⊥) → (w : Row) (i : ℕ) (after : List ℕ) → rowIn w ≡ placeIn (nodesOf mem) x → w ≡ At i → after ≡ removeRow i mem → after ≡ outMem x mem
+  unfolding removeMem rowIn
+  goes e q w i after p f a = a ∙ sym (out-removes e q ∙ rw (sym p ∙ ap rowIn f))
+
+  pub nothing-goes : not r ≡ false → (x ≡ rootNumber → ⊥) → (w : Row) → rowIn w ≡ placeIn (nodesOf mem) x → w ≡ RowNothing → mem ≡ outMem x mem
+  unfolding removeMem rowIn
+  nothing-goes e q w p f = sym (out-removes e q ∙ rw (sym p ∙ ap rowIn f))
+
+pub takes-off : (mem m₁ m₂ after : List ℕ) (x : ℕ) (m : Mount) (r : Tag) → m .index < 256 → tagIn r ≡ tagInSlot (slotAt mem (m .index)) → m₁ ≡ mountMem (nodesOf mem) none x mem
+    → m₂ ≡ outMem x m₁ → after ≡ setSlot (m .index) false 0 m₂ → TakesOff mem m x r after
+unfolding takeOffMem
+takes-off mem m₁ m₂ after x m r h t a b c = record {
+  tag = tag-of-is mem (m .index) (tagIn r) h t;
+  bytes = c ∙ ap (setSlot (m .index) false 0) (b ∙ ap (outMem x) a);
+}

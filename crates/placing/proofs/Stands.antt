@@ -1,0 +1,121 @@
+-- What placing a mount and taking it off mean by the rules, and that they keep the layout rule. Assumes nothing.
+use mathlib.Core.Path.{_≡_, refl, sym, ap, _∙_, subst}
+use mathlib.Core.Bool.{Bool, true, false, cond, not, _&&_}
+use mathlib.Core.List.{List}
+use mathlib.Core.Option.{Option, none, some}
+use Prim.Native.Nat.{ℕ, _+_, _^_, _≤_, _<_}
+use native.Mathlib.Nat.{zero-add}
+use native.Mathlib.Omega.{arith}
+use lib.ListN.{length, getD}
+use lib.Dec.{eqb}
+use Rattle.rules.specs.Numbers.{rootNumber}
+use Rattle.rules.specs.Tree.{Mount}
+use Rattle.rules.specs.Instance.{Slot, Tree, Instance, emptySlot, heldBy, slotOf, tagIn as tagInSlot, tagOf, mountOf, setMount, withSlot, withTree, cut}
+use Rattle.rules.specs.Mount.{Request, mountOn, freed, tagAt, placed}
+use Rattle.rules.specs.Unmount.{taken}
+use Rattle.tables.specs.Table.{row, tab}
+use Rattle.tables.specs.View.{flag, headOf, slotAt, slotsOf, nodesOf, view}
+use Rattle.tables.specs.Rule.{laid, Laid}
+use Rattle.tables.specs.Write.{setSlot}
+use Rattle.tables.specs.Answer.{mountMem, removeMem}
+use Rattle.tables.proofs.Tab.{tab-at}
+use Rattle.tables.proofs.Refine.{MountFits, MayFit, view-slot}
+use Rattle.tables.proofs.Places.{view-mount, view-gone}
+use Rattle.tables.proofs.Keeps.{ruled, laid-is, open-laid, keeps-slot, keeps-mount, keeps-gone}
+use Rattle.placing.specs.Place.{freedMem, placeMem, outMem, takeOffMem, InSlots}
+
+-- the bytes of a laid memory are enough for the header and the slots
+pub long : (mem : List ℕ) → laid mem ≡ true → 8192 ≤ length mem
+long mem e = ruled (headOf mem) (length mem) (open-laid mem e) .long
+
+-- slot k of the view is slot k of the memory
+pub slot-of : (mem : List ℕ) (k : ℕ) → k < 256 → slotOf (view mem) k ≡ slotAt mem k
+unfolding view slotsOf
+slot-of mem k h = tab-at (slotAt mem) 0 256 k emptySlot h ∙ ap (slotAt mem) (zero-add k)
+
+pub tag-of-is : (mem : List ℕ) (k : ℕ) (t : Option ℕ) → k < 256 → t ≡ tagInSlot (slotAt mem k) → t ≡ tagOf (view mem) k
+tag-of-is mem k t h e = e ∙ ap tagInSlot (sym (slot-of mem k h))
+
+module _ (mem : List ℕ) (e : laid mem ≡ true) where
+  pub view-freed : (m : Option Mount) → InSlots m → view (freedMem m mem) ≡ freed m (view mem)
+  unfolding freedMem freed
+  view-freed none h = refl
+  view-freed (some m) h = view-slot (m .index) h false 0 mem (omega arith) (long mem e)
+
+  pub keeps-freed : (m : Option Mount) → InSlots m → laid (freedMem m mem) ≡ true
+  unfolding freedMem
+  keeps-freed none h = e
+  keeps-freed (some m) h = keeps-slot mem e (m .index) false 0 h (omega arith)
+
+  -- a mount that is placed
+  module _ (k : ℕ) (r : Request) (x : ℕ) (f : MountFits (mountOn k r)) (t : r .tag < 2 ^ 32) (h : InSlots (mountOf (view mem .tree) x)) where
+    abbrev old : Option Mount
+    old = mountOf (view mem .tree) x
+
+    abbrev m₁ : List ℕ
+    m₁ = freedMem old mem
+
+    abbrev m₂ : List ℕ
+    m₂ = mountMem (nodesOf m₁) (some (mountOn k r)) x m₁
+
+    keeps₁ : laid m₁ ≡ true
+    keeps₁ = keeps-freed old h
+
+    keeps₂ : laid m₂ ≡ true
+    keeps₂ = keeps-mount m₁ keeps₁ (some (mountOn k r)) x
+
+    pub view-placed : view (placeMem (mountOn k r) (r .tag) x mem) ≡ placed k r x (view mem)
+    unfolding placeMem placed
+    view-placed =
+        view-slot k (omega (arith, f .few)) true (r .tag) m₂ t (long m₂ keeps₂)
+        ∙ ap (withSlot k (heldBy (r .tag)))
+        (view-mount m₁ (laid-is m₁ keeps₁) x (some (mountOn k r)) f ∙ ap (λ (i : Instance). withTree (setMount (i .tree) x (some (mountOn k r))) i) (view-freed old h))
+
+    pub keeps-placed : laid (placeMem (mountOn k r) (r .tag) x mem) ≡ true
+    unfolding placeMem
+    keeps-placed = keeps-slot m₂ keeps₂ k true (r .tag) (omega (arith, f .few)) t
+
+-- ---- taken off
+
+module _ (x : ℕ) (mem : List ℕ) (e : laid mem ≡ true) where
+  view-out : view (outMem x mem) ≡ cond (view mem .removal && not (eqb x rootNumber)) (withTree (cut x (view mem .tree)) (view mem)) (view mem)
+  unfolding outMem view
+  view-out = go (flag 15 (headOf mem) && not (eqb x rootNumber))
+    where
+      go : (b : Bool) → view (cond b (removeMem (nodesOf mem) x mem) mem) ≡ cond b (withTree (cut x (view mem .tree)) (view mem)) (view mem)
+      go true = view-gone mem (laid-is mem e) x
+      go false = refl
+
+  keeps-out : laid (outMem x mem) ≡ true
+  unfolding outMem
+  keeps-out = go (flag 15 (headOf mem) && not (eqb x rootNumber))
+    where
+      go : (b : Bool) → laid (cond b (removeMem (nodesOf mem) x mem) mem) ≡ true
+      go true = keeps-gone mem e x
+      go false = e
+
+module _ (x : ℕ) (m : Mount) (mem : List ℕ) (e : laid mem ≡ true) (h : m .index < 256) where
+  abbrev c₁ : List ℕ
+  c₁ = mountMem (nodesOf mem) none x mem
+
+  cleared : laid c₁ ≡ true
+  cleared = keeps-mount mem e none x
+
+  pub view-taken-off : view (takeOffMem m x mem) ≡ withSlot (m .index) emptySlot (withTree (taken (view mem) x) (view mem))
+  unfolding takeOffMem taken
+  view-taken-off =
+      let v : view c₁ ≡ withTree (setMount (view mem .tree) x none) (view mem) = view-mount mem (laid-is mem e) x none tt in
+      let o : view (outMem x c₁) ≡ withTree (cond (view mem .removal && not (eqb x rootNumber)) (cut x (setMount (view mem .tree) x none)) (setMount (view mem .tree) x none)) (view mem) =
+      view-out x c₁ cleared ∙ (ap (λ (i : Instance). cond (i .removal && not (eqb x rootNumber)) (withTree (cut x (i .tree)) i) i) v ∙ go (view mem .removal && not (eqb x rootNumber))) in
+      view-slot (m .index) h false 0 (outMem x c₁) (omega arith) (long (outMem x c₁) (keeps-out x c₁ cleared)) ∙ ap (withSlot (m .index) emptySlot) o
+    where
+      t : Tree
+      t = setMount (view mem .tree) x none
+
+      go : (b : Bool) → cond b (withTree (cut x t) (view mem)) (withTree t (view mem)) ≡ withTree (cond b (cut x t) t) (view mem)
+      go true = refl
+      go false = refl
+
+  pub keeps-taken-off : laid (takeOffMem m x mem) ≡ true
+  unfolding takeOffMem
+  keeps-taken-off = keeps-slot (outMem x c₁) (keeps-out x c₁ cleared) (m .index) false 0 h (omega arith)

@@ -1,0 +1,43 @@
+use borrow.Author.Needs.{needs}
+use Rattle.placing.proofs.Returns.{frees-point, frees-none}
+use Rattle.placing.proofs.Stands.{long}
+use Rattle.tables.proofs.Keeps.{laid-is}
+use Rattle.placing.proofs.free_old.Statement.{statement}
+use Rattle.placing.proofs.free_old.Tie as tie
+use Rattle.placing.proofs.free_old.Reads as reads
+use Rattle.placing.proofs.free_old.Lts as lts
+use Rattle.tables.proofs.slots.free.Reads as free-reads
+use Rattle.tables.proofs.slots.tag_of.Reads as tag-of-reads
+
+-- src/lib.rt:20:24
+enum-known-old : tie.Need-enum-known-old
+enum-known-old c = search needs
+
+-- src/lib.rt:22:17
+tag-of-requires : tie.Need-tag-of-requires
+tag-of-requires c κs = search (long, laid-is, needs)
+
+-- src/lib.rt:23:13
+free-requires : tie.Need-free-requires
+free-requires c κs = search (long, laid-is, needs)
+
+-- src/lib.rt:26:29
+enum-told : tie.Need-enum-told
+enum-told c = search needs
+
+-- src/lib.rt:15:1
+same-length : tie.Need-same-length
+same-length c = search needs
+
+-- src/lib.rt:15:1
+returns : tie.Need-returns
+returns c = search (frees-point, needs)
+
+-- src/lib.rt:15:1
+returns-2 : tie.Need-returns-2
+returns-2 c = frees-none _ _ (c .enum-told .given .1)
+
+pub free-old-spec : {M : Type 1} → statement M
+free-old-spec =
+    tie.close
+    (tie.spec enum-known-old tag-of-requires free-requires enum-told same-length returns returns-2)

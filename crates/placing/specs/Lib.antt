@@ -1,0 +1,2 @@
+-- What placing a mount and taking it off answer and write.
+pub mod Place

@@ -1,0 +1,82 @@
+// A mount placed on a node, and taken off it: slot, mount and node are changed together, here and nowhere else. Nothing here is for a host: the layout rule is the
+// condition of each function.
+ghost use mathlib.Core.Path.{_≡_};
+ghost use mathlib.Core.Bool.{true};
+ghost use Prim.Native.Nat.{_<_, _≤_, _^_};
+ghost use Rattle.tables.specs.Rule.{laid};
+ghost use Rattle.tables.specs.Answer.{mountOfPoint};
+ghost use Rattle.placing.specs.Place.{outMem, Frees, Places, TakesOff};
+use tables::mounts::MountOn;
+use tables::mounts::MountPoint;
+use tables::rows::Row;
+use tables::slots::Tag;
+
+// The tag found on the node, and the tag then still in the slot of the new index.
+pub struct Tags {
+    pub replaced: Tag,
+    pub displaced: Tag,
+}
+
+// What the slot of a mount's index holds; then the slot is empty. Without a mount nothing changes.
+fn free_old(s: &mut [u8], old: MountOn) -> Tag
+    requires { ⌜ laid (now s) ≡ true ⌝ }
+    ensures { λ r. ⌜ Frees (now (s .entry)) old r (now (s .exit)) ⌝ }
+{
+    match old {
+        MountOn::Point(m) => {
+            let k = m.fs_idx;
+            let tag = tables::slots::tag_of(s, k);
+            tables::slots::free(s, k);
+            tag
+        }
+        MountOn::Nothing => Tag::Empty,
+    }
+}
+
+// A mount on a node loses its index before the new one is set; answers the tag found there, and the tag then still in the new slot (R76, R78, R93).
+pub fn place(s: &mut [u8], x: u64, m: MountPoint, tag: u32) -> Tags
+    requires { ⌜ laid (now s) ≡ true ⌝ }
+    requires { ⌜ m .ino < 2 ^ 56 ⌝ }
+    requires { ⌜ 1 ≤ m .«fs_idx» ⌝ }
+    ensures { λ r. ⌜ Places (now (s .entry)) (mountOfPoint m) tag x r (now (s .exit)) ⌝ }
+{
+    let old = tables::mounts::of_node(s, x);
+    let replaced = free_old(s, old);
+    let displaced = tables::slots::tag_of(s, m.fs_idx);
+    tables::mounts::set(s, x, m);
+    tables::slots::hold(s, m.fs_idx, tag);
+    Tags {
+        replaced,
+        displaced,
+    }
+}
+
+// With removal set, the node is taken out of the table unless it is the root (R100).
+fn take_out(s: &mut [u8], x: u64)
+    requires { ⌜ laid (now s) ≡ true ⌝ }
+    ensures { λ _. ⌜ now (s .exit) ≡ outMem x (now (s .entry)) ⌝ }
+{
+    if !tables::header::removes(s) {
+        return;
+    }
+    if x == rules::ROOT_ID {
+        return;
+    }
+    match tables::rows::find_row(s, x) {
+        Row::At(i) => tables::rows::remove(s, i),
+        Row::Nothing => {}
+    }
+}
+
+// The mount m is taken off the node x, and its index freed; answers the tag released, or none (R97, R98, R100).
+pub fn take_off(s: &mut [u8], x: u64, m: MountPoint) -> Tag
+    requires { ⌜ laid (now s) ≡ true ⌝ }
+    ensures { λ r. ⌜ TakesOff (now (s .entry)) (mountOfPoint m) x r (now (s .exit)) ⌝ }
+{
+    let k = m.fs_idx;
+    let tag = tables::slots::tag_of(s, k);
+    tables::mounts::clear(s, x);
+    take_out(s, x);
+    tables::slots::free(s, k);
+    tag
+}

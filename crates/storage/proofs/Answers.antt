@@ -1,0 +1,116 @@
+-- The answers of the calls on the header: each is known by what it tells, and tells what its rule says. Assumes nothing.
+use mathlib.Core.Path.{_≡_, refl, sym, ap, _∙_}
+use mathlib.Core.Bool.{true, false, not, cond, true≢false}
+use mathlib.Core.List.{List}
+use Prim.Native.Nat.{ℕ, _≤_}
+use native.Mathlib.Omega.{arith}
+use lib.ListN.{length}
+use lib.Dec.{eqb}
+use Rattle.le.specs.Mem.{get}
+use Rattle.id_map.specs.Mapping.{mappingOf}
+use Rattle.rules.specs.Instance.{Options}
+use Rattle.rules.specs.Outcome.{Answer, settings, truth}
+use Rattle.rules.specs.Calls.{rule}
+use Rattle.tables.specs.Table.{row}
+use Rattle.tables.specs.View.{view}
+use Rattle.tables.specs.Rule.{laid}
+use Rattle.tables.specs.Write.{setRemoval}
+use Rattle.tables.specs.Call.{Told, answeredBy, Does}
+use Rattle.tables.proofs.Refine.{view-removal}
+use Rattle.tables.proofs.Keeps.{laid-is, keeps-removal}
+use Rattle.storage.specs.Answers.{removalTold, removeCall, initializedTold, initializedCall, optionsIn, optionsTold, optionsCall}
+use Rattle.storage.specs.declared.Removal.{Removal}
+use Rattle.storage.specs.declared.Removal.the-variants.{Done, Small as RemovalSmall}
+use Rattle.storage.specs.declared.IsInitialized.{IsInitialized}
+use Rattle.storage.specs.declared.IsInitialized.the-variants.{Is, Small as InitializedSmall}
+use Rattle.storage.specs.declared.VfsOptions.{VfsOptions}
+use Rattle.storage.specs.declared.OptionsOf.{OptionsOf}
+use Rattle.storage.specs.declared.OptionsOf.the-variants.{Options as OptionsAre, Small as OptionsSmall}
+use Rattle.storage.proofs.Laid.{told-small, told-by}
+
+-- ---- known by what it tells
+
+abbrev codeOf : Told → ℕ
+codeOf t = t .code
+
+abbrev valueOf : Told → Answer
+valueOf t = t .answer
+
+pub removalTold-injective : (a b : Removal) → removalTold a ≡ removalTold b → a ≡ b
+unfolding removalTold
+removalTold-injective Done Done e = refl
+removalTold-injective Done RemovalSmall e = let z = ap codeOf e in absurd (omega arith)
+removalTold-injective RemovalSmall Done e = let z = ap codeOf e in absurd (omega arith)
+removalTold-injective RemovalSmall RemovalSmall e = refl
+
+pub initializedTold-injective : (a b : IsInitialized) → initializedTold a ≡ initializedTold b → a ≡ b
+unfolding initializedTold
+initializedTold-injective (Is a) (Is b) e = let h : truth a ≡ truth b = ap valueOf e in cc
+initializedTold-injective (Is a) InitializedSmall e = let z = ap codeOf e in absurd (omega arith)
+initializedTold-injective InitializedSmall (Is b) e = let z = ap codeOf e in absurd (omega arith)
+initializedTold-injective InitializedSmall InitializedSmall e = refl
+
+options-injective : (a b : VfsOptions) → optionsIn a ≡ optionsIn b → a ≡ b
+options-injective a b e =
+    same (ap (λ (o : Options). o .inOpts) e) (ap (λ (o : Options). o .outOpts) e) (maps (ap (λ (o : Options). o .mapping) e)) (ap (λ (o : Options). o .flags) e)
+  where
+    maps : mappingOf (a .mapping) ≡ mappingOf (b .mapping) → a .mapping ≡ b .mapping
+    maps p = λ t. record { internal = p t .internal; external = p t .external; range = p t .range }
+
+    same : a .«in_opts» ≡ b .«in_opts» → a .«out_opts» ≡ b .«out_opts» → a .mapping ≡ b .mapping → a .flags ≡ b .flags → a ≡ b
+    same p q r s = λ t. record { «in_opts» = p t; «out_opts» = q t; mapping = r t; flags = s t }
+
+pub optionsTold-injective : (a b : OptionsOf) → optionsTold a ≡ optionsTold b → a ≡ b
+unfolding optionsTold
+optionsTold-injective (OptionsAre a) (OptionsAre b) e =
+    let h : settings (optionsIn a) ≡ settings (optionsIn b) = ap valueOf e in
+    let i : optionsIn a ≡ optionsIn b = cc in
+    ap OptionsAre (options-injective a b i)
+optionsTold-injective (OptionsAre a) OptionsSmall e = let z = ap codeOf e in absurd (omega arith)
+optionsTold-injective OptionsSmall (OptionsAre b) e = let z = ap codeOf e in absurd (omega arith)
+optionsTold-injective OptionsSmall OptionsSmall e = refl
+
+-- ---- tells what its rule says
+
+module _ (mem : List ℕ) where
+  pub long : laid mem ≡ true → 8192 ≤ length mem
+  long e = omega (arith, laid-is mem e .long)
+
+  pub initialized-small : laid mem ≡ false → initializedTold InitializedSmall ≡ answeredBy mem initializedCall
+  unfolding initializedTold
+  initialized-small e = sym (told-small mem initializedCall e)
+
+  pub initialized-is : laid mem ≡ true → (x : ℕ) → x ≡ get 1 mem 83 → initializedTold (Is (not (eqb x 0))) ≡ answeredBy mem initializedCall
+  unfolding initializedTold rule view row get
+  initialized-is e x p = ap (λ (y : ℕ). initializedTold (Is (not (eqb y 0)))) p ∙ sym (told-by mem initializedCall e)
+
+  pub options-small : laid mem ≡ false → optionsTold OptionsSmall ≡ answeredBy mem optionsCall
+  unfolding optionsTold
+  options-small e = sym (told-small mem optionsCall e)
+
+  pub options-are : laid mem ≡ true → (o : VfsOptions) → o .«in_opts» ≡ get 8 mem 40 → o .«out_opts» ≡ get 8 mem 48 → o .mapping .internal ≡ get 4 mem 68
+      → o .mapping .external ≡ get 4 mem 72 → o .mapping .range ≡ get 4 mem 76 → o .flags ≡ get 1 mem 80 → optionsTold (OptionsAre o) ≡ answeredBy mem optionsCall
+  unfolding optionsTold rule view row get
+  options-are e o a b c d f g =
+      let same : optionsIn o ≡ view mem .options = λ t. record { inOpts = a t; outOpts = b t; mapping = record { internal = c t; external = d t; range = f t }; flags = g t } in
+      (λ t. record { code = 0; answer = settings (same t); count = 0 }) ∙ sym (told-by mem optionsCall e)
+
+  pub removal-small : laid mem ≡ false → Does mem removeCall (removalTold RemovalSmall) mem (cond (laid mem) (setRemoval mem) mem)
+  unfolding removalTold
+  removal-small e = record {
+    answer = sym (told-small mem removeCall e);
+    bytes = rw e;
+    stands = λ t. absurd (true≢false (sym t ∙ e));
+    keeps = λ t. absurd (true≢false (sym t ∙ e));
+  }
+
+  pub removal-done : (after : List ℕ) → laid mem ≡ true → after ≡ setRemoval mem → Does mem removeCall (removalTold Done) after (cond (laid mem) (setRemoval mem) mem)
+  unfolding removalTold rule
+  removal-done after e p =
+      let l : 8192 ≤ length mem = long e in
+      record {
+        answer = sym (told-by mem removeCall e);
+        bytes = p ∙ rw e;
+        stands = λ t. ap view p ∙ view-removal mem (omega arith);
+        keeps = λ t. ap laid p ∙ keeps-removal mem e;
+      }

@@ -1,0 +1,136 @@
+-- Creation: what its writes come to, and what the bytes then stand for. Assumes nothing.
+use mathlib.Core.Path.{_≡_, refl, sym, ap, _∙_}
+use mathlib.Core.Bool.{true, false, _||_}
+use mathlib.Core.List.{List, [], _∷_}
+use Prim.Native.Nat.{ℕ, zero, suc, _+_, _-_, _^_, _≤_, _<_}
+use native.Mathlib.Omega.{arith}
+use lib.ListN.{length, getD, replicate, length-replicate, getD-replicate}
+use lib.Dec.{ltb}
+use borrow.Author.Tests.{ne-eqb, ltb-false}
+use Rattle.le.specs.Mem.{write, bytesOf, put}
+use Rattle.rules.specs.Numbers.{DONE, storageFor}
+use Rattle.rules.specs.Ids.{Mapping, badMapping}
+use Rattle.rules.specs.Instance.{Instance, emptySlot, heldBy}
+use Rattle.rules.specs.Create.{Creation, tooSmall, outside, unknown, newInstance, createRule}
+use Rattle.rules.proofs.Tests.{or-neither}
+use Rattle.id_map.specs.declared.IdMapping.{IdMapping}
+use Rattle.tables.specs.Table.{putRow, tab}
+use Rattle.tables.specs.View.{nodesFrom, view}
+use Rattle.tables.specs.Rule.{laid}
+use Rattle.tables.specs.Write.{putHeader}
+use Rattle.storage.specs.Header.{spell, headerOf}
+use Rattle.storage.specs.Limits.{MappingFits, SlotsFit, Limits}
+use Rattle.storage.specs.Creation.{creationOf, createdCode, emptySlots, createMem, Creates}
+use Rattle.storage.specs.declared.Created.{Created}
+use Rattle.storage.specs.declared.Created.the-variants.{Done}
+use Rattle.storage.proofs.Header.{view-headed, laid-headed}
+use Rattle.storage.proofs.Refusals.{large-enough}
+use Rattle.storage.proofs.Slots.{length-slots, slots-empty}
+
+-- ---- what the writes come to
+
+pub words-put : (mem : List ℕ) (n known ins outs : ℕ) →
+    put 8 (put 8 (put 8 (put 8 (put 8 (put 8 (put 8 mem 0 5927113483044536647) 8 n) 16 0) 24 2) 32 known) 40 ins) 48 outs
+    ≡ putHeader 0 (bytesOf 8 5927113483044536647 ∷ bytesOf 8 n ∷ bytesOf 8 0 ∷ bytesOf 8 2 ∷ bytesOf 8 known ∷ bytesOf 8 ins ∷ bytesOf 8 outs ∷ []) mem
+unfolding put write putHeader putRow
+words-put mem n known ins outs = refl
+
+pub bytes-put : (mem : List ℕ) (flags : ℕ) → put 8 (put 1 (put 1 (put 1 (put 1 mem 80 flags) 81 1) 82 0) 83 0) 88 0
+    ≡ putHeader 13 (bytesOf 1 flags ∷ bytesOf 1 1 ∷ bytesOf 1 0 ∷ bytesOf 1 0 ∷ bytesOf 8 0 ∷ []) mem
+unfolding put write putHeader putRow
+bytes-put mem flags = refl
+
+pub all-put : (mem : List ℕ) (n known ins outs flags : ℕ) (m : IdMapping) →
+    putHeader 13 (bytesOf 1 flags ∷ bytesOf 1 1 ∷ bytesOf 1 0 ∷ bytesOf 1 0 ∷ bytesOf 8 0 ∷ [])
+    (put 4 (put 4 (put 4 (put 4 (put 4 (put 4
+    (putHeader 0 (bytesOf 8 5927113483044536647 ∷ bytesOf 8 n ∷ bytesOf 8 0 ∷ bytesOf 8 2 ∷ bytesOf 8 known ∷ bytesOf 8 ins ∷ bytesOf 8 outs ∷ []) (emptySlots mem))
+    56 (m .internal)) 60 (m .external)) 64 (m .range)) 68 (m .internal)) 72 (m .external)) 76 (m .range))
+    ≡ createMem (creationOf n known ins outs flags m) mem
+unfolding put write putHeader putRow createMem spell headerOf newInstance
+all-put mem n known ins outs flags m = refl
+
+-- ---- what the bytes then stand for
+
+empty-fit : (n : ℕ) → SlotsFit (replicate n emptySlot)
+empty-fit zero = omega arith
+empty-fit (suc n) = (omega arith, empty-fit n)
+
+-- a mapping that passes its test is within its widths
+mapping-fits : (m : Mapping) → badMapping m ≡ false → MappingFits m
+unfolding badMapping
+mapping-fits m e =
+    let a = or-neither (ltb (2 ^ 32 - 1) (m .internal + m .range)) (ltb (2 ^ 32 - 1) (m .external + m .range)) e in
+    let b = ltb-false (2 ^ 32 - 1) (m .internal + m .range) (a .0) in
+    let c = ltb-false (2 ^ 32 - 1) (m .external + m .range) (a .1) in
+    omega arith
+
+module _ (q : Creation) (mem : List ℕ) where
+  pub new-limits : tooSmall (length mem) (q .capacity) ≡ false → (outside (q .known) (q .options .inOpts) || outside (q .known) (q .options .outOpts)) ≡ false → q .options .flags < 64
+      → badMapping (q .options .mapping) ≡ false → q .known < 2 ^ 64 → q .options .inOpts < 2 ^ 64 → q .options .outOpts < 2 ^ 64 → Limits (newInstance q)
+  unfolding newInstance unknown
+  new-limits e f g h k a b =
+      let m = mapping-fits (q .options .mapping) h in
+      let s = large-enough (length mem) (q .capacity) e in
+      record {
+        some-node = s .0;
+        few-nodes = s .1;
+        live = s .0;
+        low = omega arith;
+        top = omega arith;
+        bits = f;
+        flags = g;
+        maps = h;
+        fixed-fits = (k, m);
+        options-fit = (a, b, m);
+        counter = omega arith;
+        slots = length-replicate 256 emptySlot;
+        tags = empty-fit 256;
+        root = omega arith;
+        nodes = omega arith;
+      }
+
+  module _ (l : Limits (newInstance q)) (b : storageFor (q .capacity) ≤ length mem) where
+    pub view-created : view (createMem q mem) ≡ newInstance q
+    unfolding createMem newInstance nodesFrom tab
+    view-created =
+        let size : length (emptySlots mem) ≡ length mem = length-slots mem in
+        view-headed (newInstance q) (emptySlots mem) l (omega arith)
+        ∙ (λ t. record {
+          fixed = newInstance q .fixed;
+          removal = false;
+          initialized = false;
+          options = q .options;
+          indexes = record { slots = slots-empty mem (omega arith) t; counter = 1 };
+          tree = newInstance q .tree;
+        })
+
+    pub laid-created : laid (createMem q mem) ≡ true
+    unfolding createMem newInstance
+    laid-created =
+        let size : length (emptySlots mem) ≡ length mem = length-slots mem in
+        laid-headed (newInstance q) (emptySlots mem) l (omega arith) (omega arith)
+
+  -- ---- the contract
+
+  pub refused : (r : Created) (n : ℕ) → createdCode r ≡ suc n → createRule (length mem) q .code ≡ suc n → Creates mem q r mem
+  refused r n a e = record {
+    answer = a ∙ sym e;
+    bytes = rw (e, ne-eqb (suc n) DONE (λ z. omega arith));
+    keeps = λ z. absurd (omega arith);
+    stands = λ z. absurd (omega arith);
+    slots = λ z. absurd (omega arith);
+    counter = λ z. absurd (omega arith);
+  }
+
+  pub done : (after : List ℕ) → createRule (length mem) q .code ≡ DONE → after ≡ createMem q mem → Limits (newInstance q) → storageFor (q .capacity) ≤ length mem → Creates mem q Done after
+  unfolding createdCode newInstance
+  done after e p l b =
+      let v : view after ≡ newInstance q = ap view p ∙ view-created l b in
+      record {
+        answer = sym e;
+        bytes = p ∙ rw e;
+        keeps = λ z. ap laid p ∙ laid-created l b;
+        stands = λ z. v;
+        slots = λ z k h. ap (λ (i : Instance). getD (i .indexes .slots) k (heldBy 0)) v ∙ getD-replicate 256 k emptySlot (heldBy 0) h;
+        counter = λ z. ap (λ (i : Instance). i .indexes .counter) v;
+      }

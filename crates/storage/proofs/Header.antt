@@ -1,0 +1,133 @@
+-- A header that is written for an instance: what the bytes then stand for, and that they keep the layout rule. Assumes nothing.
+use mathlib.Core.Path.{_≡_, refl, ap, ap₂, _∙_}
+use mathlib.Core.Bool.{Bool, true, false, not}
+use mathlib.Core.List.{List, [], _∷_}
+use mathlib.Core.Option.{none}
+use Prim.Native.Nat.{ℕ, zero, suc, _+_, _*_, _≤_, _<_}
+use native.Mathlib.Omega.{arith}
+use lib.ListN.{length, getD}
+use lib.Dec.{eqb}
+use Rattle.rules.specs.Ids.{badMapping}
+use Rattle.rules.specs.Instance.{Instance}
+use Rattle.rules.specs.Create.{unknown}
+use Rattle.rules.proofs.Fields.{length-bytesOf}
+use Rattle.tables.specs.Table.{Col, over, Fit}
+use Rattle.tables.specs.Layout.{header}
+use Rattle.tables.specs.View.{field, mountFrom, slotsOf, nodesFrom, view}
+use Rattle.tables.specs.Rule.{laidBy, laid}
+use Rattle.tables.specs.Write.{putHeader, heldByte}
+use Rattle.tables.proofs.Table.{length-putRow}
+use Rattle.tables.proofs.Refine.{whole, head-put, view-header}
+use Rattle.tables.proofs.Keeps.{is-ruled}
+use Rattle.storage.specs.Header.{spell, headerOf}
+use Rattle.storage.specs.Limits.{Limits, Widths}
+
+-- ---- numbers as cells
+
+pub spell-fits : (cs : List Col) (vs : List ℕ) → Fit cs (spell cs vs)
+unfolding spell
+spell-fits [] vs = omega arith
+spell-fits (c ∷ cs) [] = omega arith
+spell-fits (c ∷ cs) (v ∷ vs) = (omega (arith, length-bytesOf (c .width) v), spell-fits cs vs)
+
+-- number k is read again
+pub spelt : (cs : List Col) (vs : List ℕ) (mem : List ℕ) (i k : ℕ) → Widths cs vs → k < length vs → k < length cs → field k (over cs (spell cs vs) mem i) ≡ getD vs k 0
+unfolding spell over
+spelt [] vs mem i k w h g = absurd (omega arith)
+spelt (c ∷ cs) [] mem i k w h g = absurd (omega arith)
+spelt (c ∷ cs) (v ∷ vs) mem i zero w h g = whole (c .width) v mem _ (w .0)
+spelt (c ∷ cs) (v ∷ vs) mem i (suc k) w h g = spelt cs vs mem i k (w .1) (omega arith) (omega arith)
+
+flag-back : (b : Bool) → not (eqb (heldByte b) 0) ≡ b
+flag-back true = refl
+flag-back false = refl
+
+-- ---- the header of an instance
+
+module _ (i : Instance) (mem : List ℕ) (l : Limits i) (b : 256 ≤ length mem) where
+  abbrev vs : List ℕ
+  vs = headerOf i
+
+  abbrev H : List (List ℕ)
+  H = over header (spell header vs) mem 0
+
+  abbrev after : List ℕ
+  after = putHeader 0 (spell header vs) mem
+
+  widths : Widths header vs
+  unfolding headerOf
+  widths = let d = l in let e = flag-fits (i .removal) in let f = flag-fits (i .initialized) in omega (arith, l .fixed-fits, l .options-fit)
+    where
+      flag-fits : (t : Bool) → heldByte t ≤ 1
+      flag-fits true = omega arith
+      flag-fits false = omega arith
+
+  reads : (k : ℕ) → k < 18 → field k H ≡ getD vs k 0
+  unfolding headerOf
+  reads k h = spelt header vs mem 0 k widths (omega arith) (omega arith)
+
+  -- the instance but for its slots, its nodes and the root's mount, which are what the other bytes say
+  pub view-headed : view after ≡ record {
+    fixed = i .fixed;
+    removal = i .removal;
+    initialized = i .initialized;
+    options = i .options;
+    indexes = record { slots = slotsOf mem; counter = i .indexes .counter };
+    tree = record { next = i .tree .next; root = none; nodes = nodesFrom (i .fixed .capacity) mem 0 (length (i .tree .nodes)) };
+  }
+  unfolding headerOf
+  view-headed =
+      let f : (k : ℕ) → k < 18 → field k H ≡ getD vs k 0 = reads in
+      view-header 0 (spell header vs) mem (spell-fits header vs) b
+      ∙ (λ t. record {
+        fixed = record {
+          capacity = f 1 (omega arith) t;
+          known = f 4 (omega arith) t;
+          mapping = record { internal = f 7 (omega arith) t; external = f 8 (omega arith) t; range = f 9 (omega arith) t };
+        };
+        removal = (ap (λ (x : ℕ). not (eqb x 0)) (f 15 (omega arith)) ∙ flag-back (i .removal)) t;
+        initialized = (ap (λ (x : ℕ). not (eqb x 0)) (f 16 (omega arith)) ∙ flag-back (i .initialized)) t;
+        options = record {
+          inOpts = f 5 (omega arith) t;
+          outOpts = f 6 (omega arith) t;
+          mapping = record { internal = f 10 (omega arith) t; external = f 11 (omega arith) t; range = f 12 (omega arith) t };
+          flags = f 13 (omega arith) t;
+        };
+        indexes = record { slots = slotsOf mem; counter = f 14 (omega arith) t };
+        tree = record {
+          next = f 3 (omega arith) t;
+          root = mountFrom (f 17 (omega arith) t) (field 18 H) (field 19 H) (field 20 H);
+          nodes = nodesFrom (f 1 (omega arith) t) mem 0 (f 2 (omega arith) t);
+        };
+      })
+
+  pub laid-headed : 512 * i .fixed .capacity + 8192 ≤ length mem → laid after ≡ true
+  unfolding laid headerOf putHeader
+  laid-headed long =
+      let f : (k : ℕ) → k < 18 → field k H ≡ getD vs k 0 = reads in
+      let n : field 1 H ≡ i .fixed .capacity = f 1 (omega arith) in
+      let c : field 2 H ≡ length (i .tree .nodes) = f 2 (omega arith) in
+      let x : field 3 H ≡ i .tree .next = f 3 (omega arith) in
+      let g : field 13 H ≡ i .options .flags = f 13 (omega arith) in
+      let size : length after ≡ length mem = length-putRow header (spell header vs) mem 0 in
+      ap₂ laidBy (head-put 0 (spell header vs) mem (spell-fits header vs) b) size
+      ∙ is-ruled H (length mem) (record {
+        long = omega arith;
+        marked = f 0 (omega arith);
+        some-node = omega (arith, l .some-node);
+        few-nodes = omega (arith, l .few-nodes);
+        enough = omega arith;
+        live = omega (arith, l .live);
+        low = omega (arith, l .low);
+        top = omega (arith, l .top);
+        bits =
+            (λ t. unknown (f 4 (omega arith) t) (record {
+              inOpts = f 5 (omega arith) t;
+              outOpts = f 6 (omega arith) t;
+              mapping = record { internal = f 10 (omega arith) t; external = f 11 (omega arith) t; range = f 12 (omega arith) t };
+              flags = f 13 (omega arith) t;
+            }))
+            ∙ l .bits;
+        flags = omega (arith, l .flags);
+        maps = (λ t. badMapping (record { internal = f 7 (omega arith) t; external = f 8 (omega arith) t; range = f 9 (omega arith) t })) ∙ l .maps;
+      })

@@ -1,0 +1,102 @@
+-- The layout rule, test by test: where one fails the rule does. And what it means for the answer of a call. Assumes nothing.
+use mathlib.Core.Path.{_≡_, ap, _∙_}
+use mathlib.Core.Bool.{Bool, true, false, not, _&&_, _||_, and-true, and-false}
+use mathlib.Core.List.{List, [], _∷_}
+use Prim.Native.Nat.{ℕ, zero, suc, _+_, _*_, _^_, _≤_, _<_}
+use lib.ListN.{length, getD}
+use borrow.Author.Tests.{eq-eqb, ne-eqb, le-leb, lt-leb, lt-ltb, le-ltb}
+use Rattle.le.specs.Mem.{get}
+use Rattle.rules.specs.Ids.{badMapping}
+use Rattle.rules.specs.Create.{outside, unknown}
+use Rattle.rules.specs.Instance.{Instance}
+use Rattle.rules.specs.Outcome.{Outcome}
+use Rattle.rules.specs.Saved.{every}
+use Rattle.tables.specs.Table.{row}
+use Rattle.tables.specs.Layout.{mark, capacityOf, countOf, nextOf}
+use Rattle.tables.specs.View.{mappingFrom, headOf, view}
+use Rattle.tables.specs.Rule.{laidBy, laid}
+use Rattle.tables.specs.Call.{toldBy, toldSmall, answeredBy}
+use Rattle.storage.specs.Laid.{settingsFit}
+
+pub fails : (k : ℕ) (ts : List Bool) → getD ts k true ≡ false → every ts ≡ false
+unfolding every
+fails zero [] e = e
+fails (suc k) [] e = e
+fails zero (t ∷ ts) e = rw e
+fails (suc k) (t ∷ ts) e = ap (λ (b : Bool). t && b) (fails k ts e) ∙ and-false t
+
+-- ---- the tests of the rule
+
+module _ (mem : List ℕ) where
+  pub short : length mem < 8192 → laid mem ≡ false
+  unfolding laid laidBy
+  short h = fails 0 _ (lt-leb 8192 (length mem) h)
+
+  pub unmarked : (get 8 mem 0 ≡ mark → ⊥) → laid mem ≡ false
+  unfolding laid laidBy row get
+  unmarked h = fails 1 _ (ne-eqb (get 8 mem 0) mark h)
+
+  pub no-node : capacityOf mem < 1 → laid mem ≡ false
+  unfolding laid laidBy row get
+  no-node h = fails 2 _ (lt-leb 1 (capacityOf mem) h)
+
+  pub many-nodes : 1024 < capacityOf mem → laid mem ≡ false
+  unfolding laid laidBy row get
+  many-nodes h = fails 3 _ (lt-leb (capacityOf mem) 1024 h)
+
+  pub few-bytes : length mem < 512 * capacityOf mem + 8192 → laid mem ≡ false
+  unfolding laid laidBy row get
+  few-bytes h = fails 4 _ (lt-leb (512 * capacityOf mem + 8192) (length mem) h)
+
+  pub crowded : capacityOf mem ≤ countOf mem → laid mem ≡ false
+  unfolding laid laidBy row get
+  crowded h = fails 5 _ (le-ltb (countOf mem) (capacityOf mem) h)
+
+  pub low-next : nextOf mem < 2 → laid mem ≡ false
+  unfolding laid laidBy row get
+  low-next h = fails 6 _ (lt-leb 2 (nextOf mem) h)
+
+  pub high-next : 2 ^ 56 < nextOf mem → laid mem ≡ false
+  unfolding laid laidBy row get
+  high-next h = fails 7 _ (lt-leb (nextOf mem) (2 ^ 56) h)
+
+  -- the first eight pass: the last three decide
+  pub last-three : 8192 ≤ length mem → get 8 mem 0 ≡ mark → 1 ≤ capacityOf mem → capacityOf mem ≤ 1024 → 512 * capacityOf mem + 8192 ≤ length mem
+      → countOf mem < capacityOf mem → 2 ≤ nextOf mem → nextOf mem ≤ 2 ^ 56 → laid mem ≡ settingsFit (headOf mem)
+  unfolding laid laidBy row get every settingsFit
+  last-three a b c d e f g h =
+      rw (
+        le-leb 8192 (length mem) a,
+        eq-eqb (get 8 mem 0) mark b,
+        le-leb 1 (capacityOf mem) c,
+        le-leb (capacityOf mem) 1024 d,
+        le-leb (512 * capacityOf mem + 8192) (length mem) e,
+        lt-ltb (countOf mem) (capacityOf mem) f,
+        le-leb 2 (nextOf mem) g,
+        le-leb (nextOf mem) (2 ^ 56) h,
+      )
+
+  -- ---- the last three
+
+  pub unknown-bits : (outside (get 8 mem 32) (get 8 mem 40) || outside (get 8 mem 32) (get 8 mem 48)) ≡ true → settingsFit (headOf mem) ≡ false
+  unfolding settingsFit row get unknown
+  unknown-bits e = fails 0 _ (rw e)
+
+  pub high-flags : 64 ≤ get 1 mem 80 → settingsFit (headOf mem) ≡ false
+  unfolding settingsFit row get
+  high-flags h = fails 1 _ (le-ltb (get 1 mem 80) 64 h)
+
+  pub by-mapping : (outside (get 8 mem 32) (get 8 mem 40) || outside (get 8 mem 32) (get 8 mem 48)) ≡ false → get 1 mem 80 < 64
+      → settingsFit (headOf mem) ≡ not (badMapping (mappingFrom 7 (headOf mem)))
+  unfolding settingsFit row get unknown every
+  by-mapping e c = rw (e, lt-ltb (get 1 mem 80) 64 c, and-true)
+
+  -- ---- the answer of a call
+
+  pub told-small : (f : Instance → Outcome) → laid mem ≡ false → answeredBy mem f ≡ toldSmall
+  unfolding answeredBy
+  told-small f e = rw e
+
+  pub told-by : (f : Instance → Outcome) → laid mem ≡ true → answeredBy mem f ≡ toldBy (f (view mem))
+  unfolding answeredBy
+  told-by f e = rw e

@@ -1,0 +1,14 @@
+-- Each return is a test of the rule. Assumes nothing.
+use mathlib.Core.Path.{sym}
+use Rattle.storage.proofs.Refusals.{in-unknown, by-out}
+use Rattle.storage.proofs.is_unknown.Statement.{statement}
+use Rattle.storage.proofs.is_unknown.Tie as tie
+
+returns : tie.Need-returns
+returns c = sym (in-unknown _ _ _ (c .if1 .taken))
+
+returns-2 : tie.Need-returns-2
+returns-2 c = by-out _ _ _ (c .if1 .left)
+
+pub is-unknown-spec : {M : Type 1} → statement M
+is-unknown-spec = tie.close (tie.spec returns returns-2)

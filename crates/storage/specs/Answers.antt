@@ -1,0 +1,41 @@
+-- What the answers of the calls on the header tell, and their rules.
+use Rattle.id_map.specs.Mapping.{mappingOf}
+use Rattle.rules.specs.Instance.{Options, Instance}
+use Rattle.rules.specs.Outcome.{nothing, settings, truth, Outcome}
+use Rattle.rules.specs.Calls.{set-remove-pseudo-root, options, initialized, rule}
+use Rattle.tables.specs.Call.{Told, toldSmall}
+use Rattle.storage.specs.declared.Removal.{Removal}
+use Rattle.storage.specs.declared.Removal.the-variants.{Done, Small as RemovalSmall}
+use Rattle.storage.specs.declared.IsInitialized.{IsInitialized}
+use Rattle.storage.specs.declared.IsInitialized.the-variants.{Is, Small as InitializedSmall}
+use Rattle.storage.specs.declared.VfsOptions.{VfsOptions}
+use Rattle.storage.specs.declared.OptionsOf.{OptionsOf}
+use Rattle.storage.specs.declared.OptionsOf.the-variants.{Options as OptionsAre, Small as OptionsSmall}
+
+-- ---- the rules of the three calls
+
+abbrev pub removeCall : Instance → Outcome
+removeCall i = rule i set-remove-pseudo-root
+
+abbrev pub initializedCall : Instance → Outcome
+initializedCall i = rule i initialized
+
+abbrev pub optionsCall : Instance → Outcome
+optionsCall i = rule i options
+
+-- ---- number and values of each answer
+
+unfoldable pub removalTold : Removal → Told
+removalTold Done = record { code = 0; answer = nothing; count = 0 }
+removalTold RemovalSmall = toldSmall
+
+unfoldable pub initializedTold : IsInitialized → Told
+initializedTold (Is b) = record { code = 0; answer = truth b; count = 0 }
+initializedTold InitializedSmall = toldSmall
+
+abbrev pub optionsIn : VfsOptions → Options
+optionsIn o = record { inOpts = o .«in_opts»; outOpts = o .«out_opts»; mapping = mappingOf (o .mapping); flags = o .flags }
+
+unfoldable pub optionsTold : OptionsOf → Told
+optionsTold (OptionsAre o) = record { code = 0; answer = settings (optionsIn o); count = 0 }
+optionsTold OptionsSmall = toldSmall

@@ -1,0 +1,54 @@
+-- Creation: what it writes, its answer's number, and its contract.
+use Prim.Native.Nat.{ℕ, _<_}
+use mathlib.Core.Path.{_≡_}
+use mathlib.Core.Bool.{true, cond}
+use mathlib.Core.List.{List, [], _∷_, _++_}
+use lib.ListN.{length, getD, replicate}
+use lib.Dec.{eqb}
+use Rattle.le.specs.Mem.{write, bytesOf}
+use Rattle.rules.specs.Numbers.{DONE, SMALL, BADOPT, BADMAP}
+use Rattle.rules.specs.Instance.{heldBy, emptySlot, counterOf}
+use Rattle.rules.specs.Create.{Creation, newInstance, createRule}
+use Rattle.id_map.specs.declared.IdMapping.{IdMapping}
+use Rattle.id_map.specs.Mapping.{mappingOf}
+use Rattle.tables.specs.Layout.{header}
+use Rattle.tables.specs.View.{view}
+use Rattle.tables.specs.Rule.{laid}
+use Rattle.tables.specs.Write.{putHeader}
+use Rattle.storage.specs.Header.{spell, headerOf}
+use Rattle.storage.specs.declared.Created.{Created}
+use Rattle.storage.specs.declared.Created.the-variants.{Done, Small, BadOpt, BadMap}
+
+-- what the arguments ask for (R26, R27)
+abbrev pub creationOf : ℕ → ℕ → ℕ → ℕ → ℕ → IdMapping → Creation
+creationOf n known ins outs flags m = record { capacity = n; known = known; options = record { inOpts = ins; outOpts = outs; mapping = mappingOf m; flags = flags } }
+
+-- the number of the answer (R15)
+unfoldable pub createdCode : Created → ℕ
+createdCode Done = DONE
+createdCode Small = SMALL
+createdCode BadOpt = BADOPT
+createdCode BadMap = BADMAP
+
+-- tags as they stand in their column
+unfoldable pub tagBytes : List ℕ → List ℕ
+tagBytes [] = []
+tagBytes (t ∷ ts) = bytesOf 4 t ++ tagBytes ts
+
+-- 256 slots, none held, each tag 0 (R31)
+unfoldable pub emptySlots : List ℕ → List ℕ
+emptySlots mem = write (write mem 256 (replicate 256 0)) 512 (replicate 1024 0)
+
+-- the bytes of a new instance: its slots and its header; all others keep what they held
+unfoldable pub createMem : Creation → List ℕ → List ℕ
+createMem q mem = putHeader 0 (spell header (headerOf (newInstance q))) (emptySlots mem)
+
+-- the answer's number by the rule; the bytes exactly, as they were where it is refused; where it is done they keep the layout rule and stand for the new
+-- instance, whatever they held, and in particular each of the 256 slots is there and empty (past the end a held one would be read) and the counter is 1
+pub record Creates (mem : List ℕ) (q : Creation) (r : Created) (after : List ℕ) : Type 0 where
+  pub answer : createdCode r ≡ createRule (length mem) q .code
+  pub bytes : after ≡ cond (eqb (createRule (length mem) q .code) DONE) (createMem q mem) mem
+  pub keeps : createdCode r ≡ DONE → laid after ≡ true
+  pub stands : createdCode r ≡ DONE → view after ≡ newInstance q
+  pub slots : createdCode r ≡ DONE → (k : ℕ) → k < 256 → getD (view after .indexes .slots) k (heldBy 0) ≡ emptySlot
+  pub counter : createdCode r ≡ DONE → counterOf (view after) ≡ 1

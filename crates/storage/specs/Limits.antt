@@ -1,0 +1,76 @@
+-- The instances that bytes can stand for: within the layout rule, and each number within its cell.
+use Prim.Native.Nat.{ℕ, _^_, _≤_, _<_}
+use mathlib.Core.Path.{_≡_}
+use mathlib.Core.Bool.{true, false}
+use mathlib.Core.List.{List, [], _∷_}
+use mathlib.Core.Option.{Option, none, some}
+use lib.ListN.{length}
+use Rattle.rules.specs.Bytes.{Bytes}
+use Rattle.rules.specs.Ids.{Mapping, badMapping}
+use Rattle.rules.specs.Tree.{Mount, Node}
+use Rattle.rules.specs.Instance.{Fixed, Options, Slot, Instance}
+use Rattle.rules.specs.Create.{unknown}
+use Rattle.rules.specs.Numbers.{storageFor}
+use Rattle.tables.specs.Table.{Col}
+use Rattle.tables.specs.View.{view}
+use Rattle.tables.specs.Rule.{laid}
+
+-- numbers within the widths of the columns
+abbrev pub Widths : List Col → List ℕ → Type 0
+Widths [] vs = 0 ≤ 0
+Widths (c ∷ cs) [] = 0 ≤ 0
+Widths (c ∷ cs) (v ∷ vs) = (v < 256 ^ c .width) × Widths cs vs
+
+abbrev pub MappingFits : Mapping → Type 0
+MappingFits m = (m .internal < 2 ^ 32) × (m .external < 2 ^ 32) × (m .range < 2 ^ 32)
+
+abbrev pub FixedFits : Fixed → Type 0
+FixedFits f = (f .known < 2 ^ 64) × MappingFits (f .mapping)
+
+abbrev pub OptionsFit : Options → Type 0
+OptionsFit o = (o .inOpts < 2 ^ 64) × (o .outOpts < 2 ^ 64) × MappingFits (o .mapping)
+
+abbrev pub SlotsFit : List Slot → Type 0
+SlotsFit [] = 0 ≤ 0
+SlotsFit (s ∷ ss) = (s .tag < 2 ^ 32) × SlotsFit ss
+
+abbrev pub MountFits : Option Mount → Type 0
+MountFits none = 0 ≤ 0
+MountFits (some m) = (1 ≤ m .index) × (m .index ≤ 255) × (m .root < 2 ^ 56) × (m .uid < 2 ^ 32) × (m .gid < 2 ^ 32) × (m .mode < 2 ^ 32)
+
+abbrev pub NodeFits : Node → Type 0
+NodeFits n = (n .number < 2 ^ 56) × (n .above < 2 ^ 56) × (length (n .called) ≤ 255) × Bytes (n .called) × MountFits (n .mount)
+
+abbrev pub NodesFit : List Node → Type 0
+NodesFit [] = 0 ≤ 0
+NodesFit (n ∷ ns) = NodeFits n × NodesFit ns
+
+pub record Limits (i : Instance) : Type 0 where
+  -- what the layout rule asks (R9, R20, R22)
+  pub some-node : 1 ≤ i .fixed .capacity
+  pub few-nodes : i .fixed .capacity ≤ 1024
+  pub live : length (i .tree .nodes) < i .fixed .capacity
+  pub low : 2 ≤ i .tree .next
+  pub top : i .tree .next ≤ 2 ^ 56
+  pub bits : unknown (i .fixed .known) (i .options) ≡ false
+  pub flags : i .options .flags < 64
+  pub maps : badMapping (i .fixed .mapping) ≡ false
+  -- 256 slots, and the widths of the cells
+  pub fixed-fits : FixedFits (i .fixed)
+  pub options-fit : OptionsFit (i .options)
+  pub counter : i .indexes .counter < 256
+  pub slots : length (i .indexes .slots) ≡ 256
+  pub tags : SlotsFit (i .indexes .slots)
+  pub root : MountFits (i .tree .root)
+  pub nodes : NodesFit (i .tree .nodes)
+
+-- these bytes, no more than the instance needs, keep the layout rule and stand for it
+pub record Stored (i : Instance) (mem : List ℕ) : Type 0 where
+  pub long : length mem ≡ storageFor (i .fixed .capacity)
+  pub bytes : Bytes mem
+  pub keeps : laid mem ≡ true
+  pub stands : view mem ≡ i
+
+-- the claim: there are such bytes for every instance within the limits
+abbrev pub Onto : Type 0
+Onto = (i : Instance) → Limits i → (mem : List ℕ) × Stored i mem

@@ -1,0 +1,284 @@
+// The bytes that a host lends: the layout rule's test, creation, and the calls on the header alone (docs/LAYOUT.md).
+ghost use mathlib.Core.Path.{_≡_};
+ghost use mathlib.Core.Bool.{cond, _||_};
+ghost use mathlib.Core.List.{[], _∷_};
+ghost use Prim.Native.Nat.{_+_, _*_, _≤_};
+ghost use lib.ListN.{length};
+ghost use Rattle.le.specs.Mem.{write, bytesOf, put};
+ghost use Rattle.rules.specs.Create.{tooSmall, outside};
+ghost use Rattle.tables.specs.View.{headOf};
+ghost use Rattle.tables.specs.Rule.{laid};
+ghost use Rattle.tables.specs.Write.{putHeader, setRemoval};
+ghost use Rattle.tables.specs.Call.{answeredBy, Does};
+ghost use Rattle.storage.specs.Laid.{settingsFit};
+ghost use Rattle.storage.specs.Creation.{creationOf, tagBytes, emptySlots, createMem, Creates};
+ghost use Rattle.storage.specs.Answers.{removalTold, removeCall, initializedTold, initializedCall, optionsTold, optionsCall};
+
+// The answer of creation (R26).
+pub enum Created {
+    Done,
+    Small,
+    BadOpt,
+    BadMap,
+}
+
+// The answer of a call that only does its work.
+pub enum Removal {
+    Done,
+    Small,
+}
+
+// Whether the instance is initialized.
+pub enum IsInitialized {
+    Is(bool),
+    Small,
+}
+
+// The options: the words of option bits, their own mapping, and the flags (R27).
+pub struct VfsOptions {
+    pub in_opts: u64,
+    pub out_opts: u64,
+    pub mapping: id_map::IdMapping,
+    pub flags: u8,
+}
+
+// The options of an instance.
+pub enum OptionsOf {
+    Options(VfsOptions),
+    Small,
+}
+
+// The bytes `GALDOVAR`.
+const MARK: u64 = 5927113483044536647;
+
+const HEADER: usize = 8192;
+
+const MAX_NODES: u64 = 1024;
+
+// The first number that a new instance gives (R12).
+const FIRST: u64 = 2;
+
+// The largest that the next number may become (R67).
+const TOP: u64 = 0x0100_0000_0000_0000;
+
+const FLAGS: u8 = 64;
+
+const TAGS: usize = 512;
+
+// Whether a bit of either word is outside the mask (R28).
+fn is_unknown(known: u64, in_opts: u64, out_opts: u64) -> bool
+    ensures { λ r. ⌜ r ≡ (outside known «in_opts» || outside known «out_opts») ⌝ }
+{
+    if in_opts & known != in_opts {
+        return true;
+    }
+    out_opts & known != out_opts
+}
+
+// Whether the option bits are within the mask, the flags within theirs, and the mapping in force passes its test.
+fn settings_fit(s: &[u8]) -> bool
+    requires { ⌜ 8192 ≤ length (now s) ⌝ }
+    ensures { λ r. ⌜ r ≡ settingsFit (headOf (now (s .entry))) ⌝ }
+{
+    let known = le::fields::get_u64(s, 32);
+    let in_opts = le::fields::get_u64(s, 40);
+    let out_opts = le::fields::get_u64(s, 48);
+    if is_unknown(known, in_opts, out_opts) {
+        return false;
+    }
+    if FLAGS <= le::fields::get_u8(s, 80) {
+        return false;
+    }
+    !id_map::is_bad(tables::header::mapping(s))
+}
+
+// Whether the bytes keep the layout rule: tests of the header alone (R20, R22).
+pub fn is_laid(s: &[u8]) -> bool
+    ensures { λ r. ⌜ r ≡ laid (now (s .entry)) ⌝ }
+{
+    if s.len() < HEADER {
+        return false;
+    }
+    if le::fields::get_u64(s, 0) != MARK {
+        return false;
+    }
+    let n = le::fields::get_u64(s, 8);
+    if n < 1 {
+        return false;
+    }
+    if MAX_NODES < n {
+        return false;
+    }
+    if (s.len() as u64) < 512 * n + 8192 {
+        return false;
+    }
+    if n <= le::fields::get_u64(s, 16) {
+        return false;
+    }
+    let next = le::fields::get_u64(s, 24);
+    if next < 2 {
+        return false;
+    }
+    if TOP < next {
+        return false;
+    }
+    settings_fit(s)
+}
+
+// Whether N is outside its limits or the bytes are too few for it (R9, R20).
+fn is_small(bytes: usize, n: usize) -> bool
+    ensures { λ r. ⌜ r ≡ tooSmall bytes n ⌝ }
+{
+    if n < 1 {
+        return true;
+    }
+    if 1024 < n {
+        return true;
+    }
+    bytes < 512 * n + 8192
+}
+
+fn put_tags(s: &mut [u8], tags: &[u32])
+    requires { ⌜ 512 + 4 * length (now tags) ≤ length (now s) ⌝ }
+    ensures { λ _. ⌜ now (s .exit) ≡ write (now (s .entry)) 512 (tagBytes (now (tags .entry))) ⌝ }
+{
+    let mut k = 0;
+    while k < tags.len() {
+        le::fields::put_u32(s, TAGS + 4 * k, tags[k]);
+        k += 1;
+    }
+}
+
+// The slots of a new instance: all empty (R31).
+fn put_slots(s: &mut [u8])
+    requires { ⌜ 8192 ≤ length (now s) ⌝ }
+    ensures { λ _. ⌜ now (s .exit) ≡ emptySlots (now (s .entry)) ⌝ }
+{
+    let t = index::new();
+    le::runs::copy_at(s, 256, &t.used);
+    put_tags(s, &t.tags);
+}
+
+// The mark, N, no node, the first number, and the option bits.
+fn put_words(s: &mut [u8], n: u64, known: u64, in_opts: u64, out_opts: u64)
+    requires { ⌜ 8192 ≤ length (now s) ⌝ }
+    ensures { λ _. ⌜ now (s .exit) ≡ putHeader 0 (bytesOf 8 5927113483044536647 ∷ bytesOf 8 n ∷ bytesOf 8 0 ∷ bytesOf 8 2 ∷ bytesOf 8 known ∷ bytesOf 8 «in_opts» ∷ bytesOf 8 «out_opts» ∷ []) (now (s .entry)) ⌝ }
+{
+    le::fields::put_u64(s, 0, MARK);
+    le::fields::put_u64(s, 8, n);
+    le::fields::put_u64(s, 16, 0);
+    le::fields::put_u64(s, 24, FIRST);
+    le::fields::put_u64(s, 32, known);
+    le::fields::put_u64(s, 40, in_opts);
+    le::fields::put_u64(s, 48, out_opts);
+}
+
+fn put_mapping(s: &mut [u8], at: usize, m: id_map::IdMapping)
+    requires { ⌜ at + 12 ≤ length (now s) ⌝ }
+    ensures { λ _. ⌜ now (s .exit) ≡ put 4 (put 4 (put 4 (now (s .entry)) at (m .internal)) (at + 4) (m .external)) (at + 8) (m .range) ⌝ }
+{
+    le::fields::put_u32(s, at, m.internal);
+    le::fields::put_u32(s, at + 4, m.external);
+    le::fields::put_u32(s, at + 8, m.range);
+}
+
+// The flags, counter 1, removal unset, not initialized, no mount on the root.
+fn put_bytes(s: &mut [u8], flags: u8)
+    requires { ⌜ 8192 ≤ length (now s) ⌝ }
+    ensures { λ _. ⌜ now (s .exit) ≡ putHeader 13 (bytesOf 1 flags ∷ bytesOf 1 1 ∷ bytesOf 1 0 ∷ bytesOf 1 0 ∷ bytesOf 8 0 ∷ []) (now (s .entry)) ⌝ }
+{
+    le::fields::put_u8(s, 80, flags);
+    le::fields::put_u8(s, 81, 1);
+    le::fields::put_u8(s, 82, 0);
+    le::fields::put_u8(s, 83, 0);
+    le::fields::put_u64(s, 88, 0);
+}
+
+// All that a new instance has in the bytes (R31 to R34).
+fn put_new(
+    s: &mut [u8],
+    n: usize,
+    known: u64,
+    in_opts: u64,
+    out_opts: u64,
+    flags: u8,
+    mapping: id_map::IdMapping,
+)
+    requires { ⌜ 8192 ≤ length (now s) ⌝ }
+    ensures { λ _. ⌜ now (s .exit) ≡ createMem (creationOf n known «in_opts» «out_opts» flags mapping) (now (s .entry)) ⌝ }
+{
+    put_slots(s);
+    put_words(s, n as u64, known, in_opts, out_opts);
+    put_mapping(s, 56, mapping);
+    put_mapping(s, 68, mapping);
+    put_bytes(s, flags);
+}
+
+// A new instance of N nodes, whatever the bytes held: SMALL, then BADOPT, then BADMAP, or done (R19, R26 to R34).
+pub fn create(
+    s: &mut [u8],
+    n: usize,
+    known: u64,
+    in_opts: u64,
+    out_opts: u64,
+    flags: u8,
+    mapping: id_map::IdMapping,
+) -> Created
+    ensures { λ r. ⌜ Creates (now (s .entry)) (creationOf n known «in_opts» «out_opts» flags mapping) r (now (s .exit)) ⌝ }
+{
+    if is_small(s.len(), n) {
+        return Created::Small;
+    }
+    if is_unknown(known, in_opts, out_opts) {
+        return Created::BadOpt;
+    }
+    if FLAGS <= flags {
+        return Created::BadOpt;
+    }
+    if id_map::is_bad(mapping) {
+        return Created::BadMap;
+    }
+    put_new(s, n, known, in_opts, out_opts, flags, mapping);
+    Created::Done
+}
+
+// From now on an unmount takes its node out of the tree (R32).
+pub fn set_remove_pseudo_root(s: &mut [u8]) -> Removal
+    ensures { λ r. ⌜ Does (now (s .entry)) removeCall (removalTold r) (now (s .exit)) (cond (laid (now (s .entry))) (setRemoval (now (s .entry))) (now (s .entry))) ⌝ }
+{
+    if !is_laid(s) {
+        return Removal::Small;
+    }
+    tables::header::set_removes(s);
+    Removal::Done
+}
+
+// Whether the instance is initialized (R33, R134).
+pub fn initialized(s: &[u8]) -> IsInitialized
+    ensures { λ r. ⌜ initializedTold r ≡ answeredBy (now (s .entry)) initializedCall ⌝ }
+{
+    if !is_laid(s) {
+        return IsInitialized::Small;
+    }
+    IsInitialized::Is(le::fields::get_u8(s, 83) != 0)
+}
+
+// The options, with their own mapping (R27, R34).
+pub fn options(s: &[u8]) -> OptionsOf
+    ensures { λ r. ⌜ optionsTold r ≡ answeredBy (now (s .entry)) optionsCall ⌝ }
+{
+    if !is_laid(s) {
+        return OptionsOf::Small;
+    }
+    let mapping = id_map::IdMapping {
+        internal: le::fields::get_u32(s, 68),
+        external: le::fields::get_u32(s, 72),
+        range: le::fields::get_u32(s, 76),
+    };
+    OptionsOf::Options(VfsOptions {
+        in_opts: le::fields::get_u64(s, 40),
+        out_opts: le::fields::get_u64(s, 48),
+        mapping,
+        flags: le::fields::get_u8(s, 80),
+    })
+}

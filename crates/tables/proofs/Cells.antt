@@ -1,0 +1,90 @@
+-- The cells of the header and of a row, as the code reads them. Assumes nothing.
+use mathlib.Core.Path.{_≡_, refl, sym, ap, _∙_}
+use mathlib.Core.Bool.{Bool, true, false, _&&_, and-true, and-false}
+use mathlib.Core.List.{List, [], _∷_, _++_}
+use Prim.Native.Nat.{ℕ, suc, _+_, _-_, _%_, _^_, _≤_, _<_, min}
+use native.Mathlib.Nat.{zero-add}
+use native.Mathlib.Omega.{arith}
+use lib.ListN.{length, getD, take, length-append}
+use lib.Dec.{eqb}
+use Rattle.le.specs.Mem.{read, get, same}
+use Rattle.le.proofs.Lens.{get-one, take-read}
+use Rattle.le.proofs.Same.{same-append}
+use Rattle.rules.proofs.Fields.{length-read, read-add, read-all}
+use Rattle.tables.specs.Table.{row}
+use Rattle.tables.specs.Layout.{numberAt, parentAt, mountCellAt, lastAt, uidAt, gidAt, modeAt, firstAt}
+use Rattle.tables.specs.View.{mountFrom, nameFrom, nodeFrom, nodeAt}
+
+-- ---- the cells of row i
+
+module _ (n : ℕ) (mem : List ℕ) (i : ℕ) where
+  pub number-at : nodeAt n mem i .number ≡ get 8 mem (numberAt n i) % 2 ^ 56
+  unfolding nodeAt nodeFrom row get
+  number-at = refl
+
+  pub above-at : nodeAt n mem i .above ≡ get 8 mem (parentAt n i) % 2 ^ 56
+  unfolding nodeAt nodeFrom row get
+  above-at = refl
+
+  pub mount-at : nodeAt n mem i .mount ≡ mountFrom (get 8 mem (mountCellAt n i)) (get 4 mem (uidAt n i)) (get 4 mem (gidAt n i)) (get 4 mem (modeAt n i))
+  unfolding nodeAt nodeFrom row get
+  mount-at = refl
+
+  called-at : nodeAt n mem i .called ≡ nameFrom (read mem (lastAt n i) 8) (read mem (firstAt n i) 248)
+  unfolding nodeAt nodeFrom row
+  called-at = refl
+
+-- ---- names
+
+-- the length and the last bytes of a name, taken apart
+name-cells : (mem : List ℕ) (at : ℕ) (first : List ℕ) → nameFrom (read mem at 8) first ≡ take (getD mem at 0 - 7) first ++ take (min (getD mem at 0) 7) (read mem (at + 1) 7)
+unfolding nameFrom read
+name-cells mem at first = refl
+
+same-lengths : (a b : List ℕ) → (length a ≡ length b → ⊥) → same a b ≡ false
+unfolding same
+same-lengths [] [] h = absurd (h refl)
+same-lengths [] (y ∷ b) h = refl
+same-lengths (x ∷ a) [] h = refl
+same-lengths (x ∷ a) (y ∷ b) h = ap (λ (t : Bool). eqb x y && t) (same-lengths a b (λ e. h (ap suc e))) ∙ and-false (eqb x y)
+
+-- row i, whose length byte is l, against a name
+module _ (n : ℕ) (mem : List ℕ) (i l : ℕ) (p : List ℕ) (e : l ≡ get 1 mem (lastAt n i)) (fits : l < 256) where
+  -- the bytes of the name where they stand
+  pub spelt : nodeAt n mem i .called ≡ read mem (firstAt n i) (l - 7) ++ read mem (lastAt n i + 1) (min l 7)
+  spelt =
+      let h : getD mem (lastAt n i) 0 ≡ l = get-one mem (lastAt n i) ∙ sym e in
+      called-at n mem i ∙ name-cells mem (lastAt n i) (read mem (firstAt n i) 248)
+      ∙ rw (h, take-read mem (firstAt n i) 248 (l - 7) (omega arith), take-read mem (lastAt n i + 1) 7 (min l 7) (omega arith))
+
+  pub other-length : (l ≡ length p → ⊥) → same (nodeAt n mem i .called) p ≡ false
+  other-length h =
+      let long : length (nodeAt n mem i .called) ≡ (l - 7) + min l 7 =
+      ap length spelt ∙ length-append (read mem (firstAt n i) (l - 7)) (read mem (lastAt n i + 1) (min l 7)) ∙ rw (length-read mem (firstAt n i) (l - 7), length-read mem (lastAt n i + 1) (min l 7)) in
+      same-lengths (nodeAt n mem i .called) p (λ q. h (omega arith))
+
+  -- the last bytes are all of it
+  pub short-name : l ≡ length p → l ≤ 7 → same (nodeAt n mem i .called) p ≡ same (read mem (lastAt n i + 1) l) (read p 0 l)
+  unfolding read
+  short-name h b =
+      let z : l - 7 ≡ 0 = omega arith in
+      let m : min l 7 ≡ l = omega arith in
+      let whole : read p 0 l ≡ p = rw h (read-all p) in
+      ap (λ (s : List ℕ). same s p) (spelt ∙ rw (z, m)) ∙ ap (same (read mem (lastAt n i + 1) l)) (sym whole)
+
+  -- the last seven bytes, and the bytes before them
+  pub long-name : l ≡ length p → 7 < l
+      → same (nodeAt n mem i .called) p ≡ (same (read mem (firstAt n i) (l - 7)) (read p 0 (l - 7)) && same (read mem (lastAt n i + 1) 7) (read p (l - 7) 7))
+  long-name h b =
+      let m : min l 7 ≡ 7 = omega arith in
+      let k : length p ≡ (l - 7) + 7 = omega arith in
+      let whole : p ≡ read p 0 (l - 7) ++ read p (l - 7) 7 = sym (read-all p) ∙ ap (read p 0) k ∙ read-add p 0 (l - 7) 7 ∙ rw zero-add in
+      ap (λ (s : List ℕ). same s p) (spelt ∙ rw m) ∙ ap (same (read mem (firstAt n i) (l - 7) ++ read mem (lastAt n i + 1) 7)) whole
+      ∙ same-append (read mem (firstAt n i) (l - 7)) _ (read p 0 (l - 7)) _ (length-read mem (firstAt n i) (l - 7) ∙ sym (length-read p 0 (l - 7)))
+
+  pub long-other : l ≡ length p → 7 < l → same (read mem (lastAt n i + 1) 7) (read p (l - 7) 7) ≡ false → same (nodeAt n mem i .called) p ≡ false
+  long-other h b f = long-name h b ∙ ap (λ (t : Bool). same (read mem (firstAt n i) (l - 7)) (read p 0 (l - 7)) && t) f ∙ and-false (same (read mem (firstAt n i) (l - 7)) (read p 0 (l - 7)))
+
+  pub long-same : l ≡ length p → 7 < l → same (read mem (lastAt n i + 1) 7) (read p (l - 7) 7) ≡ true
+      → same (nodeAt n mem i .called) p ≡ same (read mem (firstAt n i) (l - 7)) (read p 0 (l - 7))
+  long-same h b f = long-name h b ∙ ap (λ (t : Bool). same (read mem (firstAt n i) (l - 7)) (read p 0 (l - 7)) && t) f ∙ and-true (same (read mem (firstAt n i) (l - 7)) (read p 0 (l - 7)))

@@ -1,0 +1,205 @@
+-- The searches over the rows: what is left to find is what was to find; and a node by its place. Assumes nothing.
+use mathlib.Core.Path.{_≡_, refl, sym, ap, _∙_}
+use mathlib.Core.Bool.{Bool, true, false, cond, not}
+use mathlib.Core.List.{List, [], _∷_}
+use mathlib.Core.Option.{Option, none, some}
+use Prim.Native.Nat.{ℕ, zero, suc, _+_, _-_, _≤_, _<_}
+use native.Mathlib.Nat.{zero-add, add-zero, sub-zero}
+use native.Mathlib.Omega.{arith}
+use borrow.Author.Tests.{eq-eqb, ne-eqb}
+use lib.Dec.{eqb}
+use Rattle.le.specs.Mem.{get, same, write, put}
+use Rattle.rules.specs.Numbers.{rootNumber}
+use Rattle.rules.specs.Tree.{Mount, Node, isChild, childIn, nodeIn, isKnown, parentIn}
+use Rattle.rules.specs.Instance.{mountOf}
+use Rattle.tables.specs.Table.{row, putRow, tab}
+use Rattle.tables.specs.Layout.{mountCellAt, capacityOf, countOf}
+use Rattle.tables.specs.View.{nodeAt, nodesFrom, nodesOf, view}
+use Rattle.tables.specs.Write.{putHeader, setRootMount, setRowMount}
+use Rattle.tables.specs.Answer.{later, placeIn, mountMem}
+use Rattle.tables.proofs.Tab.{tab-next, tab-done}
+
+-- the nodes by their count
+pub nodes-of : (mem : List ℕ) → nodesOf mem ≡ tab (nodeAt (capacityOf mem) mem) 0 (countOf mem)
+unfolding nodesOf nodesFrom row get
+nodes-of mem = refl
+
+-- i of c rows were looked at
+abbrev pub left : List ℕ → ℕ → ℕ → List Node
+left mem c i = tab (nodeAt (capacityOf mem) mem) i (c - i)
+
+none-looked : (mem : List ℕ) (c : ℕ) → c ≡ countOf mem → nodesOf mem ≡ left mem c 0
+none-looked mem c e = nodes-of mem ∙ rw (sub-zero, e)
+
+-- ---- the child of a name
+
+module _ (here : ℕ) (p : List ℕ) (n : Node) where
+  pub child-else : (n .above ≡ here → ⊥) → isChild here p n ≡ false
+  unfolding isChild
+  child-else h = rw (ne-eqb (n .above) here h)
+
+  pub child-named : n .above ≡ here → isChild here p n ≡ same (n .called) p
+  unfolding isChild
+  child-named h = rw (eq-eqb (n .above) here h)
+
+-- the first among all is the first among those that are left
+abbrev pub Sought : List ℕ → ℕ → List ℕ → ℕ → ℕ → Type 0
+Sought mem here p c i = (i ≤ c) × (childIn (nodesOf mem) here p ≡ childIn (left mem c i) here p)
+
+module _ (mem : List ℕ) (here : ℕ) (p : List ℕ) (c : ℕ) where
+  pub child-begins : c ≡ countOf mem → Sought mem here p c 0
+  child-begins e = (omega arith, ap (λ (ns : List Node). childIn ns here p) (none-looked mem c e))
+
+  pub child-here : (i : ℕ) → Sought mem here p c i → i < c → isChild here p (nodeAt (capacityOf mem) mem i) ≡ true
+      → childIn (nodesOf mem) here p ≡ some (nodeAt (capacityOf mem) mem i .number)
+  unfolding childIn
+  child-here i s h e = s .1 ∙ rw (tab-next (nodeAt (capacityOf mem) mem) i c h, e)
+
+  pub child-on : (i : ℕ) → Sought mem here p c i → i < c → isChild here p (nodeAt (capacityOf mem) mem i) ≡ false → Sought mem here p c (i + 1)
+  unfolding childIn
+  child-on i s h e = (omega arith, s .1 ∙ rw (tab-next (nodeAt (capacityOf mem) mem) i c h, e))
+
+  pub child-none : (i : ℕ) → Sought mem here p c i → c ≤ i → childIn (nodesOf mem) here p ≡ none
+  unfolding childIn
+  child-none i s h = s .1 ∙ rw (tab-done (nodeAt (capacityOf mem) mem) i c h)
+
+-- ---- the place of a number
+
+-- a place, i further on
+unfoldable pub past : ℕ → Option ℕ → Option ℕ
+past i none = none
+past i (some j) = some (i + j)
+
+past-later : (i : ℕ) (o : Option ℕ) → past i (later o) ≡ past (i + 1) o
+unfolding past
+past-later i none = refl
+past-later i (some j) = ap some (omega arith)
+
+past-zero : (o : Option ℕ) → past 0 o ≡ o
+unfolding past
+past-zero none = refl
+past-zero (some j) = ap some (zero-add j)
+
+abbrev pub Placed : List ℕ → ℕ → ℕ → ℕ → Type 0
+Placed mem x c i = (i ≤ c) × (placeIn (nodesOf mem) x ≡ past i (placeIn (left mem c i) x))
+
+module _ (mem : List ℕ) (x c : ℕ) where
+  pub place-begins : c ≡ countOf mem → Placed mem x c 0
+  place-begins e = (omega arith, ap (λ (ns : List Node). placeIn ns x) (none-looked mem c e) ∙ sym (past-zero (placeIn (left mem c 0) x)))
+
+  pub place-here : (i : ℕ) → Placed mem x c i → i < c → nodeAt (capacityOf mem) mem i .number ≡ x → placeIn (nodesOf mem) x ≡ some i
+  unfolding placeIn past
+  place-here i s h e = s .1 ∙ rw (tab-next (nodeAt (capacityOf mem) mem) i c h, eq-eqb (nodeAt (capacityOf mem) mem i .number) x e, add-zero)
+
+  pub place-on : (i : ℕ) → Placed mem x c i → i < c → (nodeAt (capacityOf mem) mem i .number ≡ x → ⊥) → Placed mem x c (i + 1)
+  unfolding placeIn
+  place-on i s h e =
+      (omega arith, s .1 ∙ rw (tab-next (nodeAt (capacityOf mem) mem) i c h, ne-eqb (nodeAt (capacityOf mem) mem i .number) x e) (past-later i (placeIn (left mem c (i + 1)) x)))
+
+  pub place-none : (i : ℕ) → Placed mem x c i → c ≤ i → placeIn (nodesOf mem) x ≡ none
+  unfolding placeIn past
+  place-none i s h = s .1 ∙ rw (tab-done (nodeAt (capacityOf mem) mem) i c h)
+
+-- ---- a node by its place
+
+no-place : (ns : List Node) (x : ℕ) → placeIn ns x ≡ none → nodeIn ns x ≡ none
+unfolding placeIn nodeIn
+no-place [] x e = refl
+no-place (n ∷ ns) x e = go (eqb (n .number) x) (placeIn ns x) (no-place ns x) e
+  where
+    go : (b : Bool) (o : Option ℕ) → (o ≡ none → nodeIn ns x ≡ none) → cond b (some 0) (later o) ≡ none → cond b (some n) (nodeIn ns x) ≡ none
+    go true o r f = cc
+    go false none r f = r refl
+    go false (some j) r f = cc
+
+a-place : (f : ℕ → Node) (i k x j : ℕ) → placeIn (tab f i k) x ≡ some j → (j < k) × (nodeIn (tab f i k) x ≡ some (f (i + j)))
+unfolding placeIn nodeIn tab
+a-place f i zero x j e = let z : _≡_ {A = ℕ} 0 1 = cc in absurd (omega arith)
+a-place f i (suc k) x j e = go (eqb (f i .number) x) (placeIn (tab f (i + 1) k) x) (λ m q. a-place f (i + 1) k x m q) e
+  where
+    go : (b : Bool) (o : Option ℕ) → ((m : ℕ) → o ≡ some m → (m < k) × (nodeIn (tab f (i + 1) k) x ≡ some (f (i + 1 + m)))) → cond b (some 0) (later o) ≡ some j
+        → (j < suc k) × (cond b (some (f i)) (nodeIn (tab f (i + 1) k) x) ≡ some (f (i + j)))
+    go true o r g =
+        let z : j ≡ 0 = cc in
+        let y : i + j ≡ i = omega arith in
+        (omega arith, rw y)
+    go false none r g = let z : _≡_ {A = ℕ} 0 1 = cc in absurd (omega arith)
+    go false (some m) r g =
+        let z : j ≡ suc m = cc in
+        let y : i + j ≡ i + 1 + m = omega arith in
+        let h = r m refl in
+        (omega (arith, h .0), h .1 ∙ rw y)
+
+-- the row that a search for a number found, or did not
+module _ (mem : List ℕ) (x : ℕ) where
+  missing : placeIn (nodesOf mem) x ≡ none → nodeIn (nodesOf mem) x ≡ none
+  missing e = no-place (nodesOf mem) x e
+
+  row-at : (i : ℕ) → placeIn (nodesOf mem) x ≡ some i → (i < countOf mem) × (nodeIn (nodesOf mem) x ≡ some (nodeAt (capacityOf mem) mem i))
+  row-at i e =
+      let r = a-place (nodeAt (capacityOf mem) mem) 0 (countOf mem) x i (rw (nodes-of mem) at e) in
+      (r .0, ap (λ (ns : List Node). nodeIn ns x) (nodes-of mem) ∙ r .1 ∙ rw zero-add)
+
+  pub row-below : (i : ℕ) → placeIn (nodesOf mem) x ≡ some i → i < countOf mem
+  row-below i e = row-at i e .0
+
+  -- ---- what the rules say of the number, by its place
+
+  pub known-root : x ≡ rootNumber → isKnown (nodesOf mem) x ≡ true
+  unfolding isKnown
+  known-root r = rw (eq-eqb x 1 r)
+
+  pub known-found : (x ≡ rootNumber → ⊥) → (i : ℕ) → placeIn (nodesOf mem) x ≡ some i → isKnown (nodesOf mem) x ≡ true
+  unfolding isKnown
+  known-found r i e = rw (ne-eqb x 1 r, row-at i e .1)
+
+  pub known-missing : (x ≡ rootNumber → ⊥) → placeIn (nodesOf mem) x ≡ none → isKnown (nodesOf mem) x ≡ false
+  unfolding isKnown
+  known-missing r e = rw (ne-eqb x 1 r, missing e)
+
+  pub parent-root : x ≡ rootNumber → parentIn (nodesOf mem) x ≡ rootNumber
+  unfolding parentIn
+  parent-root r = rw (eq-eqb x 1 r)
+
+  pub parent-found : (x ≡ rootNumber → ⊥) → (i : ℕ) → placeIn (nodesOf mem) x ≡ some i → parentIn (nodesOf mem) x ≡ nodeAt (capacityOf mem) mem i .above
+  unfolding parentIn
+  parent-found r i e = rw (ne-eqb x 1 r, row-at i e .1)
+
+  pub parent-missing : (x ≡ rootNumber → ⊥) → placeIn (nodesOf mem) x ≡ none → parentIn (nodesOf mem) x ≡ rootNumber
+  unfolding parentIn
+  parent-missing r e = rw (ne-eqb x 1 r, missing e)
+
+  pub mount-root : x ≡ rootNumber → mountOf (view mem .tree) x ≡ view mem .tree .root
+  unfolding mountOf
+  mount-root r = rw (eq-eqb x 1 r)
+
+  pub mount-found : (x ≡ rootNumber → ⊥) → (i : ℕ) → placeIn (nodesOf mem) x ≡ some i → mountOf (view mem .tree) x ≡ nodeAt (capacityOf mem) mem i .mount
+  unfolding mountOf view
+  mount-found r i e = rw (ne-eqb x 1 r, row-at i e .1)
+
+  pub mount-missing : (x ≡ rootNumber → ⊥) → placeIn (nodesOf mem) x ≡ none → mountOf (view mem .tree) x ≡ none
+  unfolding mountOf view
+  mount-missing r e = rw (ne-eqb x 1 r, missing e)
+
+  -- ---- what is written for the number, by its place
+
+  pub set-root : (m : Option Mount) → x ≡ rootNumber → mountMem (nodesOf mem) m x mem ≡ setRootMount m mem
+  unfolding mountMem
+  set-root m r = rw (eq-eqb x 1 r)
+
+  pub set-found : (m : Option Mount) → (x ≡ rootNumber → ⊥) → (i : ℕ) → placeIn (nodesOf mem) x ≡ some i → mountMem (nodesOf mem) m x mem ≡ setRowMount m i mem
+  unfolding mountMem
+  set-found m r i e = rw (ne-eqb x 1 r, e)
+
+  pub set-missing : (m : Option Mount) → (x ≡ rootNumber → ⊥) → placeIn (nodesOf mem) x ≡ none → mountMem (nodesOf mem) m x mem ≡ mem
+  unfolding mountMem
+  set-missing m r e = rw (ne-eqb x 1 r, e)
+
+-- no mount: the cell alone
+pub clear-root : (mem : List ℕ) → setRootMount none mem ≡ put 8 mem 88 0
+unfolding setRootMount putHeader putRow write put
+clear-root mem = refl
+
+pub clear-row : (mem : List ℕ) (n i : ℕ) → n ≡ capacityOf mem → setRowMount none i mem ≡ put 8 mem (mountCellAt n i) 0
+unfolding setRowMount putRow write put
+clear-row mem n i e = rw e

@@ -1,0 +1,55 @@
+-- Slots read from the memory: what one holds, and that a search over the lent occupancy bytes is a search over the slots.
+-- Assumes nothing.
+use mathlib.Core.Path.{_≡_, refl, sym, ap, _∙_}
+use mathlib.Core.Bool.{Bool, not, cond, _&&_}
+use mathlib.Core.List.{List, [], _∷_}
+use mathlib.Core.Option.{some}
+use Prim.Native.Nat.{ℕ, zero, suc, _+_, _*_, _%_, _<_}
+use native.Mathlib.Nat.{one-mul}
+use native.Mathlib.Omega.{arith}
+use borrow.Author.Tests.{eq-eqb, ne-eqb}
+use lib.ListN.{length, getD, take, drop}
+use lib.Seq.{getD-take, getD-drop}
+use lib.Dec.{eqb}
+use Rattle.le.specs.Mem.{get}
+use Rattle.le.proofs.Lens.{get-one}
+use Rattle.rules.specs.Instance.{tagIn as tagInSlot}
+use Rattle.rules.specs.Round.{goingRound, untilTwice, visited, firstFree, freeOf, allocate}
+use Rattle.index.specs.Slots.{heldIn}
+use Rattle.tables.specs.Table.{row}
+use Rattle.tables.specs.View.{slotFrom, slotAt}
+use Rattle.tables.specs.Answer.{tagIn, heldAt}
+use Rattle.tables.specs.declared.slots.Tag.the-variants.{Held, Empty}
+
+-- ---- what a slot holds
+
+module _ (mem : List ℕ) (k : ℕ) where
+  pub tag-empty : get 1 mem (256 + k) ≡ 0 → tagIn Empty ≡ tagInSlot (slotAt mem k)
+  unfolding tagIn slotAt slotFrom row get
+  tag-empty e = rw (one-mul, eq-eqb _ 0 e)
+
+  pub tag-held : (get 1 mem (256 + k) ≡ 0 → ⊥) → tagIn (Held (get 4 mem (512 + 4 * k))) ≡ tagInSlot (slotAt mem k)
+  unfolding tagIn slotAt slotFrom row get
+  tag-held n = rw (one-mul, ne-eqb _ 0 n)
+
+  -- its occupancy byte, among those that are lent
+  pub held-lent : k < 256 → heldIn (take 256 (drop 256 mem)) k ≡ heldAt mem k
+  unfolding heldIn slotAt slotFrom row get
+  held-lent h = rw (getD-take, getD-drop, one-mul, get-one)
+
+-- ---- a search asks indexes below 256 alone
+
+module _ (held held′ : ℕ → Bool) (same : (k : ℕ) → k < 256 → held k ≡ held′ k) where
+  found-same : (n i : ℕ) → i < 256 → firstFree (freeOf held) (goingRound n i) ≡ firstFree (freeOf held′) (goingRound n i)
+  unfolding goingRound firstFree
+  found-same zero i h = refl
+  found-same (suc n) i h = λ t. cond (not (eqb i 0) && not (same i h t)) (some i) (found-same n ((i + 1) % 256) (omega arith) t)
+
+  visited-same : (n i : ℕ) → i < 256 → visited (freeOf held) (goingRound n i) ≡ visited (freeOf held′) (goingRound n i)
+  unfolding goingRound visited
+  visited-same zero i h = refl
+  visited-same (suc n) i h = λ t. i ∷ cond (not (eqb i 0) && not (same i h t)) [] (visited-same n ((i + 1) % 256) (omega arith) t)
+
+  pub allocate-same : (counter : ℕ) → counter < 256 → allocate held counter ≡ allocate held′ counter
+  unfolding allocate untilTwice
+  allocate-same counter h = λ t. record { found = found-same 257 counter h t; visits = visited-same 257 counter h t; counter = (counter + length (visited-same 257 counter h t)) % 256 }

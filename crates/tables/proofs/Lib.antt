@@ -1,0 +1,11 @@
+-- What is proved of the bytes of an instance.
+pub mod Tab
+pub mod Table
+pub mod Cells
+pub mod Find
+pub mod Answers
+pub mod Writes
+pub mod Indexes
+pub mod Refine
+pub mod Places
+pub mod Keeps

@@ -1,0 +1,41 @@
+-- The mount is written for the root, or in the row that has the number.
+use mathlib.Core.Path.{sym, ap, _∙_}
+use Rattle.tables.specs.Answer.{rowIn}
+use Rattle.tables.proofs.Find.{row-below, set-root, set-found, set-missing}
+use borrow.Author.Needs.{needs}
+use Rattle.tables.proofs.mounts.set.Statement.{statement}
+use Rattle.tables.proofs.mounts.set.Tie as tie
+
+returns : tie.Need-returns
+returns c = c .before .before .put-root .ensures ∙ sym (set-root _ _ _ (c .before .before .before .before .if1 .taken))
+
+put-row-requires : tie.Need-put-row-requires
+unfolding rowIn
+put-row-requires c κs = (search needs, (row-below _ _ _ (sym (c .before .before .before .before .find-row .ensures) ∙ ap rowIn (c .before .before .i .given .1)), search needs))
+
+returns-2 : tie.Need-returns-2
+unfolding rowIn
+returns-2 c =
+    c .before .before .put-row .ensures
+    ∙ sym (set-found _ _ _ (c .before .before .before .before .before .before .before .before .before .if1 .left) _
+    (sym (c .before .before .before .before .before .before .before .find-row .ensures) ∙ ap rowIn (c .before .before .before .before .before .i .given .1)))
+
+returns-3 : tie.Need-returns-3
+unfolding rowIn
+returns-3 c = sym (set-missing _ _ _ (c .before .before .before .before .if1 .left) (sym (c .before .before .find-row .ensures) ∙ ap rowIn (c .enum-told .given .1)))
+
+pub set-spec : {M : Type 1} → statement M
+set-spec =
+    tie.close
+    (tie.spec
+    (λ c κs. search needs)
+    (λ c. search needs)
+    returns
+    (λ c κs. search needs)
+    (λ c. search needs)
+    put-row-requires
+    (λ c. search needs)
+    (λ c. search needs)
+    returns-2
+    (λ c. search needs)
+    returns-3)

@@ -1,0 +1,13 @@
+-- The cell that is read is the row's number.
+use mathlib.Core.Path.{sym, ap, _∙_}
+use Prim.Native.Nat.{ℕ, _%_, _^_}
+use Rattle.tables.proofs.Cells.{number-at}
+use borrow.Author.Needs.{needs}
+use Rattle.tables.proofs.rows.number.Statement.{statement}
+use Rattle.tables.proofs.rows.number.Tie as tie
+
+returns : tie.Need-returns
+returns c = ap (λ (v : ℕ). v % 2 ^ 56) (c .get-u64 .ensures) ∙ sym (number-at _ _ _)
+
+pub number-spec : {M : Type 1} → statement M
+number-spec = tie.close (tie.spec (λ c. search needs) (λ c. search needs) (λ c κs. search needs) returns)

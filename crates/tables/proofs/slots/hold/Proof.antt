@@ -1,0 +1,21 @@
+-- The two cells of the slot are written.
+use mathlib.Core.Bool.{true}
+use Rattle.tables.proofs.Writes.{put-slot}
+use borrow.Author.Needs.{needs}
+use Rattle.tables.proofs.slots.hold.Statement.{statement}
+use Rattle.tables.proofs.slots.hold.Tie as tie
+
+returns : tie.Need-returns
+returns c = let a = c .before .before .before .before .before .before .before .before .before .args in cc (put-slot (a .s .now) (a .k) true (a .tag))
+
+pub hold-spec : {M : Type 1} → statement M
+hold-spec =
+    tie.close
+    (tie.spec
+    (λ c. search needs)
+    (λ c κs. search needs)
+    (λ c. search needs)
+    (λ c. search needs)
+    (λ c κs. search needs)
+    (λ c. search needs)
+    returns)

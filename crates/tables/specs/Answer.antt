@@ -1,0 +1,71 @@
+-- What the answers of the inner functions stand for, and places of rows.
+use Prim.Native.Nat.{ℕ, suc}
+use mathlib.Core.Bool.{Bool, cond}
+use mathlib.Core.List.{List, [], _∷_}
+use mathlib.Core.Option.{Option, none, some}
+use lib.Dec.{eqb}
+use Rattle.rules.specs.Numbers.{rootNumber}
+use Rattle.rules.specs.Tree.{Mount, Node}
+use Rattle.tables.specs.View.{mountFrom, slotAt}
+use Rattle.tables.specs.Write.{setRootMount, setRowMount, removeRow}
+use Rattle.tables.specs.declared.rows.Found.{Found}
+use Rattle.tables.specs.declared.rows.Found.the-variants.{Node as FoundNode, Nothing as FoundNothing}
+use Rattle.tables.specs.declared.rows.Row.{Row}
+use Rattle.tables.specs.declared.rows.Row.the-variants.{At, Nothing as RowNothing}
+use Rattle.tables.specs.declared.mounts.MountPoint.{MountPoint}
+use Rattle.tables.specs.declared.mounts.MountOn.{MountOn}
+use Rattle.tables.specs.declared.mounts.MountOn.the-variants.{Point, Nothing as MountNothing}
+use Rattle.tables.specs.declared.slots.Tag.{Tag}
+use Rattle.tables.specs.declared.slots.Tag.the-variants.{Held, Empty}
+
+unfoldable pub foundIn : Found → Option ℕ
+foundIn (FoundNode x) = some x
+foundIn FoundNothing = none
+
+unfoldable pub rowIn : Row → Option ℕ
+rowIn (At i) = some i
+rowIn RowNothing = none
+
+abbrev pub mountOfPoint : MountPoint → Mount
+mountOfPoint m = record { index = m .«fs_idx»; root = m .ino; uid = m .uid; gid = m .gid; mode = m .mode }
+
+unfoldable pub mountIn : MountOn → Option Mount
+mountIn (Point m) = some (mountOfPoint m)
+mountIn MountNothing = none
+
+-- as the cells spell it
+unfoldable pub mountFromWord : ℕ → ℕ → ℕ → ℕ → Option Mount
+mountFromWord word uid gid mode = mountFrom word uid gid mode
+
+unfoldable pub tagIn : Tag → Option ℕ
+tagIn (Held t) = some t
+tagIn Empty = none
+
+-- whether slot k is held
+abbrev pub heldAt : List ℕ → ℕ → Bool
+heldAt mem k = slotAt mem k .held
+
+-- ---- places
+
+abbrev pub later : Option ℕ → Option ℕ
+later none = none
+later (some i) = some (suc i)
+
+-- the place of the first node of that number
+unfoldable pub placeIn : List Node → ℕ → Option ℕ
+placeIn [] x = none
+placeIn (n ∷ ns) x = cond (eqb (n .number) x) (some 0) (later (placeIn ns x))
+
+-- ---- writes at a node's number
+
+abbrev pub atPlace : Option ℕ → (ℕ → List ℕ) → List ℕ → List ℕ
+atPlace none f mem = mem
+atPlace (some i) f mem = f i
+
+-- the mount of the root, or of the first node of that number
+unfoldable pub mountMem : List Node → Option Mount → ℕ → List ℕ → List ℕ
+mountMem nodes m x mem = cond (eqb x rootNumber) (setRootMount m mem) (atPlace (placeIn nodes x) (λ (i : ℕ). setRowMount m i mem) mem)
+
+-- the first node of that number goes
+unfoldable pub removeMem : List Node → ℕ → List ℕ → List ℕ
+removeMem nodes x mem = atPlace (placeIn nodes x) (λ (i : ℕ). removeRow i mem) mem

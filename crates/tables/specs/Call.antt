@@ -1,0 +1,33 @@
+-- The common form of the contracts of calls on an instance in bytes.
+use Prim.Native.Nat.{ℕ}
+use mathlib.Core.Bool.{cond, true}
+use mathlib.Core.List.{List}
+use mathlib.Core.Path.{_≡_}
+use Rattle.rules.specs.Numbers.{SMALL}
+use Rattle.rules.specs.Instance.{Instance}
+use Rattle.rules.specs.Outcome.{Answer, nothing, Outcome, count}
+use Rattle.tables.specs.View.{view}
+use Rattle.tables.specs.Rule.{laid}
+
+-- what an answer tells: its number, its values, and the count of visited indexes (R15, R16)
+pub record Told : Type 0 where
+  pub code : ℕ
+  pub answer : Answer
+  pub count : ℕ
+
+abbrev pub toldBy : Outcome → Told
+toldBy o = record { code = o .code; answer = o .answer; count = count o }
+
+abbrev pub toldSmall : Told
+toldSmall = record { code = SMALL; answer = nothing; count = 0 }
+
+-- by a rule on the instance that the bytes stand for; SMALL where they break the layout rule (R19, R21)
+unfoldable pub answeredBy : List ℕ → (Instance → Outcome) → Told
+answeredBy mem f = cond (laid mem) (toldBy (f (view mem))) toldSmall
+
+-- what a call that writes tells and leaves: the answer; the bytes exactly; they stand for what the rule leaves, and keep the layout rule
+pub record Does (mem : List ℕ) (f : Instance → Outcome) (told : Told) (after exact : List ℕ) : Type 0 where
+  pub answer : told ≡ answeredBy mem f
+  pub bytes : after ≡ exact
+  pub stands : laid mem ≡ true → view after ≡ f (view mem) .after
+  pub keeps : laid mem ≡ true → laid after ≡ true

@@ -1,0 +1,42 @@
+-- The layout rule: what every call tests first, in constant time, and keeps.
+use Prim.Native.Nat.{ℕ, _+_, _*_, _^_, _≤_, _<_}
+use mathlib.Core.Bool.{Bool, true, false, not}
+use mathlib.Core.List.{List, [], _∷_}
+use lib.ListN.{length}
+use lib.Dec.{leb, ltb, eqb}
+use Rattle.rules.specs.Numbers.{maxNodes, topNumber, storageFor}
+use Rattle.rules.specs.Ids.{badMapping}
+use Rattle.rules.specs.Create.{unknown}
+use Rattle.rules.specs.Saved.{every}
+use Rattle.tables.specs.Layout.{mark, capacityOf, countOf, nextOf}
+use Rattle.tables.specs.View.{field, mappingFrom, optionsFrom, headOf}
+
+-- of the header's cells and the number of bytes: the mark stands, N is within its limits and the bytes are enough for it, the root and the nodes are at most N, the
+-- next number is within its limits, the option bits within the mask, the flags within theirs, and the mapping in force passes its test (R20, R22)
+unfoldable pub laidBy : List (List ℕ) → ℕ → Bool
+laidBy h bytes =
+    every
+    (leb 8192 bytes
+    ∷ eqb (field 0 h) mark
+    ∷ leb 1 (field 1 h)
+    ∷ leb (field 1 h) maxNodes
+    ∷ leb (storageFor (field 1 h)) bytes
+    ∷ ltb (field 2 h) (field 1 h)
+    ∷ leb 2 (field 3 h)
+    ∷ leb (field 3 h) topNumber
+    ∷ not (unknown (field 4 h) (optionsFrom h))
+    ∷ ltb (field 13 h) 64
+    ∷ not (badMapping (mappingFrom 7 h))
+    ∷ [])
+
+unfoldable pub laid : List ℕ → Bool
+laid mem = laidBy (headOf mem) (length mem)
+
+-- what places of rows need of it
+pub record Laid (mem : List ℕ) : Type 0 where
+  pub some-node : 1 ≤ capacityOf mem
+  pub few-nodes : capacityOf mem ≤ 1024
+  pub long : 512 * capacityOf mem + 8192 ≤ length mem
+  pub live : countOf mem < capacityOf mem
+  pub low : 2 ≤ nextOf mem
+  pub top : nextOf mem ≤ 2 ^ 56

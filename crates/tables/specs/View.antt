@@ -1,0 +1,87 @@
+-- The instance that bytes stand for. Every bit pattern of a cell is a value, so every bytes that keep the layout rule stand for one.
+use Prim.Native.Nat.{ℕ, _+_, _-_, _/_, _%_, _^_, min}
+use mathlib.Core.Bool.{Bool, cond, not}
+use mathlib.Core.List.{List, [], _∷_, _++_}
+use mathlib.Core.Option.{Option, none, some}
+use lib.ListN.{getD, take}
+use lib.Dec.{eqb}
+use Rattle.le.specs.Mem.{value}
+use Rattle.rules.specs.Ids.{Mapping}
+use Rattle.rules.specs.Tree.{Mount, Node}
+use Rattle.rules.specs.Instance.{Options, Slot, Instance}
+use Rattle.tables.specs.Table.{row, tab}
+use Rattle.tables.specs.Layout.{header, slotTable, nodeTable}
+
+-- cell k of a row, and its number
+abbrev pub cell : ℕ → List (List ℕ) → List ℕ
+cell k cells = getD cells k []
+
+abbrev pub field : ℕ → List (List ℕ) → ℕ
+field k cells = value (cell k cells)
+
+-- a byte that is not 0 means yes
+abbrev pub flag : ℕ → List (List ℕ) → Bool
+flag k cells = not (eqb (field k cells) 0)
+
+-- index × 2^56 + root number; index 0 is no mount, whatever the low bits are
+abbrev pub mountFrom : ℕ → ℕ → ℕ → ℕ → Option Mount
+mountFrom word uid gid mode =
+    cond (eqb (word / 2 ^ 56) 0) none (some (record { index = word / 2 ^ 56; root = word % 2 ^ 56; uid = uid; gid = gid; mode = mode }))
+
+-- a length and the last seven bytes, and the bytes before those
+unfoldable pub nameFrom : List ℕ → List ℕ → List ℕ
+nameFrom [] first = []
+nameFrom (l ∷ last) first = take (l - 7) first ++ take (min l 7) last
+
+-- node numbers are read modulo 2^56
+unfoldable pub nodeFrom : List (List ℕ) → Node
+nodeFrom r = record {
+  number = field 0 r % 2 ^ 56;
+  above = field 1 r % 2 ^ 56;
+  called = nameFrom (cell 3 r) (cell 7 r);
+  mount = mountFrom (field 2 r) (field 4 r) (field 5 r) (field 6 r);
+}
+
+unfoldable pub slotFrom : List (List ℕ) → Slot
+slotFrom r = record { held = flag 0 r; tag = field 1 r }
+
+abbrev pub mappingFrom : ℕ → List (List ℕ) → Mapping
+mappingFrom k h = record { internal = field k h; external = field (k + 1) h; range = field (k + 2) h }
+
+abbrev pub optionsFrom : List (List ℕ) → Options
+optionsFrom h = record { inOpts = field 5 h; outOpts = field 6 h; mapping = mappingFrom 10 h; flags = field 13 h }
+
+-- by the header's cells, the slots and the nodes
+abbrev pub instanceFrom : List (List ℕ) → List Slot → List Node → Instance
+instanceFrom h slots nodes = record {
+  fixed = record { capacity = field 1 h; known = field 4 h; mapping = mappingFrom 7 h };
+  removal = flag 15 h;
+  initialized = flag 16 h;
+  options = optionsFrom h;
+  indexes = record { slots = slots; counter = field 14 h };
+  tree = record { next = field 3 h; root = mountFrom (field 17 h) (field 18 h) (field 19 h) (field 20 h); nodes = nodes };
+}
+
+-- ---- of the memory
+
+abbrev pub headOf : List ℕ → List (List ℕ)
+headOf mem = row header mem 0
+
+unfoldable pub slotAt : List ℕ → ℕ → Slot
+slotAt mem k = slotFrom (row slotTable mem k)
+
+unfoldable pub nodeAt : ℕ → List ℕ → ℕ → Node
+nodeAt n mem i = nodeFrom (row (nodeTable n) mem i)
+
+unfoldable pub slotsOf : List ℕ → List Slot
+slotsOf mem = tab (slotAt mem) 0 256
+
+-- k nodes from row i on
+unfoldable pub nodesFrom : ℕ → List ℕ → ℕ → ℕ → List Node
+nodesFrom n mem i k = tab (nodeAt n mem) i k
+
+unfoldable pub nodesOf : List ℕ → List Node
+nodesOf mem = nodesFrom (field 1 (headOf mem)) mem 0 (field 2 (headOf mem))
+
+unfoldable pub view : List ℕ → Instance
+view mem = instanceFrom (headOf mem) (slotsOf mem) (nodesOf mem)

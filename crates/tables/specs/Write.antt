@@ -1,0 +1,82 @@
+-- What is written into the bytes: exact functions of the memory.
+use Prim.Native.Nat.{ℕ, zero, suc, _+_, _-_, _*_, _^_}
+use mathlib.Core.Bool.{Bool, true, false, cond}
+use mathlib.Core.List.{List, [], _∷_, _++_}
+use mathlib.Core.Option.{Option, none, some}
+use lib.ListN.{length, take, drop, replicate}
+use Rattle.le.specs.Mem.{bytesOf}
+use Rattle.rules.specs.Tree.{Mount}
+use Rattle.tables.specs.Table.{putRow, closeUp}
+use Rattle.tables.specs.Layout.{header, slotTable, nodeTable, capacityOf, countOf, nextOf}
+
+-- ---- the header
+
+-- the cells from place k on
+abbrev pub fromPlace : ℕ → List (List ℕ) → List (List ℕ)
+fromPlace k xs = replicate k [] ++ xs
+
+unfoldable pub putHeader : ℕ → List (List ℕ) → List ℕ → List ℕ
+putHeader k xs mem = putRow header (fromPlace k xs) mem 0
+
+unfoldable pub setCount : ℕ → List ℕ → List ℕ
+setCount c mem = putHeader 2 (bytesOf 8 c ∷ []) mem
+
+unfoldable pub setNext : ℕ → List ℕ → List ℕ
+setNext x mem = putHeader 3 (bytesOf 8 x ∷ []) mem
+
+unfoldable pub setCounter : ℕ → List ℕ → List ℕ
+setCounter c mem = putHeader 14 (bytesOf 1 c ∷ []) mem
+
+unfoldable pub setRemoval : List ℕ → List ℕ
+setRemoval mem = putHeader 15 (bytesOf 1 1 ∷ []) mem
+
+-- ---- a slot
+
+abbrev pub heldByte : Bool → ℕ
+heldByte true = 1
+heldByte false = 0
+
+unfoldable pub setSlot : ℕ → Bool → ℕ → List ℕ → List ℕ
+setSlot k held tag mem = putRow slotTable (bytesOf 1 (heldByte held) ∷ bytesOf 4 tag ∷ []) mem k
+
+-- ---- a mount: of none, the cell alone
+
+abbrev pub mountCells : Option Mount → List (List ℕ)
+mountCells none = bytesOf 8 0 ∷ []
+mountCells (some m) = bytesOf 8 (m .index * 2 ^ 56 + m .root) ∷ bytesOf 4 (m .uid) ∷ bytesOf 4 (m .gid) ∷ bytesOf 4 (m .mode) ∷ []
+
+-- in a row the name's last bytes stand between
+abbrev pub rowMountCells : Option Mount → List (List ℕ)
+rowMountCells none = [] ∷ [] ∷ bytesOf 8 0 ∷ []
+rowMountCells (some m) =
+    [] ∷ [] ∷ bytesOf 8 (m .index * 2 ^ 56 + m .root) ∷ [] ∷ bytesOf 4 (m .uid) ∷ bytesOf 4 (m .gid) ∷ bytesOf 4 (m .mode) ∷ []
+
+unfoldable pub setRootMount : Option Mount → List ℕ → List ℕ
+setRootMount m mem = putHeader 17 (mountCells m) mem
+
+unfoldable pub setRowMount : Option Mount → ℕ → List ℕ → List ℕ
+setRowMount m i mem = putRow (nodeTable (capacityOf mem)) (rowMountCells m) mem i
+
+-- ---- rows
+
+-- the cells of a new node
+unfoldable pub nodeCells : ℕ → ℕ → List ℕ → List (List ℕ)
+nodeCells x above p =
+    bytesOf 8 x
+    ∷ bytesOf 8 above
+    ∷ bytesOf 8 0
+    ∷ (bytesOf 1 (length p) ++ drop (length p - 7) p)
+    ∷ []
+    ∷ []
+    ∷ []
+    ∷ take (length p - 7) p
+    ∷ []
+
+-- a new node at the end takes the next number
+unfoldable pub appendNode : ℕ → List ℕ → List ℕ → List ℕ
+appendNode above p mem =
+    setNext (nextOf mem + 1) (setCount (countOf mem + 1) (putRow (nodeTable (capacityOf mem)) (nodeCells (nextOf mem) above p) mem (countOf mem)))
+
+-- row i goes, and those behind it close up
+unfoldable pub removeRow : ℕ → List ℕ → List ℕ
+removeRow i mem = setCount (countOf mem - 1) (closeUp (nodeTable (capacityOf mem)) mem i (countOf mem - 1 - i))

@@ -1,0 +1,144 @@
+// The mounts: of the root in the header, of a node in its row.
+ghost use mathlib.Core.Path.{_≡_};
+ghost use mathlib.Core.Option.{none, some};
+ghost use Prim.Native.Nat.{_<_, _^_};
+ghost use Rattle.rules.specs.Instance.{mountOf as mountOfTree};
+ghost use Rattle.tables.specs.Layout.{capacityOf, countOf};
+ghost use Rattle.tables.specs.View.{nodeAt, nodesOf, view};
+ghost use Rattle.tables.specs.Rule.{Laid};
+ghost use Rattle.tables.specs.Write.{setRootMount, setRowMount};
+ghost use Rattle.tables.specs.Answer.{mountOfPoint, mountIn, mountFromWord, mountMem};
+
+// A mount on a node: its index, the backend's root number, and the root's ids and mode as the request brought them (R76, R77).
+pub struct MountPoint {
+    pub fs_idx: u8,
+    pub ino: u64,
+    pub uid: u32,
+    pub gid: u32,
+    pub mode: u32,
+}
+
+// The mount on a node, or nothing.
+pub enum MountOn {
+    Point(MountPoint),
+    Nothing,
+}
+
+const NUMBERS: u64 = 0x0100_0000_0000_0000;
+
+// The mount that a cell and its ids spell: index 0 is none.
+fn spelt(word: u64, uid: u32, gid: u32, mode: u32) -> MountOn
+    ensures { λ r. ⌜ mountIn r ≡ mountFromWord word uid gid mode ⌝ }
+{
+    let index = word / NUMBERS;
+    if index == 0 {
+        return MountOn::Nothing;
+    }
+    MountOn::Point(MountPoint {
+        fs_idx: index as u8,
+        ino: word % NUMBERS,
+        uid,
+        gid,
+        mode,
+    })
+}
+
+// The mount on the root.
+pub fn of_root(s: &[u8]) -> MountOn
+    requires { ⌜ Laid (now s) ⌝ }
+    ensures { λ r. ⌜ mountIn r ≡ view (now (s .entry)) .tree .root ⌝ }
+{
+    spelt(
+        le::fields::get_u64(s, 88),
+        le::fields::get_u32(s, 96),
+        le::fields::get_u32(s, 100),
+        le::fields::get_u32(s, 104),
+    )
+}
+
+// The mount of row i.
+pub fn of_row(s: &[u8], i: usize) -> MountOn
+    requires { ⌜ Laid (now s) ⌝ }
+    requires { ⌜ i < countOf (now s) ⌝ }
+    ensures { λ r. ⌜ mountIn r ≡ nodeAt (capacityOf (now (s .entry))) (now (s .entry)) i .mount ⌝ }
+{
+    let n = crate::header::capacity(s);
+    spelt(
+        le::fields::get_u64(s, crate::rows::TABLE + 16 * n + 8 * i),
+        le::fields::get_u32(s, crate::rows::TABLE + 32 * n + 4 * i),
+        le::fields::get_u32(s, crate::rows::TABLE + 36 * n + 4 * i),
+        le::fields::get_u32(s, crate::rows::TABLE + 40 * n + 4 * i),
+    )
+}
+
+// The mount on the node of that number; 1 is the root before any row is asked (R52).
+pub fn of_node(s: &[u8], x: u64) -> MountOn
+    requires { ⌜ Laid (now s) ⌝ }
+    ensures { λ r. ⌜ mountIn r ≡ mountOfTree (view (now (s .entry)) .tree) x ⌝ }
+{
+    if x == rules::ROOT_ID {
+        return of_root(s);
+    }
+    match crate::rows::find_row(s, x) {
+        crate::rows::Row::At(i) => of_row(s, i),
+        crate::rows::Row::Nothing => MountOn::Nothing,
+    }
+}
+
+fn put_root(s: &mut [u8], m: MountPoint)
+    requires { ⌜ Laid (now s) ⌝ }
+    requires { ⌜ m .ino < 2 ^ 56 ⌝ }
+    ensures { λ _. ⌜ now (s .exit) ≡ setRootMount (some (mountOfPoint m)) (now (s .entry)) ⌝ }
+{
+    let word = (m.fs_idx as u64) * NUMBERS + m.ino;
+    le::fields::put_u64(s, 88, word);
+    le::fields::put_u32(s, 96, m.uid);
+    le::fields::put_u32(s, 100, m.gid);
+    le::fields::put_u32(s, 104, m.mode);
+}
+
+fn put_row(s: &mut [u8], i: usize, m: MountPoint)
+    requires { ⌜ Laid (now s) ⌝ }
+    requires { ⌜ i < countOf (now s) ⌝ }
+    requires { ⌜ m .ino < 2 ^ 56 ⌝ }
+    ensures { λ _. ⌜ now (s .exit) ≡ setRowMount (some (mountOfPoint m)) i (now (s .entry)) ⌝ }
+{
+    let n = crate::header::capacity(s);
+    let word = (m.fs_idx as u64) * NUMBERS + m.ino;
+    le::fields::put_u64(s, crate::rows::TABLE + 16 * n + 8 * i, word);
+    le::fields::put_u32(s, crate::rows::TABLE + 32 * n + 4 * i, m.uid);
+    le::fields::put_u32(s, crate::rows::TABLE + 36 * n + 4 * i, m.gid);
+    le::fields::put_u32(s, crate::rows::TABLE + 40 * n + 4 * i, m.mode);
+}
+
+// The node of that number has that mount (R76).
+pub fn set(s: &mut [u8], x: u64, m: MountPoint)
+    requires { ⌜ Laid (now s) ⌝ }
+    requires { ⌜ m .ino < 2 ^ 56 ⌝ }
+    ensures { λ _. ⌜ now (s .exit) ≡ mountMem (nodesOf (now (s .entry))) (some (mountOfPoint m)) x (now (s .entry)) ⌝ }
+{
+    if x == rules::ROOT_ID {
+        put_root(s, m);
+        return;
+    }
+    match crate::rows::find_row(s, x) {
+        crate::rows::Row::At(i) => put_row(s, i, m),
+        crate::rows::Row::Nothing => {}
+    }
+}
+
+// The node of that number has no mount (R98).
+pub fn clear(s: &mut [u8], x: u64)
+    requires { ⌜ Laid (now s) ⌝ }
+    ensures { λ _. ⌜ now (s .exit) ≡ mountMem (nodesOf (now (s .entry))) none x (now (s .entry)) ⌝ }
+{
+    if x == rules::ROOT_ID {
+        le::fields::put_u64(s, 88, 0);
+        return;
+    }
+    let n = crate::header::capacity(s);
+    match crate::rows::find_row(s, x) {
+        crate::rows::Row::At(i) => le::fields::put_u64(s, crate::rows::TABLE + 16 * n + 8 * i, 0),
+        crate::rows::Row::Nothing => {}
+    }
+}

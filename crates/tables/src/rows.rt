@@ -1,0 +1,209 @@
+// The node table: a row for each live node but the root, in creation order.
+ghost use mathlib.Core.Path.{_≡_};
+ghost use Prim.Native.Nat.{_+_, _-_, _*_, _≤_, _<_, _^_};
+ghost use lib.ListN.{length};
+ghost use Rattle.rules.specs.Bytes.{same};
+ghost use Rattle.rules.specs.Tree.{isChild, childIn, isKnown, parentIn};
+ghost use Rattle.tables.specs.Table.{putRow, closeUp};
+ghost use Rattle.tables.specs.Layout.{nodeTable, capacityOf, countOf, nextOf};
+ghost use Rattle.tables.specs.View.{nodeAt, nodesOf};
+ghost use Rattle.tables.specs.Rule.{Laid};
+ghost use Rattle.tables.specs.Write.{nodeCells, appendNode, removeRow};
+ghost use Rattle.tables.specs.Answer.{foundIn, rowIn, placeIn};
+
+// The number of a node, or nothing.
+pub enum Found {
+    Node(u64),
+    Nothing,
+}
+
+// The place of a row, or nothing.
+pub enum Row {
+    At(usize),
+    Nothing,
+}
+
+pub const TABLE: usize = 8192;
+
+// Node numbers are read modulo this (R5).
+const NUMBERS: u64 = 0x0100_0000_0000_0000;
+
+// The number of row i.
+pub fn number(s: &[u8], i: usize) -> u64
+    requires { ⌜ Laid (now s) ⌝ }
+    requires { ⌜ i < countOf (now s) ⌝ }
+    ensures { λ r. ⌜ r ≡ nodeAt (capacityOf (now (s .entry))) (now (s .entry)) i .number ⌝ }
+{
+    le::fields::get_u64(s, TABLE + 8 * i) % NUMBERS
+}
+
+// The parent's number of row i.
+pub fn parent(s: &[u8], i: usize) -> u64
+    requires { ⌜ Laid (now s) ⌝ }
+    requires { ⌜ i < countOf (now s) ⌝ }
+    ensures { λ r. ⌜ r ≡ nodeAt (capacityOf (now (s .entry))) (now (s .entry)) i .above ⌝ }
+{
+    let n = crate::header::capacity(s);
+    le::fields::get_u64(s, TABLE + 8 * n + 8 * i) % NUMBERS
+}
+
+// Whether row i has that name: its length, its last bytes, and the bytes before them.
+pub fn name_is(s: &[u8], i: usize, name: &[u8]) -> bool
+    requires { ⌜ Laid (now s) ⌝ }
+    requires { ⌜ i < countOf (now s) ⌝ }
+    ensures { λ r. ⌜ r ≡ same (nodeAt (capacityOf (now (s .entry))) (now (s .entry)) i .called) (now (name .entry)) ⌝ }
+{
+    let n = crate::header::capacity(s);
+    let at = TABLE + 24 * n + 8 * i;
+    let len = le::fields::get_u8(s, at) as usize;
+    if len != name.len() {
+        return false;
+    }
+    if len <= 7 {
+        return le::runs::same_at(s, at + 1, name, 0, len);
+    }
+    if !le::runs::same_at(s, at + 1, name, len - 7, 7) {
+        return false;
+    }
+    le::runs::same_at(s, TABLE + 44 * n + 248 * i, name, 0, len - 7)
+}
+
+// Whether row i is the child of that name (R45).
+pub fn child_is(s: &[u8], i: usize, here: u64, name: &[u8]) -> bool
+    requires { ⌜ Laid (now s) ⌝ }
+    requires { ⌜ i < countOf (now s) ⌝ }
+    ensures { λ r. ⌜ r ≡ isChild here (now (name .entry)) (nodeAt (capacityOf (now (s .entry))) (now (s .entry)) i) ⌝ }
+{
+    if parent(s, i) != here {
+        return false;
+    }
+    name_is(s, i, name)
+}
+
+// The first child of that name (R45).
+pub fn find_child(s: &[u8], here: u64, name: &[u8]) -> Found
+    requires { ⌜ Laid (now s) ⌝ }
+    ensures { λ r. ⌜ foundIn r ≡ childIn (nodesOf (now (s .entry))) here (now (name .entry)) ⌝ }
+{
+    let c = crate::header::count(s);
+    let mut i = 0;
+    while i < c {
+        if child_is(s, i, here, name) {
+            return Found::Node(number(s, i));
+        }
+        i += 1;
+    }
+    Found::Nothing
+}
+
+// The row of the first node of that number (R53).
+pub fn find_row(s: &[u8], x: u64) -> Row
+    requires { ⌜ Laid (now s) ⌝ }
+    ensures { λ r. ⌜ rowIn r ≡ placeIn (nodesOf (now (s .entry))) x ⌝ }
+{
+    let c = crate::header::count(s);
+    let mut i = 0;
+    while i < c {
+        if number(s, i) == x {
+            return Row::At(i);
+        }
+        i += 1;
+    }
+    Row::Nothing
+}
+
+// Whether the number is the root's or a node's (R52).
+pub fn is_known(s: &[u8], x: u64) -> bool
+    requires { ⌜ Laid (now s) ⌝ }
+    ensures { λ r. ⌜ r ≡ isKnown (nodesOf (now (s .entry))) x ⌝ }
+{
+    if x == rules::ROOT_ID {
+        return true;
+    }
+    match find_row(s, x) {
+        Row::At(i) => true,
+        Row::Nothing => false,
+    }
+}
+
+// The parent's number; the root's is the root's, and so is that of a number which is no node (R39, R54).
+pub fn parent_of(s: &[u8], x: u64) -> u64
+    requires { ⌜ Laid (now s) ⌝ }
+    ensures { λ r. ⌜ r ≡ parentIn (nodesOf (now (s .entry))) x ⌝ }
+{
+    if x == rules::ROOT_ID {
+        return rules::ROOT_ID;
+    }
+    match find_row(s, x) {
+        Row::At(i) => parent(s, i),
+        Row::Nothing => rules::ROOT_ID,
+    }
+}
+
+// How many bytes of a name stand before its last seven.
+fn before_last(len: usize) -> usize
+    ensures { λ r. ⌜ r ≡ len - 7 ⌝ }
+{
+    if 7 < len {
+        return len - 7;
+    }
+    0
+}
+
+// Writes the cells of a new node at row i.
+fn put_node(s: &mut [u8], n: usize, i: usize, x: u64, above: u64, name: &[u8])
+    requires { ⌜ (n ≤ 1024) × (8192 + 512 * n ≤ length (now s)) × (i < n) × (length (now name) ≤ 255) ⌝ }
+    ensures { λ _. ⌜ now (s .exit) ≡ putRow (nodeTable n) (nodeCells x above (now (name .entry))) (now (s .entry)) i ⌝ }
+{
+    let len = name.len();
+    let rest = before_last(len);
+    le::fields::put_u64(s, TABLE + 8 * i, x);
+    le::fields::put_u64(s, TABLE + 8 * n + 8 * i, above);
+    le::fields::put_u64(s, TABLE + 16 * n + 8 * i, 0);
+    le::fields::put_u8(s, TABLE + 24 * n + 8 * i, len as u8);
+    le::runs::copy_run(s, TABLE + 24 * n + 8 * i + 1, name, rest, len - rest);
+    le::runs::copy_run(s, TABLE + 44 * n + 248 * i, name, 0, rest);
+}
+
+// A new node at the end takes the next number (R48, R49).
+pub fn append(s: &mut [u8], above: u64, name: &[u8])
+    requires { ⌜ Laid (now s) ⌝ }
+    requires { ⌜ countOf (now s) + 1 < capacityOf (now s) ⌝ }
+    requires { ⌜ nextOf (now s) < 2 ^ 56 ⌝ }
+    requires { ⌜ length (now name) ≤ 255 ⌝ }
+    ensures { λ _. ⌜ now (s .exit) ≡ appendNode above (now (name .entry)) (now (s .entry)) ⌝ }
+{
+    let n = crate::header::capacity(s);
+    let c = crate::header::count(s);
+    let x = crate::header::next(s);
+    put_node(s, n, c, x, above, name);
+    le::fields::put_u64(s, 16, (c + 1) as u64);
+    le::fields::put_u64(s, 24, x + 1);
+}
+
+// The m rows from row k + 1 on go down by one.
+fn close_up(s: &mut [u8], n: usize, k: usize, m: usize)
+    requires { ⌜ (n ≤ 1024) × (8192 + 512 * n ≤ length (now s)) × (k + 1 + m ≤ n) ⌝ }
+    ensures { λ _. ⌜ now (s .exit) ≡ closeUp (nodeTable n) (now (s .entry)) k m ⌝ }
+{
+    le::runs::shift_down(s, TABLE + 8 * k, 8, 8 * m);
+    le::runs::shift_down(s, TABLE + 8 * n + 8 * k, 8, 8 * m);
+    le::runs::shift_down(s, TABLE + 16 * n + 8 * k, 8, 8 * m);
+    le::runs::shift_down(s, TABLE + 24 * n + 8 * k, 8, 8 * m);
+    le::runs::shift_down(s, TABLE + 32 * n + 4 * k, 4, 4 * m);
+    le::runs::shift_down(s, TABLE + 36 * n + 4 * k, 4, 4 * m);
+    le::runs::shift_down(s, TABLE + 40 * n + 4 * k, 4, 4 * m);
+    le::runs::shift_down(s, TABLE + 44 * n + 248 * k, 248, 248 * m);
+}
+
+// Row i goes, and those behind it close up (R25, R44).
+pub fn remove(s: &mut [u8], i: usize)
+    requires { ⌜ Laid (now s) ⌝ }
+    requires { ⌜ i < countOf (now s) ⌝ }
+    ensures { λ _. ⌜ now (s .exit) ≡ removeRow i (now (s .entry)) ⌝ }
+{
+    let n = crate::header::capacity(s);
+    let c = crate::header::count(s);
+    close_up(s, n, i, c - 1 - i);
+    le::fields::put_u64(s, 16, (c - 1) as u64);
+}

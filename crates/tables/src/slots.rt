@@ -1,0 +1,59 @@
+// The 256 index slots: which is held, with which tag, and the search for a free one.
+ghost use mathlib.Core.Path.{_≡_};
+ghost use mathlib.Core.Bool.{true, false};
+ghost use Prim.Native.Nat.{_≤_};
+ghost use lib.ListN.{length};
+ghost use Rattle.rules.specs.Instance.{tagIn as tagInSlot};
+ghost use Rattle.rules.specs.Round.{allocate};
+ghost use Rattle.index.specs.Search.{readOf, told};
+ghost use Rattle.tables.specs.Layout.{counterAt};
+ghost use Rattle.tables.specs.View.{slotAt};
+ghost use Rattle.tables.specs.Write.{setSlot};
+ghost use Rattle.tables.specs.Answer.{tagIn, heldAt};
+
+// What a slot holds (R56).
+pub enum Tag {
+    Held(u32),
+    Empty,
+}
+
+// What slot k holds.
+pub fn tag_of(s: &[u8], k: u8) -> Tag
+    requires { ⌜ 8192 ≤ length (now s) ⌝ }
+    ensures { λ r. ⌜ tagIn r ≡ tagInSlot (slotAt (now (s .entry)) k) ⌝ }
+{
+    let at = k as usize;
+    if le::fields::get_u8(s, 256 + at) == 0 {
+        return Tag::Empty;
+    }
+    Tag::Held(le::fields::get_u32(s, 512 + 4 * at))
+}
+
+// Slot k holds the tag (R76).
+pub fn hold(s: &mut [u8], k: u8, tag: u32)
+    requires { ⌜ 8192 ≤ length (now s) ⌝ }
+    ensures { λ _. ⌜ now (s .exit) ≡ setSlot k true tag (now (s .entry)) ⌝ }
+{
+    let at = k as usize;
+    le::fields::put_u8(s, 256 + at, 1);
+    le::fields::put_u32(s, 512 + 4 * at, tag);
+}
+
+// Slot k is empty, without a tag (R56).
+pub fn free(s: &mut [u8], k: u8)
+    requires { ⌜ 8192 ≤ length (now s) ⌝ }
+    ensures { λ _. ⌜ now (s .exit) ≡ setSlot k false 0 (now (s .entry)) ⌝ }
+{
+    let at = k as usize;
+    le::fields::put_u8(s, 256 + at, 0);
+    le::fields::put_u32(s, 512 + 4 * at, 0);
+}
+
+// The first free index going round from the counter on (R80 to R84).
+pub fn search(s: &[u8]) -> index::Allocated
+    requires { ⌜ 8192 ≤ length (now s) ⌝ }
+    ensures { λ r. ⌜ readOf r ≡ told (allocate (heldAt (now (s .entry))) (counterAt (now (s .entry)))) ⌝ }
+{
+    let c = le::fields::get_u8(s, 81);
+    index::allocate_fs_idx(&s[256..512], c)
+}
