@@ -1,0 +1,71 @@
+-- The answers of a listing: a law for each, and that the contract allows one alone. Assumes nothing.
+use mathlib.Core.Path.{_≡_, refl, sym, ap, _∙_}
+use mathlib.Core.Bool.{true, false}
+use mathlib.Core.List.{List, []}
+use Prim.Native.Nat.{ℕ, min}
+use native.Mathlib.Omega.{arith}
+use lib.ListN.{length, drop}
+use borrow.Author.Tests.{eq-eqb, ne-eqb}
+use Rattle.rules.specs.Numbers.{NOENT}
+use Rattle.rules.specs.Tree.{isKnown, childrenIn}
+use Rattle.rules.specs.Outcome.{wrote, Outcome, refused, writes, firstOf}
+use Rattle.rules.specs.Listing.{direntsFrom, laid as laidRecords, listRule}
+use Rattle.le.specs.Mem.{write}
+use Rattle.tables.specs.View.{nodesOf, view}
+use Rattle.tables.specs.Rule.{laid}
+use Rattle.tables.specs.Call.{Told, toldBy}
+use Rattle.dirent.specs.Entry.{Lays}
+use Rattle.storage.proofs.Laid.{told-small, told-by}
+use Rattle.listing.specs.declared.Listed.{Listed}
+use Rattle.listing.specs.declared.Listed.the-variants.{Wrote, NoEnt, Small}
+use Rattle.listing.specs.Listed.{listedTold, writtenBy, listing, Lists}
+
+-- ---- the answers are known by their meaning
+
+pub listed-injective : (a b : Listed) → listedTold a ≡ listedTold b → a ≡ b
+unfolding listedTold
+listed-injective (Wrote n) (Wrote m) e = let h : wrote n ≡ wrote m = ap (λ (t : Told). t .answer) e in cc
+listed-injective (Wrote n) NoEnt e = absurd (omega (arith, ap (λ (t : Told). t .code) e))
+listed-injective (Wrote n) Small e = absurd (omega (arith, ap (λ (t : Told). t .code) e))
+listed-injective NoEnt (Wrote m) e = absurd (omega (arith, ap (λ (t : Told). t .code) e))
+listed-injective NoEnt NoEnt e = refl
+listed-injective NoEnt Small e = absurd (omega (arith, ap (λ (t : Told). t .code) e))
+listed-injective Small (Wrote m) e = absurd (omega (arith, ap (λ (t : Told). t .code) e))
+listed-injective Small NoEnt e = absurd (omega (arith, ap (λ (t : Told). t .code) e))
+listed-injective Small Small e = refl
+
+-- any two answers that the contract allows are equal, and so are the bytes after
+pub lists-once : (mem : List ℕ) (node size offset : ℕ) (d : List ℕ) (r t : Listed) (e f : List ℕ) → Lists mem node size offset d r e → Lists mem node size offset d t f → (r ≡ t) × (e ≡ f)
+lists-once mem node size offset d r t e f a b = (listed-injective r t (a .answer ∙ sym (b .answer)), a .bytes ∙ sym (b .bytes))
+
+-- ---- each answer
+
+module _ (mem : List ℕ) (node size offset : ℕ) (d : List ℕ) where
+  pub lists-small : laid mem ≡ false → Lists mem node size offset d Small d
+  unfolding listedTold writtenBy write
+  lists-small l = record { answer = sym (told-small mem (listing node size offset d) l); bytes = rw l }
+
+  -- by the outcome of the rule
+  module _ (l : laid mem ≡ true) (o : Outcome) (q : listing node size offset d (view mem) ≡ o) where
+    by-rule : (r : Listed) (e : List ℕ) → listedTold r ≡ toldBy o → e ≡ write d 0 (o .written) → Lists mem node size offset d r e
+    unfolding writtenBy
+    by-rule r e a b = record {
+      answer = a ∙ sym (told-by mem (listing node size offset d) l ∙ ap toldBy q);
+      bytes = b ∙ sym (rw (l, q));
+    }
+
+  pub lists-nothing : laid mem ≡ true → size ≡ 0 → Lists mem node size offset d (Wrote 0) d
+  unfolding listedTold write listRule firstOf
+  lists-nothing l z = by-rule l (writes [] (view mem)) (rw (eq-eqb size 0 z)) (Wrote 0) d refl refl
+
+  pub lists-unknown : laid mem ≡ true → (size ≡ 0 → ⊥) → isKnown (nodesOf mem) node ≡ false → Lists mem node size offset d NoEnt d
+  unfolding listedTold write listRule firstOf view
+  lists-unknown l z k = by-rule l (refused NOENT (view mem)) (rw (ne-eqb size 0 z, k)) NoEnt d refl refl
+
+  pub lists-laid : laid mem ≡ true → (size ≡ 0 → ⊥) → isKnown (nodesOf mem) node ≡ true → (end n : ℕ) (e : List ℕ) → end ≡ min size (length d)
+      → Lays d end (direntsFrom offset (drop offset (childrenIn (nodesOf mem) node))) n e → Lists mem node size offset d (Wrote n) e
+  unfolding listedTold listRule firstOf view
+  lists-laid l z k end n e h w =
+      let bs : List ℕ = laidRecords (min size (length d)) (direntsFrom offset (drop offset (childrenIn (nodesOf mem) node))) in
+      let v = rw h at w in
+      by-rule l (writes bs (view mem)) (rw (ne-eqb size 0 z, k)) (Wrote n) e (ap (λ (m : ℕ). listedTold (Wrote m)) (v .count)) (v .bytes)

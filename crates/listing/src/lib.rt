@@ -1,0 +1,106 @@
+// The listing of a directory of the tree: records of its children into lent bytes, each behind the one before it.
+ghost use mathlib.Core.Path.{_≡_};
+ghost use mathlib.Core.List.{[], _∷_};
+ghost use Prim.Native.Nat.{_≤_, _<_, min};
+ghost use lib.ListN.{length, drop};
+ghost use Rattle.rules.specs.Tree.{childrenIn};
+ghost use Rattle.rules.specs.Listing.{direntsFrom};
+ghost use Rattle.tables.specs.Layout.{capacityOf, countOf};
+ghost use Rattle.tables.specs.View.{nodeAt, nodesOf};
+ghost use Rattle.tables.specs.Rule.{Laid};
+ghost use Rattle.dirent.specs.Entry.{entry, Lays};
+ghost use Rattle.listing.specs.Listed.{Copied, Lists};
+
+// What a listing answers: how many bytes were written, NOENT or SMALL.
+pub enum Listed {
+    Wrote(usize),
+    NoEnt,
+    Small,
+}
+
+// The longest name (R10).
+const NAME: usize = 255;
+
+// Copies the name of row i to the start of the lent bytes: its length. Its last seven bytes stand apart from those before them.
+fn copy_name(s: &[u8], i: usize, out: &mut [u8]) -> usize
+    requires { ⌜ Laid (now s) ⌝ }
+    requires { ⌜ i < countOf (now s) ⌝ }
+    requires { ⌜ 255 ≤ length (now out) ⌝ }
+    ensures { λ r. ⌜ Copied (nodeAt (capacityOf (now (s .entry))) (now (s .entry)) i .called) (now (out .entry)) r (now (out .exit)) ⌝ }
+{
+    let n = tables::header::capacity(s);
+    let at = tables::rows::TABLE + 24 * n + 8 * i;
+    let len = le::fields::get_u8(s, at) as usize;
+    if len <= 7 {
+        le::runs::copy_run(out, 0, s, at + 1, len);
+        return len;
+    }
+    le::runs::copy_run(out, 0, s, tables::rows::TABLE + 44 * n + 248 * i, len - 7);
+    le::runs::copy_run(out, len - 7, s, at + 1, 7);
+    len
+}
+
+// Lays the record of row i with that offset at the start of the lent bytes: its length, or 0 and all as it was where it does not fit (R64, R65).
+fn lay_row(s: &[u8], i: usize, off: u64, out: &mut [u8]) -> usize
+    requires { ⌜ Laid (now s) ⌝ }
+    requires { ⌜ i < countOf (now s) ⌝ }
+    ensures { λ r. ⌜ Lays (now (out .entry)) (length (now (out .entry))) (entry (nodeAt (capacityOf (now (s .entry))) (now (s .entry)) i .number) off (nodeAt (capacityOf (now (s .entry))) (now (s .entry)) i .called) ∷ []) r (now (out .exit)) ⌝ }
+{
+    let mut name = [0u8; NAME];
+    let len = copy_name(s, i, &mut name);
+    dirent::write_dirent(out, tables::rows::number(s, i), off, &name[..len])
+}
+
+// Lays the records of a node's children from a place on into the first `end` of the lent bytes, each into the rest that is unwritten: how many bytes (R65, R66).
+fn lay_children(s: &[u8], x: u64, offset: u64, end: usize, out: &mut [u8]) -> usize
+    requires { ⌜ Laid (now s) ⌝ }
+    requires { ⌜ end ≤ length (now out) ⌝ }
+    ensures { λ r. ⌜ Lays (now (out .entry)) end (direntsFrom offset (drop offset (childrenIn (nodesOf (now (s .entry))) x))) r (now (out .exit)) ⌝ }
+{
+    let c = tables::header::count(s);
+    let mut place: u64 = 0;
+    let mut at = 0;
+    let mut i = 0;
+    while i < c {
+        let row = i;
+        i += 1;
+        if tables::rows::parent(s, row) != x {
+            continue;
+        }
+        place += 1;
+        if place <= offset {
+            continue;
+        }
+        let n = lay_row(s, row, place, &mut out[at..end]);
+        if n == 0 {
+            return at;
+        }
+        at += n;
+    }
+    at
+}
+
+// The smaller of two.
+fn least(a: usize, b: usize) -> usize
+    ensures { λ r. ⌜ r ≡ min a b ⌝ }
+{
+    if a < b { a } else { b }
+}
+
+// Lists the children of a node from an offset on into the lent bytes, whole records within `size` only: SMALL, then size 0, then NOENT (R19, R60, R63 to R66).
+pub fn readdir(s: &[u8], node: inode::NodeNumber, size: u32, offset: u64, out: &mut [u8]) -> Listed
+    ensures { λ r. ⌜ Lists (now (s .entry)) (node .0) size offset (now (out .entry)) r (now (out .exit)) ⌝ }
+{
+    if !storage::is_laid(s) {
+        return Listed::Small;
+    }
+    let known = tables::rows::is_known(s, node.0);
+    if size == 0 {
+        return Listed::Wrote(0);
+    }
+    if !known {
+        return Listed::NoEnt;
+    }
+    let end = least(size as usize, out.len());
+    Listed::Wrote(lay_children(s, node.0, offset, end, out))
+}

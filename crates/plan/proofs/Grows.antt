@@ -1,0 +1,127 @@
+-- Nodes that are written one after the other: what the bytes then stand for, that they keep the layout rule, and the turns of the loop. Assumes nothing.
+use mathlib.Core.Path.{_≡_, refl, sym, ap, _∙_}
+use mathlib.Core.Bool.{true}
+use mathlib.Core.List.{List, [], _∷_, append-assoc, append-nil}
+use Prim.Native.Nat.{ℕ, _+_, _-_, _^_, _≤_, _<_}
+use native.Mathlib.Nat.{add-zero, sub-zero}
+use native.Mathlib.Omega.{arith}
+use lib.ListN.{length, getD}
+use Rattle.rules.specs.Tree.{Node}
+use Rattle.rules.specs.Instance.{Instance, withTree, grown}
+use Rattle.path.specs.Steps.{part}
+use Rattle.le.specs.Mem.{bytesOf, get}
+use Rattle.tables.specs.Table.{row, putRow, over}
+use Rattle.tables.specs.Layout.{nodeTable, header, capacityOf, countOf, nextOf}
+use Rattle.tables.specs.View.{field, headOf, view}
+use Rattle.tables.specs.Rule.{Laid, laid}
+use Rattle.tables.specs.Write.{fromPlace, putHeader, setCount, setNext, nodeCells, appendNode}
+use Rattle.tables.proofs.Tab.{tab-next, tab-done}
+use Rattle.tables.proofs.Table.{length-putRow, put-below}
+use Rattle.tables.proofs.Refine.{nodes-above, head-low, whole, two-fields, fields-fit, view-append}
+use Rattle.tables.proofs.Keeps.{laid-is, keeps-append}
+use Rattle.plan.specs.Plan.{Columns, plannedAt, plannedFrom}
+use Rattle.plan.specs.Apply.{appendAll}
+use Rattle.plan.proofs.Fresh.{Fresh}
+
+-- ---- one node more: the header's numbers, and the rule that places of rows need
+
+module _ (mem : List ℕ) (d : Laid mem) (above : ℕ) (p : List ℕ) where
+  abbrev after : List ℕ
+  after = appendNode above p mem
+
+  append-head : headOf after ≡ over header (fromPlace 2 (bytesOf 8 (countOf mem + 1) ∷ bytesOf 8 (nextOf mem + 1) ∷ [])) mem 0
+  unfolding appendNode
+  append-head =
+      let n = capacityOf mem in
+      let cells = nodeCells (nextOf mem) above p in
+      let m′ = putRow (nodeTable n) cells mem (countOf mem) in
+      ap headOf (two-fields (countOf mem + 1) (nextOf mem + 1) m′)
+      ∙ head-low 2 _ m′ mem (fields-fit (countOf mem + 1) (nextOf mem + 1)) (λ q w h. put-below (nodeTable n) cells mem (countOf mem) 8192 q w (nodes-above n 8192 (omega arith)) h)
+      (omega (arith, length-putRow (nodeTable n) cells mem (countOf mem), d .long))
+
+  append-capacity : capacityOf after ≡ capacityOf mem
+  unfolding over row get
+  append-capacity = ap (λ (h : List (List ℕ)). field 1 h) append-head
+
+  append-count : countOf after ≡ countOf mem + 1
+  unfolding over row get
+  append-count = ap (λ (h : List (List ℕ)). field 2 h) append-head ∙ whole 8 (countOf mem + 1) mem _ (omega (arith, d .live, d .few-nodes))
+
+  append-next : nextOf after ≡ nextOf mem + 1
+  unfolding over row get
+  append-next = ap (λ (h : List (List ℕ)). field 3 h) append-head ∙ whole 8 (nextOf mem + 1) mem _ (omega (arith, d .top))
+
+  append-length : length after ≡ length mem
+  unfolding appendNode setNext setCount putHeader
+  append-length = simp length-putRow
+
+  append-laid : countOf mem + 1 < capacityOf mem → nextOf mem < 2 ^ 56 → Laid after
+  append-laid room top = record {
+    some-node = omega (arith, append-capacity, d .some-node);
+    few-nodes = omega (arith, append-capacity, d .few-nodes);
+    long = omega (arith, append-capacity, append-length, d .long);
+    live = omega (arith, append-capacity, append-count);
+    low = omega (arith, append-next, d .low);
+    top = omega (arith, append-next);
+  }
+
+-- ---- what the bytes stand for
+
+pub record Grown (ns : List Node) (mem : List ℕ) : Type 0 where
+  pub stands : view (appendAll ns mem) ≡ withTree (grown ns (view mem .tree)) (view mem)
+  pub keeps : laid (appendAll ns mem) ≡ true
+
+pub grows : (ns : List Node) (mem : List ℕ) → laid mem ≡ true → Fresh (nextOf mem) ns → countOf mem + length ns < capacityOf mem → nextOf mem + length ns ≤ 2 ^ 56 → Grown ns mem
+unfolding appendAll Fresh
+grows [] mem l f c x = record { stands = λ i. withTree (record { next = sym (add-zero (view mem .tree .next)) i; root = view mem .tree .root; nodes = sym (append-nil (view mem .tree .nodes)) i }) (view mem); keeps = l }
+grows (n ∷ ns) mem l f c x =
+    let v : view (appendNode (n .above) (n .called) mem) ≡ withTree (grown (n ∷ []) (view mem .tree)) (view mem) =
+    view-append mem (laid-is mem l) (n .above) (n .called) (omega arith) (omega arith) (f .1) (f .2) ∙ ap (λ (m : Node). withTree (grown (m ∷ []) (view mem .tree)) (view mem)) (sym (f .0)) in
+    let a = append-next mem (laid-is mem l) (n .above) (n .called) in
+    let b = append-count mem (laid-is mem l) (n .above) (n .called) in
+    let d = append-capacity mem (laid-is mem l) (n .above) (n .called) in
+    let more : Grown ns (appendNode (n .above) (n .called) mem) = grows ns (appendNode (n .above) (n .called) mem) (keeps-append mem l (n .above) (n .called) (omega arith) (omega arith)) (rw a (f .3)) (omega arith) (omega arith) in
+    let next : view mem .tree .next + 1 + length ns ≡ view mem .tree .next + length (n ∷ ns) = omega arith in
+    record {
+      stands =
+          more .stands ∙ ap (λ (i : Instance). withTree (grown ns (i .tree)) i) v
+          ∙ (λ i. withTree (record { next = next i; root = view mem .tree .root; nodes = append-assoc (view mem .tree .nodes) (n ∷ []) ns i }) (view mem));
+      keeps = more .keeps;
+    }
+
+-- ---- the loop: writing the rest here gives what writing all gives
+
+pub record Writing (s₀ path : List ℕ) (t : Columns) (count : ℕ) (s : List ℕ) (j : ℕ) : Type 0 where
+  pub so-far : j ≤ count
+  pub long : length s ≡ length s₀
+  pub laid : Laid s
+  pub capacity : capacityOf s ≡ capacityOf s₀
+  pub live : countOf s ≡ countOf s₀ + j
+  pub numbers : nextOf s ≡ nextOf s₀ + j
+  pub rest : appendAll (plannedFrom path (nextOf s₀) t j (count - j)) s ≡ appendAll (plannedFrom path (nextOf s₀) t 0 count) s₀
+
+module _ (s₀ path : List ℕ) (t : Columns) (count : ℕ) where
+  pub starts : Laid s₀ → Writing s₀ path t count s₀ 0
+  starts l = record { so-far = omega arith; long = refl; laid = l; capacity = refl; live = omega arith; numbers = omega arith; rest = simp sub-zero }
+
+  module _ (s : List ℕ) (j : ℕ) (w : Writing s₀ path t count s j) where
+    pub done : count ≤ j → s ≡ appendAll (plannedFrom path (nextOf s₀) t 0 count) s₀
+    unfolding appendAll plannedFrom
+    done h = rw (tab-done (plannedAt path (nextOf s₀) t) j count h) at (w .rest)
+
+    pub goes-on : (r : List ℕ) → j < count → countOf s₀ + count < capacityOf s₀ → nextOf s₀ + count ≤ 2 ^ 56
+        → r ≡ appendNode (getD (t .made) j 0) (part path (getD (t .starts) j 0) (getD (t .lens) j 0)) s → Writing s₀ path t count r (j + 1)
+    unfolding appendAll plannedFrom plannedAt
+    goes-on r h c x e =
+        let a = getD (t .made) j 0 in
+        let p = part path (getD (t .starts) j 0) (getD (t .lens) j 0) in
+        rw e
+        (record {
+          so-far = omega arith;
+          long = append-length s (w .laid) a p ∙ w .long;
+          laid = append-laid s (w .laid) a p (omega (arith, w .live, w .capacity)) (omega (arith, w .numbers));
+          capacity = append-capacity s (w .laid) a p ∙ w .capacity;
+          live = omega (arith, append-count s (w .laid) a p, w .live);
+          numbers = omega (arith, append-next s (w .laid) a p, w .numbers);
+          rest = rw (tab-next (plannedAt path (nextOf s₀) t) j count h) at (w .rest);
+        })

@@ -1,0 +1,107 @@
+-- Children and parents among the nodes of two lists, and the growth of a mount walk. Assumes nothing.
+use mathlib.Core.Path.{_≡_, refl}
+use mathlib.Core.Bool.{Bool, true, false, cond}
+use mathlib.Core.List.{List, [], _∷_, _++_}
+use mathlib.Core.Option.{Option, none, some}
+use Prim.Native.Nat.{ℕ, _+_, _≤_}
+use native.Mathlib.Omega.{arith}
+use lib.ListN.{length, length-append}
+use lib.Dec.{eqb, ltb}
+use borrow.Author.Tests.{ltb-false}
+use Rattle.rules.specs.Bytes.{same}
+use Rattle.rules.specs.Path.{Part, name, parent, isDot, isDots, pieces, sorted, kept, components, anyLonger, tooLong}
+use Rattle.rules.specs.Tree.{Node, Made, isChild, childIn, nodeIn, orMake, step, makes}
+use Rattle.rules.proofs.Tests.{or-neither}
+
+-- ---- the first that is found
+
+module _ (here : ℕ) (p : List ℕ) where
+  pub child-first : (xs ys : List Node) {x : ℕ} → childIn xs here p ≡ some x → childIn (xs ++ ys) here p ≡ some x
+  unfolding childIn
+  child-first [] ys e = let z : _≡_ {A = ℕ} 0 1 = cc in absurd (omega arith)
+  child-first (n ∷ xs) ys {x} e = go (isChild here p n) (child-first xs ys) e
+    where
+      go : (t : Bool) → (childIn xs here p ≡ some x → childIn (xs ++ ys) here p ≡ some x) → cond t (some (n .number)) (childIn xs here p) ≡ some x → cond t (some (n .number)) (childIn (xs ++ ys) here p) ≡ some x
+      go true ih e = e
+      go false ih e = ih e
+
+  pub child-second : (xs ys : List Node) → childIn xs here p ≡ none → childIn (xs ++ ys) here p ≡ childIn ys here p
+  unfolding childIn
+  child-second [] ys e = refl
+  child-second (n ∷ xs) ys e = go (isChild here p n) (child-second xs ys) e
+    where
+      go : (t : Bool) → (childIn xs here p ≡ none → childIn (xs ++ ys) here p ≡ childIn ys here p) → cond t (some (n .number)) (childIn xs here p) ≡ none → cond t (some (n .number)) (childIn (xs ++ ys) here p) ≡ childIn ys here p
+      go true ih e = let z : _≡_ {A = ℕ} 0 1 = cc in absurd (omega arith)
+      go false ih e = ih e
+
+module _ (x : ℕ) where
+  pub node-first : (xs ys : List Node) {n : Node} → nodeIn xs x ≡ some n → nodeIn (xs ++ ys) x ≡ some n
+  unfolding nodeIn
+  node-first [] ys e = let z : _≡_ {A = ℕ} 0 1 = cc in absurd (omega arith)
+  node-first (m ∷ xs) ys {n} e = go (eqb (m .number) x) (node-first xs ys) e
+    where
+      go : (t : Bool) → (nodeIn xs x ≡ some n → nodeIn (xs ++ ys) x ≡ some n) → cond t (some m) (nodeIn xs x) ≡ some n → cond t (some m) (nodeIn (xs ++ ys) x) ≡ some n
+      go true ih e = e
+      go false ih e = ih e
+
+  pub node-second : (xs ys : List Node) → nodeIn xs x ≡ none → nodeIn (xs ++ ys) x ≡ nodeIn ys x
+  unfolding nodeIn
+  node-second [] ys e = refl
+  node-second (m ∷ xs) ys e = go (eqb (m .number) x) (node-second xs ys) e
+    where
+      go : (t : Bool) → (nodeIn xs x ≡ none → nodeIn (xs ++ ys) x ≡ nodeIn ys x) → cond t (some m) (nodeIn xs x) ≡ none → cond t (some m) (nodeIn (xs ++ ys) x) ≡ nodeIn ys x
+      go true ih e = let z : _≡_ {A = ℕ} 0 1 = cc in absurd (omega arith)
+      go false ih e = ih e
+
+-- ---- a mount walk only adds nodes
+
+step-grows : (live : List Node) (next : ℕ) (m : Made) (p : Part) → length (m .nodes) ≤ length (step live next m p .nodes)
+unfolding step
+step-grows live next m (parent at) = omega arith
+step-grows live next m (name at p) = go (childIn (live ++ m .nodes) (m .here) p)
+  where
+    go : (o : Option ℕ) → length (m .nodes) ≤ length (orMake next m p o .nodes)
+    go (some x) = omega arith
+    go none = simp length-append (omega arith)
+
+pub makes-grows : (live : List Node) (next : ℕ) (m : Made) (ps : List Part) → length (m .nodes) ≤ length (makes live next m ps .nodes)
+unfolding makes
+makes-grows live next m [] = omega arith
+makes-grows live next m (p ∷ ps) = omega (arith, step-grows live next m p, makes-grows live next (step live next m p) ps)
+
+-- ---- the names of a path that is not too long
+
+unfoldable pub Short : List Part → Type 0
+Short [] = Unit {0}
+Short (parent at ∷ ps) = Short ps
+Short (name at p ∷ ps) = (length p ≤ 255) × Short ps
+
+pub rest-short : (p : Part) (ps : List Part) → Short (p ∷ ps) → Short ps
+unfolding Short
+rest-short (parent at) ps s = s
+rest-short (name at p) ps s = s .1
+
+pub first-short : (at : ℕ) (p : List ℕ) (ps : List Part) → Short (name at p ∷ ps) → length p ≤ 255
+unfolding Short
+first-short at p ps s = s .0
+
+kept-short : (at : ℕ) (ps : List (List ℕ)) → anyLonger 255 ps ≡ false → Short (kept at ps)
+unfolding Short kept sorted anyLonger
+kept-short at [] e = tt
+kept-short at (p ∷ ps) e =
+    let o = or-neither (ltb 255 (length p)) (anyLonger 255 ps) e in
+    go (same p []) (isDot p) (isDots p) (kept (at + length p + 1) ps) (ltb-false 255 (length p) (o .0)) (kept-short (at + length p + 1) ps (o .1))
+  where
+    go : (x y z : Bool) (qs : List Part) → length p ≤ 255 → Short qs → Short (cond x qs (cond y qs (cond z (parent at ∷ qs) (name at p ∷ qs))))
+    go true y z qs l k = k
+    go false true z qs l k = k
+    go false false true qs l k = k
+    go false false false qs l k = (l, k)
+
+pub components-short : (s : List ℕ) → tooLong s ≡ false → Short (components 0 s)
+unfolding tooLong components
+components-short s e = kept-short 0 (pieces s) (or-neither (ltb 4096 (length s)) (anyLonger 255 (pieces s)) e .1)
+
+pub path-short : (s : List ℕ) → tooLong s ≡ false → length s ≤ 4096
+unfolding tooLong
+path-short s e = ltb-false 4096 (length s) (or-neither (ltb 4096 (length s)) (anyLonger 255 (pieces s)) e .0)

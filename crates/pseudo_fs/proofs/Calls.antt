@@ -1,0 +1,215 @@
+-- The answers of the calls are what the rules tell; each answer is known by what it tells. Assumes nothing.
+use mathlib.Core.Path.{_≡_, refl, sym, ap, _∙_}
+use mathlib.Core.Bool.{Bool, true, false, cond, not, _||_}
+use mathlib.Core.List.{List}
+use mathlib.Core.Option.{none}
+use Prim.Native.Nat.{ℕ, _^_, _<_}
+use native.Mathlib.Omega.{arith}
+use lib.ListN.{length}
+use borrow.Author.Tests.{le-ltb}
+use Rattle.rules.specs.Numbers.{maxIno, convert, dirMode, blockSize}
+use Rattle.rules.specs.Utf8.{wellFormed}
+use Rattle.rules.specs.Path.{components, rooted}
+use Rattle.rules.specs.Ids.{Mapping, badMapping, wrapped}
+use Rattle.rules.specs.Instance.{Instance}
+use Rattle.rules.specs.Outcome.{Answer, walked, Outcome, says, firstOf}
+use Rattle.rules.specs.Unmount.{badPath, reached, walkRule}
+use Rattle.rules.specs.Lookup.{entryOf, pseudoLookupRule}
+use Rattle.rules.proofs.Ids.{wrapped-is-whole}
+use Rattle.tables.specs.View.{mappingFrom, headOf, nodesOf, view}
+use Rattle.tables.specs.Rule.{laid}
+use Rattle.tables.specs.Call.{Told, toldBy, answeredBy}
+use Rattle.tables.proofs.Keeps.{ruled}
+use Rattle.inode.specs.Converted.{fullOf, Converts}
+use Rattle.inode.specs.declared.NodeNumber.{NodeNumber}
+use Rattle.inode.specs.declared.VfsInode.{VfsInode}
+use Rattle.inode.specs.declared.Converted.{Converted}
+use Rattle.inode.specs.declared.Converted.the-variants.{Full, Inode}
+use Rattle.storage.proofs.Laid.{told-small, told-by}
+use Rattle.pseudo_fs.specs.declared.PathFault.{PathFault}
+use Rattle.pseudo_fs.specs.declared.PathFault.the-variants.{Utf8, Slash, Sound}
+use Rattle.pseudo_fs.specs.declared.PathWalk.{PathWalk}
+use Rattle.pseudo_fs.specs.declared.PathWalk.the-variants.{Node as WalkNode, Nothing as WalkNothing, Inval as WalkInval, Small as WalkSmall}
+use Rattle.pseudo_fs.specs.declared.Entry.{Entry}
+use Rattle.pseudo_fs.specs.declared.Looked.{Looked}
+use Rattle.pseudo_fs.specs.declared.Looked.the-variants.{Entry as LookedEntry, NoEnt as LookedNoEnt, Inval as LookedInval, Small as LookedSmall}
+use Rattle.pseudo_fs.specs.declared.inner.Walked.{Walked}
+use Rattle.pseudo_fs.specs.declared.inner.Walked.the-variants.{At, Missing}
+use Rattle.pseudo_fs.specs.declared.inner.Finding.{Finding}
+use Rattle.pseudo_fs.specs.declared.inner.Finding.the-variants.{Node as FindingNode, NoEnt, Inval}
+use Rattle.pseudo_fs.specs.Walks.{walkedOf, Walks}
+use Rattle.pseudo_fs.specs.Finds.{outcomeOf, Finds}
+use Rattle.pseudo_fs.specs.Told.{faultOf, tells, pathWalkTold, entryAnswer, lookedTold, orZero, pseudoAnswer}
+use Rattle.pseudo_fs.proofs.Finds.{found-low}
+
+-- ---- the first fault of a path
+
+abbrev pub isFault : PathFault → Bool
+isFault Utf8 = true
+isFault Slash = true
+isFault Sound = false
+
+module _ (path : List ℕ) where
+  pub not-formed : wellFormed path ≡ false → Utf8 ≡ faultOf path
+  unfolding faultOf firstOf
+  not-formed e = rw e
+
+  pub no-slash : wellFormed path ≡ true → rooted path ≡ false → Slash ≡ faultOf path
+  unfolding faultOf firstOf
+  no-slash e f = rw (e, f)
+
+  pub no-fault : wellFormed path ≡ true → rooted path ≡ true → Sound ≡ faultOf path
+  unfolding faultOf firstOf
+  no-fault e f = rw (e, f)
+
+  -- a path is bad exactly where it has a fault
+  pub fault-bad : {r q : PathFault} → r ≡ faultOf path → r ≡ q → badPath path ≡ isFault q
+  unfolding badPath faultOf firstOf
+  fault-bad e f = go (wellFormed path) (rooted path) ∙ ap isFault (sym e ∙ f)
+    where
+      go : (w r : Bool) → (not w || not r) ≡ isFault (cond (not w) Utf8 (cond (not r) Slash Sound))
+      go true true = refl
+      go true false = refl
+      go false true = refl
+      go false false = refl
+
+-- ---- the walk
+
+module _ (mem path : List ℕ) where
+  abbrev walking : Instance → Outcome
+  walking i = walkRule i path
+
+  pub walk-small : laid mem ≡ false → pathWalkTold WalkSmall ≡ answeredBy mem walking
+  unfolding pathWalkTold
+  walk-small e = sym (told-small mem walking e)
+
+  module _ (e : laid mem ≡ true) where
+    pub walk-bad : badPath path ≡ true → pathWalkTold WalkInval ≡ answeredBy mem walking
+    unfolding pathWalkTold walkRule firstOf
+    walk-bad b = sym (told-by mem walking e ∙ rw b)
+
+    module _ (b : badPath path ≡ false) {r : Walked} (w : Walks (nodesOf mem) (components 0 path) r) where
+      by-walk : answeredBy mem walking ≡ tells (walked (walkedOf r))
+      unfolding walkRule firstOf reached view
+      by-walk = told-by mem walking e ∙ rw (b, w .node)
+
+      pub walk-at : (x : NodeNumber) → r ≡ At (x .0) → pathWalkTold (WalkNode x) ≡ answeredBy mem walking
+      unfolding pathWalkTold walkedOf
+      walk-at x q = sym (by-walk ∙ rw q)
+
+      pub walk-none : (place : ℕ) → r ≡ Missing place → pathWalkTold WalkNothing ≡ answeredBy mem walking
+      unfolding pathWalkTold walkedOf
+      walk-none place q = sym (by-walk ∙ rw q)
+
+-- what an answer tells, it alone tells
+path-walk-apart-by : (a b : PathWalk) → pathWalkTold a .code ≡ pathWalkTold b .code → pathWalkTold a .answer ≡ pathWalkTold b .answer → a ≡ b
+unfolding pathWalkTold
+path-walk-apart-by (WalkNode x) (WalkNode y) c e = let z : x .0 ≡ y .0 = cc in ap (λ (n : ℕ). WalkNode (record { 0 = n })) z
+path-walk-apart-by (WalkNode x) WalkNothing c e = cc
+path-walk-apart-by (WalkNode x) WalkInval c e = absurd (omega arith)
+path-walk-apart-by (WalkNode x) WalkSmall c e = absurd (omega arith)
+path-walk-apart-by WalkNothing (WalkNode y) c e = cc
+path-walk-apart-by WalkNothing WalkNothing c e = refl
+path-walk-apart-by WalkNothing WalkInval c e = absurd (omega arith)
+path-walk-apart-by WalkNothing WalkSmall c e = absurd (omega arith)
+path-walk-apart-by WalkInval (WalkNode y) c e = absurd (omega arith)
+path-walk-apart-by WalkInval WalkNothing c e = absurd (omega arith)
+path-walk-apart-by WalkInval WalkInval c e = refl
+path-walk-apart-by WalkInval WalkSmall c e = absurd (omega arith)
+path-walk-apart-by WalkSmall (WalkNode y) c e = absurd (omega arith)
+path-walk-apart-by WalkSmall WalkNothing c e = absurd (omega arith)
+path-walk-apart-by WalkSmall WalkInval c e = absurd (omega arith)
+path-walk-apart-by WalkSmall WalkSmall c e = refl
+
+pub path-walk-apart : (a b : PathWalk) → pathWalkTold a ≡ pathWalkTold b → a ≡ b
+path-walk-apart a b e = path-walk-apart-by a b (ap (λ (t : Told). t .code) e) (ap (λ (t : Told). t .answer) e)
+
+-- ---- the pseudo entry
+
+module _ (x : ℕ) {r : Converted} (c : Converts 0 x r) where
+  pub full-known : (v : VfsInode) → r ≡ Full v → v .0 ≡ orZero (convert 0 x)
+  unfolding fullOf
+  full-known v e = ap orZero (sym (ap fullOf e) ∙ c .full)
+
+  pub full-none : r ≡ Inode → 0 ≡ orZero (convert 0 x)
+  unfolding fullOf
+  full-none e = ap orZero (sym (ap fullOf e) ∙ c .full)
+
+-- as the code makes it
+pub pseudo-made : (m k : Mapping) (x id : ℕ) (v : VfsInode) → v .0 ≡ orZero (convert 0 x) → k ≡ m → id ≡ wrapped k 0
+    → entryAnswer (record { inode = v; mode = dirMode; uid = id; gid = id; blksize = blockSize }) ≡ pseudoAnswer m x
+unfolding entryAnswer pseudoAnswer
+pseudo-made m k x id v a b c = rw (c, b, a)
+
+module _ (mem : List ℕ) (e : laid mem ≡ true) where
+  -- the mapping in force passes its test
+  pub good-mapping : badMapping (mappingFrom 7 (headOf mem)) ≡ false
+  unfolding laid
+  good-mapping = ruled (headOf mem) (length mem) e .maps
+
+  -- the theorem: of a node's number it is the rules' entry
+  pub pseudo-is : (y : ℕ) → y < 2 ^ 56 → says (pseudoAnswer (mappingFrom 7 (headOf mem)) y) (view mem) ≡ entryOf (view mem) y none
+  unfolding pseudoAnswer convert entryOf view
+  pseudo-is y h = rw (le-ltb maxIno y (omega arith), wrapped-is-whole (mappingFrom 7 (headOf mem)) 0 good-mapping (omega arith) .0)
+
+-- ---- the lookup
+
+module _ (mem : List ℕ) (x : ℕ) (p : List ℕ) where
+  abbrev looking : Instance → Outcome
+  looking i = pseudoLookupRule i x p
+
+  pub look-small : laid mem ≡ false → lookedTold LookedSmall ≡ answeredBy mem looking
+  unfolding lookedTold
+  look-small e = sym (told-small mem looking e)
+
+  module _ (e : laid mem ≡ true) (r : Finding) (f : Finds (nodesOf mem) x p r) where
+    by-find : answeredBy mem looking ≡ toldBy (outcomeOf (λ (y : ℕ). none) (view mem) r)
+    unfolding pseudoLookupRule view
+    by-find = told-by mem looking e ∙ ap (λ (o : Outcome). toldBy o) (sym (f (λ (y : ℕ). none) (view mem) refl))
+
+    pub look-noent : r ≡ NoEnt → lookedTold LookedNoEnt ≡ answeredBy mem looking
+    unfolding lookedTold outcomeOf
+    look-noent q = sym (by-find ∙ rw q)
+
+    pub look-inval : r ≡ Inval → lookedTold LookedInval ≡ answeredBy mem looking
+    unfolding lookedTold outcomeOf
+    look-inval q = sym (by-find ∙ rw q)
+
+    pub look-entry : (y : ℕ) → r ≡ FindingNode y → (n : Entry) → entryAnswer n ≡ pseudoAnswer (mappingFrom 7 (headOf mem)) y → lookedTold (LookedEntry n) ≡ answeredBy mem looking
+    unfolding lookedTold outcomeOf
+    look-entry y q n a =
+        let h : y < 2 ^ 56 = found-low mem x p y (rw q at f) in
+        ap (λ (v : Answer). tells v) a ∙ (ap (λ (o : Outcome). toldBy o) (pseudo-is mem e y h) ∙ sym (by-find ∙ rw q))
+
+entry-apart : (m n : Entry) → entryAnswer m ≡ entryAnswer n → m ≡ n
+unfolding entryAnswer
+entry-apart m n e =
+    let a : m .inode .0 ≡ n .inode .0 = cc in
+    let b : m .mode ≡ n .mode = cc in
+    let c : m .uid ≡ n .uid = cc in
+    let d : m .gid ≡ n .gid = cc in
+    let f : m .blksize ≡ n .blksize = cc in
+    rw (a, b, c, d, f)
+
+-- what an answer tells, it alone tells
+looked-apart-by : (a b : Looked) → lookedTold a .code ≡ lookedTold b .code → lookedTold a .answer ≡ lookedTold b .answer → a ≡ b
+unfolding lookedTold
+looked-apart-by (LookedEntry x) (LookedEntry y) c e = ap LookedEntry (entry-apart x y e)
+looked-apart-by (LookedEntry x) LookedNoEnt c e = absurd (omega arith)
+looked-apart-by (LookedEntry x) LookedInval c e = absurd (omega arith)
+looked-apart-by (LookedEntry x) LookedSmall c e = absurd (omega arith)
+looked-apart-by LookedNoEnt (LookedEntry y) c e = absurd (omega arith)
+looked-apart-by LookedNoEnt LookedNoEnt c e = refl
+looked-apart-by LookedNoEnt LookedInval c e = absurd (omega arith)
+looked-apart-by LookedNoEnt LookedSmall c e = absurd (omega arith)
+looked-apart-by LookedInval (LookedEntry y) c e = absurd (omega arith)
+looked-apart-by LookedInval LookedNoEnt c e = absurd (omega arith)
+looked-apart-by LookedInval LookedInval c e = refl
+looked-apart-by LookedInval LookedSmall c e = absurd (omega arith)
+looked-apart-by LookedSmall (LookedEntry y) c e = absurd (omega arith)
+looked-apart-by LookedSmall LookedNoEnt c e = absurd (omega arith)
+looked-apart-by LookedSmall LookedInval c e = absurd (omega arith)
+looked-apart-by LookedSmall LookedSmall c e = refl
+
+pub looked-apart : (a b : Looked) → lookedTold a ≡ lookedTold b → a ≡ b
+looked-apart a b e = looked-apart-by a b (ap (λ (t : Told). t .code) e) (ap (λ (t : Told). t .answer) e)

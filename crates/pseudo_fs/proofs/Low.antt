@@ -1,0 +1,74 @@
+-- Numbers of nodes in the bytes are below 2^56, and so is every number that a find gives. Assumes nothing.
+use mathlib.Core.Path.{_≡_, refl, sym, subst}
+use mathlib.Core.Bool.{Bool, true, false, cond, not, _||_, false≢true}
+use mathlib.Core.List.{List, [], _∷_}
+use mathlib.Core.Option.{Option, none, some}
+use Prim.Native.Nat.{ℕ, zero, suc, _+_, _^_, _<_}
+use native.Mathlib.Omega.{arith}
+use lib.Dec.{eqb}
+use borrow.Author.Tests.{eqb-true}
+use Rattle.rules.specs.Numbers.{rootNumber}
+use Rattle.rules.specs.Tree.{Node, isNone, isChild, childIn, nodeIn, isKnown, aboveOf, parentIn}
+use Rattle.tables.specs.Table.{tab}
+use Rattle.tables.specs.Layout.{capacityOf, countOf}
+use Rattle.tables.specs.View.{nodeFrom, nodeAt, nodesOf}
+use Rattle.tables.proofs.Find.{nodes-of}
+
+-- every number and every parent
+abbrev pub Low : List Node → Type 0
+Low [] = Unit {0}
+Low (n ∷ ns) = (n .number < 2 ^ 56) × (n .above < 2 ^ 56) × Low ns
+
+tab-low : (f : ℕ → Node) → ((i : ℕ) → (f i .number < 2 ^ 56) × (f i .above < 2 ^ 56)) → (i k : ℕ) → Low (tab f i k)
+unfolding tab
+tab-low f h i zero = tt
+tab-low f h i (suc k) = (h i .0, h i .1, tab-low f h (i + 1) k)
+
+node-low : (n : ℕ) (mem : List ℕ) (i : ℕ) → (nodeAt n mem i .number < 2 ^ 56) × (nodeAt n mem i .above < 2 ^ 56)
+unfolding nodeAt nodeFrom
+node-low n mem i = (omega arith, omega arith)
+
+pub nodes-low : (mem : List ℕ) → Low (nodesOf mem)
+nodes-low mem = subst Low (sym (nodes-of mem)) (tab-low (nodeAt (capacityOf mem) mem) (node-low (capacityOf mem) mem) 0 (countOf mem))
+
+-- ---- what is found among them
+
+pub child-low : (ns : List Node) → Low ns → (here : ℕ) (p : List ℕ) (y : ℕ) → childIn ns here p ≡ some y → y < 2 ^ 56
+unfolding childIn
+child-low [] l here p y e = let z : _≡_ {A = ℕ} 0 1 = cc in absurd (omega arith)
+child-low (n ∷ ns) l here p y e = go (isChild here p n) e (child-low ns (l .2) here p y)
+  where
+    go : (b : Bool) → cond b (some (n .number)) (childIn ns here p) ≡ some y → (childIn ns here p ≡ some y → y < 2 ^ 56) → y < 2 ^ 56
+    go true f k = let z : n .number ≡ y = cc in omega (arith, l .0)
+    go false f k = k f
+
+-- the node of a number: its number is that one
+in-low : (ns : List Node) → Low ns → (x : ℕ) (n : Node) → nodeIn ns x ≡ some n → (x < 2 ^ 56) × (n .above < 2 ^ 56)
+unfolding nodeIn
+in-low [] l x n e = let z : _≡_ {A = ℕ} 0 1 = cc in absurd (omega arith)
+in-low (m ∷ ns) l x n e = go (eqb (m .number) x) refl e (in-low ns (l .2) x n)
+  where
+    go : (b : Bool) → eqb (m .number) x ≡ b → cond b (some m) (nodeIn ns x) ≡ some n → (nodeIn ns x ≡ some n → (x < 2 ^ 56) × (n .above < 2 ^ 56)) → (x < 2 ^ 56) × (n .above < 2 ^ 56)
+    go true t f k =
+        let z : m ≡ n = cc in
+        (omega (arith, l .0, eqb-true (m .number) x t), subst (λ (q : Node). q .above < 2 ^ 56) z (l .1))
+    go false t f k = k f
+
+module _ (ns : List Node) (l : Low ns) (x : ℕ) where
+  pub known-low : isKnown ns x ≡ true → x < 2 ^ 56
+  unfolding isKnown
+  known-low e = go (eqb x rootNumber) refl (nodeIn ns x) refl e
+    where
+      go : (b : Bool) → eqb x rootNumber ≡ b → (o : Option Node) → nodeIn ns x ≡ o → (b || not (isNone o)) ≡ true → x < 2 ^ 56
+      go true t o q f = omega (arith, eqb-true x rootNumber t)
+      go false t none q f = absurd (false≢true f)
+      go false t (some n) q f = in-low ns l x n q .0
+
+  pub parent-low : parentIn ns x < 2 ^ 56
+  unfolding parentIn
+  parent-low = go (eqb x rootNumber) (nodeIn ns x) refl
+    where
+      go : (b : Bool) (o : Option Node) → nodeIn ns x ≡ o → cond b rootNumber (aboveOf o) < 2 ^ 56
+      go true o q = omega arith
+      go false none q = omega arith
+      go false (some n) q = in-low ns l x n q .1

@@ -1,0 +1,126 @@
+-- The outer loop: the walk from here on is the walk of the whole path. The inner loop: that again, at the node that is searched, and the rows that are left decide.
+use mathlib.Core.Path.{sym, ap, _∙_}
+use mathlib.Core.List.{List}
+use mathlib.Core.Option.{some}
+use Prim.Native.Nat.{ℕ, _-_}
+use native.Mathlib.Omega.{arith}
+use lib.ListN.{length}
+use denote.Ref.{now}
+use Rattle.rules.specs.Path.{name, parent}
+use Rattle.path.specs.Steps.{part, between}
+use Rattle.path.proofs.Steps.{step-of, Goes}
+use Rattle.tables.specs.View.{nodesOf}
+use Rattle.tables.proofs.Find.{Sought, child-begins, child-here, child-on, child-none}
+use Rattle.pseudo_fs.proofs.Walks.{Going, begins, arrives, goes-up, goes-to, stops}
+use borrow.Author.Needs.{needs}
+use Rattle.pseudo_fs.proofs.inner.walk.Statement.{statement}
+use Rattle.pseudo_fs.proofs.inner.walk.Tie as tie
+
+abbrev Inv-loop : tie.InvT-loop
+Inv-loop s path n node₀ at₀ start next j₀ node at j = Going (nodesOf s) path node at₀ × Sought s node (between path start next) n j
+
+abbrev μ-loop : tie.MeasureT-loop
+μ-loop s path n node₀ at₀ start next j₀ node at j = n - j
+
+abbrev Inv-outer : tie.InvT-outer
+Inv-outer s path n node₀ at₀ node at = Going (nodesOf s) path node at
+
+abbrev μ-outer : tie.MeasureT-outer
+μ-outer s path n node₀ at₀ node at = length path - at
+
+-- the step to a parent, and the step to a name, as `next_component` tells it
+parent-step : (c : tie.After-next Inv-loop μ-loop Inv-outer μ-outer) → Goes (now (c .before .before .before .before .before .before .before .args .path)) (c .before .before .before .outer .at) (parent (c .next .given .0 .0)) (c .next .given .0 .0) 2 (c .next .given .0 .1 .0)
+parent-step c = step-of (now (c .before .before .before .before .before .before .before .args .path)) (c .before .before .before .outer .at) (c .before .before .next-component .ensures) (c .next .given .1)
+
+module _ (c : tie.After-known-told2 Inv-loop μ-loop Inv-outer μ-outer) where
+  abbrev path : List ℕ
+  path = now (c .before .before .before .before .before .before .before .before .args .path)
+
+  abbrev at : ℕ
+  at = c .before .before .before .before .outer .at
+
+  abbrev start : ℕ
+  start = c .before .start .given .0 .0
+
+  abbrev len : ℕ
+  len = c .before .start .given .0 .1 .0
+
+  abbrev next : ℕ
+  next = c .before .start .given .0 .1 .1 .0
+
+  name-step : Goes path at (name start (part path start len)) start len next
+  name-step = step-of path at (c .before .before .before .next-component .ensures) (c .before .start .given .1)
+
+outer-holds : tie.Need-outer-holds Inv-loop μ-loop Inv-outer μ-outer
+outer-holds c = begins _ _
+
+returns : tie.Need-returns Inv-loop μ-loop Inv-outer μ-outer
+returns c = arrives _ _ _ _ (c .before .before .before .outer .inv) (step-of _ _ (c .before .before .next-component .ensures) (c .enum-told .given .1))
+
+outer-less : tie.Need-outer-less Inv-loop μ-loop Inv-outer μ-outer
+outer-less c = let s = parent-step (c .before .before) in omega (arith, s .further, s .within)
+
+outer-again : tie.Need-outer-again Inv-loop μ-loop Inv-outer μ-outer
+outer-again c = goes-up _ _ _ _ (c .before .before .before .before .before .outer .inv) _ _ _ _ (parent-step (c .before .before)) (c .parent-of .ensures)
+
+loop-holds : tie.Need-loop-holds Inv-loop μ-loop Inv-outer μ-outer
+loop-holds c = (c .before .before .before .before .outer .inv, child-begins _ _ _ _ (c .before .before .before .before .before .count .ensures))
+
+sub-child-is : tie.Need-sub-child-is Inv-loop μ-loop Inv-outer μ-outer
+sub-child-is c = let s = name-step (c .before .before) in omega (arith, s .end)
+
+part-child-is-start : tie.Need-part-child-is-start Inv-loop μ-loop Inv-outer μ-outer
+part-child-is-start c = let s = name-step (c .before .before) in omega (arith, s .end, s .within)
+
+part-child-is-end : tie.Need-part-child-is-end Inv-loop μ-loop Inv-outer μ-outer
+part-child-is-end c = let s = name-step (c .before .before) in omega (arith, s .end, s .within)
+
+outer-less-2 : tie.Need-outer-less-2 Inv-loop μ-loop Inv-outer μ-outer
+outer-less-2 c = let s = name-step (c .before .before .before .before .before .before) in omega (arith, s .further, s .within)
+
+outer-again-2 : tie.Need-outer-again-2 Inv-loop μ-loop Inv-outer μ-outer
+outer-again-2 c =
+    let l = c .before .before .before .before .before .loop in
+    goes-to _ _ _ _ (l .inv .0) _ _ _ (name-step (c .before .before .before .before .before .before)) _
+    (child-here _ _ _ _ _ (l .inv .1) (search needs) (sym (c .before .before .child-is .ensures) ∙ c .before .if1 .taken) ∙ ap some (sym (c .number .ensures)))
+
+loop-again : tie.Need-loop-again Inv-loop μ-loop Inv-outer μ-outer
+loop-again c =
+    let l = c .before .before .before .before .loop in
+    (l .inv .0, child-on _ _ _ _ _ (l .inv .1) (search needs) (sym (c .before .child-is .ensures) ∙ c .if1 .left))
+
+returns-2 : tie.Need-returns-2 Inv-loop μ-loop Inv-outer μ-outer
+returns-2 c =
+    let l = c .before .loop in
+    stops _ _ _ _ (l .inv .0) _ _ _ (name-step (c .before .before)) (child-none _ _ _ _ _ (l .inv .1) (search needs))
+
+pub walk-spec : {M : Type 1} → statement M
+walk-spec =
+    tie.close
+    (tie.spec
+    Inv-loop
+    μ-loop
+    Inv-outer
+    μ-outer
+    (λ c κs. search needs)
+    outer-holds
+    (λ c κs. search needs)
+    (λ c. search needs)
+    returns
+    (λ c. search needs)
+    (λ c κs. search needs)
+    outer-less
+    outer-again
+    (λ c. search needs)
+    loop-holds
+    sub-child-is
+    part-child-is-start
+    part-child-is-end
+    (λ c κs. search needs)
+    (λ c κs. search needs)
+    outer-less-2
+    outer-again-2
+    (λ c. search needs)
+    (λ c. search needs)
+    loop-again
+    returns-2)

@@ -1,0 +1,61 @@
+-- What the answers of the calls tell, by number and values; the first fault of a path; and the pseudo entry as the code makes it.
+use Prim.Native.Nat.{ℕ}
+use mathlib.Core.Bool.{not}
+use mathlib.Core.List.{List, [], _∷_}
+use mathlib.Core.Option.{Option, none, some}
+use Rattle.rules.specs.Numbers.{dirMode, blockSize, convert, DONE, NOENT, INVAL}
+use Rattle.rules.specs.Utf8.{wellFormed}
+use Rattle.rules.specs.Path.{rooted}
+use Rattle.rules.specs.Ids.{Mapping, wrapped}
+use Rattle.rules.specs.Outcome.{Answer, nothing, walked, entry, _⇒_, firstOf}
+use Rattle.tables.specs.Call.{Told, toldSmall}
+use Rattle.pseudo_fs.specs.declared.PathFault.{PathFault}
+use Rattle.pseudo_fs.specs.declared.PathFault.the-variants.{Utf8, Slash, Sound}
+use Rattle.pseudo_fs.specs.declared.PathWalk.{PathWalk}
+use Rattle.pseudo_fs.specs.declared.PathWalk.the-variants.{Node as WalkNode, Nothing as WalkNothing, Inval as WalkInval, Small as WalkSmall}
+use Rattle.pseudo_fs.specs.declared.Entry.{Entry}
+use Rattle.pseudo_fs.specs.declared.Looked.{Looked}
+use Rattle.pseudo_fs.specs.declared.Looked.the-variants.{Entry as LookedEntry, NoEnt as LookedNoEnt, Inval as LookedInval, Small as LookedSmall}
+
+-- UTF-8 is tested first, then the leading slash (R36)
+unfoldable pub faultOf : List ℕ → PathFault
+faultOf path = firstOf ((not (wellFormed path) ⇒ Utf8) ∷ (not (rooted path) ⇒ Slash) ∷ []) Sound
+
+-- ---- numbers and values
+
+-- done, with these values
+abbrev pub tells : Answer → Told
+tells a = record { code = DONE; answer = a; count = 0 }
+
+-- refused, with none (R16)
+abbrev pub refuses : ℕ → Told
+refuses code = record { code = code; answer = nothing; count = 0 }
+
+-- of a walk (R47)
+unfoldable pub pathWalkTold : PathWalk → Told
+pathWalkTold (WalkNode x) = tells (walked (some (x .0)))
+pathWalkTold WalkNothing = tells (walked none)
+pathWalkTold WalkInval = refuses INVAL
+pathWalkTold WalkSmall = toldSmall
+
+-- of an entry (R13)
+unfoldable pub entryAnswer : Entry → Answer
+entryAnswer e = entry (e .inode .0) (e .mode) (e .uid) (e .gid) (e .blksize)
+
+-- of a lookup (R57, R59)
+unfoldable pub lookedTold : Looked → Told
+lookedTold (LookedEntry e) = tells (entryAnswer e)
+lookedTold LookedNoEnt = refuses NOENT
+lookedTold LookedInval = refuses INVAL
+lookedTold LookedSmall = toldSmall
+
+-- ---- the pseudo entry
+
+-- a number, or 0
+abbrev pub orZero : Option ℕ → ℕ
+orZero none = 0
+orZero (some x) = x
+
+-- of any number and any mapping (R7, R13, R117)
+unfoldable pub pseudoAnswer : Mapping → ℕ → Answer
+pseudoAnswer m x = entry (orZero (convert 0 x)) dirMode (wrapped m 0) (wrapped m 0) blockSize

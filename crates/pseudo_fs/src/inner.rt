@@ -1,0 +1,122 @@
+// The walk, the find and the pseudo entry in bytes that keep the layout rule: nothing here is for a host.
+use crate::Entry;
+use inode::Converted;
+use inode::NodeNumber;
+use inode::VfsInode;
+use path::components::Component;
+use path::components::next_component;
+use path::names::has_byte;
+use path::names::is_dot;
+use path::names::is_dots;
+use path::utf8::is_utf8;
+use tables::header::count;
+use tables::rows::Found;
+use tables::rows::child_is;
+use tables::rows::find_child;
+use tables::rows::is_known;
+use tables::rows::number;
+use tables::rows::parent_of;
+ghost use mathlib.Core.Path.{_≡_};
+ghost use Rattle.rules.specs.Numbers.{convert};
+ghost use Rattle.rules.specs.Path.{components};
+ghost use Rattle.tables.specs.View.{mappingFrom, headOf, nodesOf};
+ghost use Rattle.tables.specs.Rule.{Laid};
+ghost use Rattle.pseudo_fs.specs.Walks.{Walks};
+ghost use Rattle.pseudo_fs.specs.Finds.{Finds};
+ghost use Rattle.pseudo_fs.specs.Told.{orZero, entryAnswer, pseudoAnswer};
+
+// The node where a walk ends, or the place in the path of the first name that is missing.
+pub enum Walked {
+    At(u64),
+    Missing { place: usize },
+}
+
+// The node that a find in a directory gives, or its refusal.
+pub enum Finding {
+    Node(u64),
+    NoEnt,
+    Inval,
+}
+
+// The walk from the root along the components of a path (R37, R38, R39, R45, R46).
+pub fn walk(s: &[u8], path: &[u8]) -> Walked
+    requires { ⌜ Laid (now s) ⌝ }
+    ensures { λ r. ⌜ Walks (nodesOf (now (s .entry))) (components 0 (now (path .entry))) r ⌝ }
+{
+    let n = count(s);
+    let mut node = rules::ROOT_ID;
+    let mut at = 0;
+    'outer: loop {
+        match next_component(path, at) {
+            Component::End => return Walked::At(node),
+            Component::Parent { next, .. } => {
+                node = parent_of(s, node);
+                at = next;
+            }
+            Component::Name { start, next, .. } => {
+                let mut j = 0;
+                while j < n {
+                    if child_is(s, j, node, &path[start..next]) {
+                        node = number(s, j);
+                        at = next;
+                        continue 'outer;
+                    }
+                    j += 1;
+                }
+                return Walked::Missing { place: start };
+            }
+        }
+    }
+}
+
+// In a directory: unknown parent NOENT, then byte 0 or bad UTF-8 INVAL, then `.`, `..`, the child or NOENT (R57, R58, R59).
+pub fn find(s: &[u8], x: u64, name: &[u8]) -> Finding
+    requires { ⌜ Laid (now s) ⌝ }
+    ensures { λ r. ⌜ Finds (nodesOf (now (s .entry))) x (now (name .entry)) r ⌝ }
+{
+    if !is_known(s, x) {
+        return Finding::NoEnt;
+    }
+    if has_byte(name, 0) {
+        return Finding::Inval;
+    }
+    if !is_utf8(name) {
+        return Finding::Inval;
+    }
+    if is_dot(name) {
+        return Finding::Node(x);
+    }
+    if is_dots(name) {
+        return Finding::Node(parent_of(s, x));
+    }
+    match find_child(s, x, name) {
+        Found::Node(y) => Finding::Node(y),
+        Found::Nothing => Finding::NoEnt,
+    }
+}
+
+// The full number of a node of the tree; 0 where the number is above 2^56 − 1, which no node's is (R7, R8).
+fn full_number(x: u64) -> VfsInode
+    ensures { λ r. ⌜ r .0 ≡ orZero (convert 0 x) ⌝ }
+{
+    match inode::pseudo_inode(NodeNumber(x)) {
+        Converted::Full(full) => full,
+        Converted::Inode => VfsInode(0),
+    }
+}
+
+// The pseudo entry of a node, with its ids mapped out by the mapping in force (R13, R118).
+pub fn pseudo_entry(s: &[u8], x: u64) -> Entry
+    requires { ⌜ Laid (now s) ⌝ }
+    ensures { λ r. ⌜ entryAnswer r ≡ pseudoAnswer (mappingFrom 7 (headOf (now (s .entry)))) x ⌝ }
+{
+    let inode = full_number(x);
+    let id = id_map::map_out(tables::header::mapping(s), 0);
+    Entry {
+        inode,
+        mode: rules::DIR_MODE,
+        uid: id,
+        gid: id,
+        blksize: rules::BLOCK_SIZE,
+    }
+}

@@ -1,0 +1,98 @@
+// The pseudo tree: the walk along a path, and lookup by a node's number and a name.
+use inner::Finding;
+use inner::Walked;
+use inner::find;
+use inner::pseudo_entry;
+use inner::walk;
+use inode::NodeNumber;
+use inode::VfsInode;
+use path::components::is_rooted;
+use path::utf8::is_utf8;
+use storage::is_laid;
+ghost use mathlib.Core.Path.{_≡_};
+ghost use Rattle.rules.specs.Instance.{Instance};
+ghost use Rattle.rules.specs.Unmount.{walkRule};
+ghost use Rattle.rules.specs.Lookup.{pseudoLookupRule};
+ghost use Rattle.tables.specs.Call.{answeredBy};
+ghost use Rattle.pseudo_fs.specs.Told.{faultOf, pathWalkTold, lookedTold};
+
+pub mod inner;
+
+// The first fault of a path, or none.
+pub enum PathFault {
+    Utf8,
+    Slash,
+    Sound,
+}
+
+// What a walk answers.
+pub enum PathWalk {
+    Node(NodeNumber),
+    Nothing,
+    Inval,
+    Small,
+}
+
+// The entry of a node that was found.
+pub struct Entry {
+    pub inode: VfsInode,
+    pub mode: u32,
+    pub uid: u32,
+    pub gid: u32,
+    pub blksize: u32,
+}
+
+// What a lookup answers.
+pub enum Looked {
+    Entry(Entry),
+    NoEnt,
+    Inval,
+    Small,
+}
+
+// The whole path is tested for UTF-8 first, and only then for its leading slash (R36, R43).
+pub fn path_fault(path: &[u8]) -> PathFault
+    ensures { λ r. ⌜ r ≡ faultOf (now (path .entry)) ⌝ }
+{
+    let formed = is_utf8(path);
+    let rooted = is_rooted(path);
+    if !formed {
+        return PathFault::Utf8;
+    }
+    if rooted {
+        return PathFault::Sound;
+    }
+    PathFault::Slash
+}
+
+// The node that a path leads to, from the root, or nothing; INVAL for a path with a fault; SMALL before all else (R19, R36, R46, R47).
+pub fn path_walk(s: &[u8], path: &[u8]) -> PathWalk
+    ensures { λ r. ⌜ pathWalkTold r ≡ answeredBy (now (s .entry)) (λ (i : Instance). walkRule i (now (path .entry))) ⌝ }
+{
+    if !is_laid(s) {
+        return PathWalk::Small;
+    }
+    match path_fault(path) {
+        PathFault::Utf8 => return PathWalk::Inval,
+        PathFault::Slash => return PathWalk::Inval,
+        PathFault::Sound => {}
+    }
+    match walk(s, path) {
+        Walked::At(x) => PathWalk::Node(NodeNumber(x)),
+        Walked::Missing { .. } => PathWalk::Nothing,
+    }
+}
+
+// The pseudo entry of what is found in a directory by a name, or the refusal; SMALL before all else (R13, R19, R57, R58, R59, R60).
+pub fn lookup(s: &[u8], parent: NodeNumber, name: &[u8]) -> Looked
+    ensures { λ r. ⌜ lookedTold r ≡ answeredBy (now (s .entry)) (λ (i : Instance). pseudoLookupRule i (parent .0) (now (name .entry))) ⌝ }
+{
+    if !is_laid(s) {
+        return Looked::Small;
+    }
+    match find(s, parent.0, name) {
+        Finding::Node(x) => Looked::Entry(pseudo_entry(s, x)),
+        Finding::NoEnt => Looked::NoEnt,
+        Finding::Inval => Looked::Inval,
+    }
+}
