@@ -1,0 +1,40 @@
+-- Calls that are refused, in general. Assumes nothing.
+use mathlib.Core.Path.{_≡_, refl, sym, _∙_}
+use mathlib.Core.Bool.{Bool, true, false, true≢false}
+use mathlib.Core.List.{List}
+use Prim.Native.Nat.{ℕ}
+use Rattle.rules.specs.Instance.{Instance}
+use Rattle.rules.specs.Outcome.{Outcome}
+use Rattle.tables.specs.View.{view}
+use Rattle.tables.specs.Rule.{laid}
+use Rattle.tables.specs.Call.{Told, toldBy, toldSmall, answeredBy, Does}
+use Rattle.storage.proofs.Laid.{told-small, told-by}
+
+module _ (mem : List ℕ) (f : Instance → Outcome) where
+  -- bytes against the layout rule
+  pub does-small : (told : Told) (exact : List ℕ) → laid mem ≡ false → told ≡ toldSmall → mem ≡ exact → Does mem f told mem exact
+  does-small told exact e t b = record {
+    answer = t ∙ sym (told-small mem f e);
+    bytes = b;
+    stands = λ l. absurd (true≢false (sym l ∙ e));
+    keeps = λ l. l;
+  }
+
+  -- a refusal that leaves the instance as it was
+  pub does-nothing : (told : Told) (exact : List ℕ) (o : Outcome) → laid mem ≡ true → f (view mem) ≡ o → o .after ≡ view mem → told ≡ toldBy o → mem ≡ exact → Does mem f told mem exact
+  does-nothing told exact o e r a t b = record {
+    answer = t ∙ sym (told-by mem f e ∙ (λ i. toldBy (r i)));
+    bytes = b;
+    stands = λ l. sym ((λ i. r i .after) ∙ a);
+    keeps = λ l. l;
+  }
+
+  -- a call that leaves other bytes
+  pub does : (told : Told) (after exact : List ℕ) (o : Outcome) → laid mem ≡ true → f (view mem) ≡ o → told ≡ toldBy o → after ≡ exact → view after ≡ o .after → laid after ≡ true
+      → Does mem f told after exact
+  does told after exact o e r t b v k = record {
+    answer = t ∙ sym (told-by mem f e ∙ (λ i. toldBy (r i)));
+    bytes = b;
+    stands = λ l. v ∙ sym (λ i. r i .after);
+    keeps = λ l. k;
+  }

@@ -1,0 +1,8 @@
+-- What is proved of the calls on the mount tables.
+pub mod Calls
+pub mod UnmountWays
+pub mod MountWays
+pub mod PlanWays
+pub mod MountCalls
+pub mod RestoreWays
+pub mod Answers

@@ -1,0 +1,127 @@
+-- What each way through an unmount gives. Assumes nothing.
+use mathlib.Core.Path.{_≡_, refl, sym, ap, _∙_, subst}
+use mathlib.Core.Bool.{Bool, true, false, cond, not, _||_}
+use mathlib.Core.List.{List, [], _∷_}
+use mathlib.Core.Option.{Option, none, some}
+use Prim.Native.Nat.{ℕ, _<_}
+use borrow.Author.Tests.{not-true, not-false}
+use Rattle.rules.specs.Numbers.{rootNumber, INVAL, NOTFOUND}
+use Rattle.rules.specs.Utf8.{wellFormed}
+use Rattle.rules.specs.Path.{rooted, components}
+use Rattle.rules.specs.Tree.{Mount, Node, walk, parentIn}
+use Rattle.rules.specs.Instance.{Instance, mountOf}
+use Rattle.rules.specs.Outcome.{Outcome, unmounted, refused, firstOf}
+use Rattle.rules.specs.Unmount.{badPath, reached, mountUnder, unmounts, unmountAt, unmountRule}
+use Rattle.tables.specs.View.{nodesOf, view}
+use Rattle.tables.specs.Rule.{laid, Laid}
+use Rattle.tables.proofs.Keeps.{laid-is}
+use Rattle.tables.specs.Answer.{tagIn, mountOfPoint, mountIn}
+use Rattle.tables.specs.Call.{Told, toldBy, toldSmall, Does}
+use Rattle.tables.specs.declared.slots.Tag.{Tag}
+use Rattle.tables.specs.declared.mounts.MountPoint.{MountPoint}
+use Rattle.tables.specs.declared.mounts.MountOn.{MountOn}
+use Rattle.tables.specs.declared.mounts.MountOn.the-variants.{Point, Nothing}
+use Rattle.inode.specs.declared.NodeNumber.{NodeNumber}
+use Rattle.pseudo_fs.specs.Walks.{Walks, walkedOf}
+use Rattle.pseudo_fs.specs.declared.inner.Walked.{Walked}
+use Rattle.pseudo_fs.specs.declared.inner.Walked.the-variants.{At, Missing}
+use Rattle.placing.specs.Place.{takeOffMem, TakesOff}
+use Rattle.placing.proofs.Stands.{view-taken-off, keeps-taken-off}
+use Rattle.vfs.specs.Unmounting.{unmountedTold, offMem, unmountMem, Unmounts}
+use Rattle.vfs.specs.declared.unmounting.Unmounted.{Unmounted}
+use Rattle.vfs.specs.declared.unmounting.Unmounted.the-variants.{Done, NotFound, Inval, Small}
+use Rattle.vfs.proofs.Calls.{does-small, does-nothing, does}
+
+-- ---- of a node, by the mount on it
+
+record UnmountsBy (mem : List ℕ) (x : ℕ) (m : Option Mount) (r : Unmounted) (after : List ℕ) : Type 0 where
+  told : unmountedTold r ≡ toldBy (unmountAt (view mem) (some x) m)
+  bytes : after ≡ offMem (some x) m mem
+  stands : view after ≡ unmountAt (view mem) (some x) m .after
+  keeps : laid after ≡ true
+
+by-mount : (mem : List ℕ) (x : ℕ) (m : Option Mount) (r : Unmounted) (after : List ℕ) → mountOf (view mem .tree) x ≡ m → UnmountsBy mem x m r after → Unmounts mem x r after
+by-mount mem x m r after e u =
+    let v : UnmountsBy mem x (mountOf (view mem .tree) x) r after = subst (λ (z : Option Mount). UnmountsBy mem x z r after) (sym e) u in
+    record { told = v .told; bytes = v .bytes; stands = v .stands; keeps = v .keeps }
+
+view-nodes : (mem : List ℕ) → view mem .tree .nodes ≡ nodesOf mem
+unfolding view
+view-nodes mem = refl
+
+pub takes : (mem after : List ℕ) (x up : ℕ) (on : MountOn) (m : MountPoint) (t : Tag) → laid mem ≡ true → mountIn on ≡ mountOf (view mem .tree) x → on ≡ Point m → m .«fs_idx» < 256
+    → up ≡ parentIn (nodesOf mem) x → TakesOff mem (mountOfPoint m) x t after → (a b : NodeNumber) → a .0 ≡ x → b .0 ≡ up → Unmounts mem x (Done a b t) after
+unfolding mountIn unmountedTold unmountAt unmounts offMem
+takes mem after x up on m t l o p h u f a b q s =
+    let e : mountOf (view mem .tree) x ≡ some (mountOfPoint m) = sym o ∙ ap mountIn p in
+    let w : up ≡ parentIn (view mem .tree .nodes) x = u ∙ ap (λ (ns : List Node). parentIn ns x) (sym (view-nodes mem)) in
+    by-mount mem x (some (mountOfPoint m)) (Done a b t) after e (record {
+      told = λ i. record { code = 0; answer = unmounted (q i) ((s ∙ w) i) (f .tag i); count = 0 };
+      bytes = f .bytes;
+      stands = ap view (f .bytes) ∙ view-taken-off x (mountOfPoint m) mem l h;
+      keeps = ap laid (f .bytes) ∙ keeps-taken-off x (mountOfPoint m) mem l h;
+    })
+
+pub finds-none : (mem : List ℕ) (x : ℕ) (on : MountOn) → laid mem ≡ true → mountIn on ≡ mountOf (view mem .tree) x → on ≡ Nothing → Unmounts mem x NotFound mem
+unfolding mountIn unmountedTold unmountAt offMem
+finds-none mem x on l o p =
+    by-mount mem x none NotFound mem (sym o ∙ ap mountIn p) (record { told = refl; bytes = refl; stands = refl; keeps = l })
+
+-- ---- of a path
+
+pub laid-by : (mem : List ℕ) (l : Bool) → l ≡ laid mem → not l ≡ false → laid mem ≡ true
+laid-by mem l e n = sym e ∙ not-false l n
+
+pub rule-by : (mem : List ℕ) (l : Bool) → l ≡ laid mem → not l ≡ false → Laid mem
+rule-by mem l e n = laid-is mem (laid-by mem l e n)
+
+module _ (mem path : List ℕ) where
+  abbrev F : Instance → Outcome
+  F = λ (i : Instance). unmountRule i path
+
+  bad : laid mem ≡ true → badPath path ≡ true → Does mem F (unmountedTold Inval) mem (unmountMem path mem)
+  unfolding unmountMem unmountedTold unmountRule firstOf
+  bad e b = does-nothing mem F (unmountedTold Inval) (unmountMem path mem) (refused INVAL (view mem)) e (rw b) refl refl (rw (e, b))
+
+  walk-is : (o : Walked) → Walks (nodesOf mem) (components 0 path) o → walkedOf o ≡ reached (view mem) path
+  unfolding reached view
+  walk-is o w = w .node
+
+  -- by what the tests answered
+  module _ (l : Bool) (le : l ≡ laid mem) where
+    laid-true : not l ≡ false → laid mem ≡ true
+    laid-true e = sym le ∙ not-false l e
+
+    pub small : not l ≡ true → Does mem F (unmountedTold Small) mem (unmountMem path mem)
+    unfolding unmountMem unmountedTold
+    small e =
+        let f : laid mem ≡ false = sym le ∙ not-true l e in
+        does-small mem F (unmountedTold Small) (unmountMem path mem) f refl (rw f)
+
+    module _ (on : not l ≡ false) (u : Bool) (ue : u ≡ wellFormed path) where
+      pub bad-bytes : not u ≡ true → Does mem F (unmountedTold Inval) mem (unmountMem path mem)
+      unfolding badPath
+      bad-bytes e = bad (laid-true on) (rw (sym ue ∙ not-true u e))
+
+      module _ (good : not u ≡ false) (r : Bool) (re : r ≡ rooted path) where
+        pub bad-slash : not r ≡ true → Does mem F (unmountedTold Inval) mem (unmountMem path mem)
+        unfolding badPath
+        bad-slash e = bad (laid-true on) (rw (sym ue ∙ not-false u good, sym re ∙ not-true r e))
+
+        module _ (slash : not r ≡ false) (o : Walked) (k : Walks (nodesOf mem) (components 0 path) o) where
+          path-good : badPath path ≡ false
+          unfolding badPath
+          path-good = rw (sym ue ∙ not-false u good, sym re ∙ not-false r slash)
+
+          pub missing : (p : ℕ) → o ≡ Missing p → Does mem F (unmountedTold NotFound) mem (unmountMem path mem)
+          unfolding walkedOf unmountMem unmountedTold unmountRule unmountAt offMem firstOf
+          missing p q =
+              let n : reached (view mem) path ≡ none = sym (walk-is o k) ∙ ap walkedOf q in
+              does-nothing mem F (unmountedTold NotFound) (unmountMem path mem) (refused NOTFOUND (view mem)) (laid-true on) (rw (path-good, n)) refl refl (rw (laid-true on, path-good, n))
+
+          pub arrived : (x : ℕ) → o ≡ At x → (v : Unmounted) (after : List ℕ) → Unmounts mem x v after → Does mem F (unmountedTold v) after (unmountMem path mem)
+          unfolding walkedOf unmountMem unmountRule firstOf
+          arrived x q v after f =
+              let n : reached (view mem) path ≡ some x = sym (walk-is o k) ∙ ap walkedOf q in
+              does mem F (unmountedTold v) after (unmountMem path mem) (unmountAt (view mem) (some x) (mountOf (view mem .tree) x)) (laid-true on) (rw (path-good, n)) (f .told)
+              (f .bytes ∙ sym (rw (laid-true on, path-good, n))) (f .stands) (f .keeps)

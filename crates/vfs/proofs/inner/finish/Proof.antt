@@ -1,0 +1,26 @@
+use borrow.Author.Needs.{needs}
+use Rattle.vfs.proofs.MountWays.{too-big, places-it}
+use Rattle.vfs.proofs.inner.finish.Statement.{statement}
+use Rattle.vfs.proofs.inner.finish.Tie as tie
+use Rattle.vfs.proofs.inner.finish.Reads as reads
+use Rattle.vfs.proofs.inner.finish.Lts as lts
+use Rattle.placing.proofs.place.Reads as place-reads
+
+-- src/mounting.rt:51:9
+returns : tie.Need-returns
+returns c = search (too-big, needs)
+
+-- src/mounting.rt:60:9
+place-requires : tie.Need-place-requires
+place-requires c κs = search needs
+
+-- src/mounting.rt:44:1
+same-length : tie.Need-same-length
+same-length c = search needs
+
+-- src/mounting.rt:44:1
+returns-2 : tie.Need-returns-2
+returns-2 c = search (places-it, needs)
+
+pub finish-spec : {M : Type 1} → statement M
+finish-spec = tie.close (tie.spec returns place-requires same-length returns-2)

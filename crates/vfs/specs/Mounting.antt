@@ -1,0 +1,115 @@
+-- Mount and restored mount: what their answers tell, and the bytes that they leave.
+use Prim.Native.Nat.{ℕ}
+use mathlib.Core.Bool.{Bool, true, cond, not, _||_}
+use mathlib.Core.List.{List, []}
+use mathlib.Core.Option.{Option, none, some}
+use mathlib.Core.Path.{_≡_}
+use lib.ListN.{length}
+use lib.Dec.{ltb}
+use Rattle.rules.specs.Numbers.{maxIno, DONE, INVAL, TOOLONG, INODE, FULL, NOROOM}
+use Rattle.rules.specs.Utf8.{wellFormed}
+use Rattle.rules.specs.Path.{rooted, tooLong}
+use Rattle.rules.specs.Instance.{Instance, mountOf, tagOf}
+use Rattle.rules.specs.Outcome.{nothing, mounted, Outcome, refused}
+use Rattle.rules.specs.Mount.{Request, planned, noRoom, ended, freed, mountOn, tagAt, placed, allocation, stepped, mountAs}
+use Rattle.tables.specs.View.{view}
+use Rattle.tables.specs.Rule.{laid}
+use Rattle.tables.specs.Write.{setCounter}
+use Rattle.tables.specs.Answer.{tagIn}
+use Rattle.tables.specs.Call.{Told, toldBy, toldSmall}
+use Rattle.placing.specs.Place.{placeMem}
+use Rattle.plan.specs.Apply.{appendAll}
+use Rattle.vfs.specs.declared.backend.Backend.{Backend}
+use Rattle.vfs.specs.declared.inner.Placed.{Placed}
+use Rattle.vfs.specs.declared.inner.Placed.the-variants.{Done as Placed-Done, TooLarge}
+use Rattle.vfs.specs.declared.mounting.Mounted.{Mounted}
+use Rattle.vfs.specs.declared.mounting.Mounted.the-variants.{Done, TooLong, Inval, Inode, NoRoom, Full, Small}
+
+-- the request of a path and a backend (R3)
+abbrev pub requestOf : List ℕ → Backend → Request
+requestOf path b = record { path = path; tag = b .tag; root = b .root .0; largest = b .max; uid = b .uid; gid = b .gid; mode = b .mode }
+
+abbrev pub counted : ℕ → ℕ → Told
+counted code n = record { code = code; answer = nothing; count = n }
+
+-- the number and the values of each answer (R75, R79)
+unfoldable pub mountedTold : Mounted → Told
+mountedTold (Done k n t) = record { code = DONE; answer = mounted k (tagIn t); count = n }
+mountedTold TooLong = counted TOOLONG 0
+mountedTold (Inval n) = counted INVAL n
+mountedTold (Inode n) = counted INODE n
+mountedTold NoRoom = counted NOROOM 0
+mountedTold (Full n) = counted FULL n
+mountedTold Small = toldSmall
+
+-- ---- bytes
+
+-- the counter has moved (R83)
+unfoldable pub allocMem : List ℕ → List ℕ
+allocMem mem = setCounter (allocation (view mem) .counter) mem
+
+-- rows 7 and 8 on the node x (R74, R76)
+unfoldable pub finishMem : ℕ → Request → ℕ → List ℕ → List ℕ
+finishMem k r x mem = cond (ltb maxIno (r .root)) mem (placeMem (mountOn k r) (r .tag) x mem)
+
+-- the nodes of the mount walk are made (R48)
+unfoldable pub walkMem : List ℕ → List ℕ → List ℕ
+walkMem path mem = appendAll (planned (view mem .tree) path .nodes) mem
+
+-- the walk, then rows 7 and 8 where it ends
+unfoldable pub plannedMem : ℕ → Request → List ℕ → List ℕ
+plannedMem k r mem = finishMem k r (ended (view mem) (r .path)) (walkMem (r .path) mem)
+
+-- rows 5, 7 and 8, by what the allocation finds
+unfoldable pub foundMem : Option ℕ → Request → List ℕ → List ℕ
+foundMem none r mem = allocMem mem
+foundMem (some k) r mem = plannedMem k r (allocMem mem)
+
+-- from row 4 on, of a path with leading slash
+unfoldable pub rootedMem : Request → List ℕ → List ℕ
+rootedMem r mem = cond (noRoom (view mem) (r .path)) mem (foundMem (allocation (view mem) .found) r mem)
+
+-- rows 1 to 3
+unfoldable pub early : Request → Bool
+early r = tooLong (r .path) || not (wellFormed (r .path)) || ltb maxIno (r .largest)
+
+-- the bytes after a mount: rows 1 to 4 leave every one
+unfoldable pub mountMem : Request → List ℕ → List ℕ
+mountMem r mem = cond (laid mem) (cond (early r) mem (cond (rooted (r .path)) (rootedMem r mem) (allocMem mem))) mem
+
+-- ---- what is told on the way
+
+-- the tags of a mount that is placed: replaced, then displaced (R78, R93)
+unfoldable pub placedOf : Placed → Option (Option ℕ × Option ℕ)
+placedOf (Placed-Done a d) = some (tagIn a, tagIn d)
+placedOf TooLarge = none
+
+pub record Finishes (mem : List ℕ) (k x : ℕ) (b : Backend) (r : Placed) (after : List ℕ) : Type 0 where
+  pub tags : placedOf r ≡ cond (ltb maxIno (b .root .0)) none (some (tagAt (mountOf (view mem .tree) x) (view mem), tagOf (freed (mountOf (view mem .tree) x) (view mem)) k))
+  pub bytes : after ≡ finishMem k (requestOf [] b) x mem
+  pub stands : view after ≡ cond (ltb maxIno (b .root .0)) (view mem) (placed k (requestOf [] b) x (view mem))
+  pub keeps : laid after ≡ true
+
+abbrev pub byFound : Option ℕ → ℕ
+byFound none = FULL
+byFound (some k) = INVAL
+
+pub record Unrooted (mem : List ℕ) (r : Mounted) (after : List ℕ) : Type 0 where
+  pub told : mountedTold r ≡ counted (byFound (allocation (view mem) .found)) (length (allocation (view mem) .visits))
+  pub bytes : after ≡ allocMem mem
+  pub stands : view after ≡ stepped (view mem)
+  pub keeps : laid after ≡ true
+
+-- rows 7 and 8 where the walk ends, once its nodes are made
+abbrev pub Grows : List ℕ → List ℕ → ℕ → Backend → Placed → List ℕ → Type 0
+Grows mem path k b r after = Finishes (walkMem path mem) k (ended (view mem) path) b r after
+
+-- from row 4 on, of a path with leading slash (R71 to R79)
+abbrev pub rootedRule : Instance → Request → Outcome
+rootedRule i r = cond (noRoom i (r .path)) (refused NOROOM i) (mountAs i r (allocation i .found))
+
+pub record Follows (o : Outcome) (exact : List ℕ) (t : Told) (after : List ℕ) : Type 0 where
+  pub told : t ≡ toldBy o
+  pub bytes : after ≡ exact
+  pub stands : view after ≡ o .after
+  pub keeps : laid after ≡ true

@@ -1,0 +1,45 @@
+-- Restored mount: what its answer tells, and the bytes that it leaves.
+use Prim.Native.Nat.{ℕ}
+use mathlib.Core.Bool.{Bool, cond, not, _||_}
+use mathlib.Core.List.{List}
+use lib.Dec.{eqb, ltb}
+use Rattle.rules.specs.Numbers.{maxIno, DONE, INVAL, TOOLONG, INODE, NOROOM, BADINDEX}
+use Rattle.rules.specs.Utf8.{wellFormed}
+use Rattle.rules.specs.Path.{rooted, tooLong}
+use Rattle.rules.specs.Instance.{Instance, tagOf}
+use Rattle.rules.specs.Outcome.{restored, Outcome, refused, says}
+use Rattle.rules.specs.Mount.{Request, noRoom, ended, walkedTo, mountThere, freed, tagAt, placed}
+use Rattle.tables.specs.View.{view}
+use Rattle.tables.specs.Rule.{laid}
+use Rattle.tables.specs.Answer.{tagIn}
+use Rattle.tables.specs.Call.{Told, toldSmall}
+use Rattle.vfs.specs.Mounting.{counted, plannedMem}
+use Rattle.vfs.specs.declared.restoring.Restored.{Restored}
+use Rattle.vfs.specs.declared.restoring.Restored.the-variants.{Done, TooLong, Inval, BadIndex, Inode, NoRoom, Small}
+
+-- the number and the values of each answer (R91 to R95)
+unfoldable pub restoredTold : Restored → Told
+restoredTold (Done a d) = record { code = DONE; answer = restored (tagIn a) (tagIn d); count = 0 }
+restoredTold TooLong = counted TOOLONG 0
+restoredTold Inval = counted INVAL 0
+restoredTold BadIndex = counted BADINDEX 0
+restoredTold Inode = counted INODE 0
+restoredTold NoRoom = counted NOROOM 0
+restoredTold Small = toldSmall
+
+-- rows 4, 7 and 8, of a path with leading slash
+abbrev pub restoredRule : Instance → ℕ → Request → Outcome
+restoredRule i k r =
+    cond (noRoom i (r .path)) (refused NOROOM i) (cond (ltb maxIno (r .root)) (refused INODE (walkedTo (r .path) i))
+    (says (restored (tagAt (mountThere i (r .path)) i) (tagOf (freed (mountThere i (r .path)) i) k)) (placed k r (ended i (r .path)) (walkedTo (r .path) i))))
+
+unfoldable pub restoredMem : ℕ → Request → List ℕ → List ℕ
+restoredMem k r mem = cond (noRoom (view mem) (r .path)) mem (plannedMem k r mem)
+
+-- rows 1, 2, BADINDEX, 3 and 6
+unfoldable pub stopped : ℕ → Request → Bool
+stopped k r = tooLong (r .path) || not (wellFormed (r .path)) || eqb k 0 || ltb maxIno (r .largest) || not (rooted (r .path))
+
+-- the bytes after a restored mount: every refusal but row 7's leaves every one
+unfoldable pub restoreMem : ℕ → Request → List ℕ → List ℕ
+restoreMem k r mem = cond (laid mem) (cond (stopped k r) mem (restoredMem k r mem)) mem

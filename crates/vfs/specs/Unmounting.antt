@@ -1,0 +1,46 @@
+-- Unmount: what its answer tells, and the bytes that it leaves.
+use Prim.Native.Nat.{ℕ}
+use mathlib.Core.Bool.{Bool, true, cond, not}
+use mathlib.Core.List.{List}
+use mathlib.Core.Option.{Option, none, some}
+use mathlib.Core.Path.{_≡_}
+use Rattle.rules.specs.Numbers.{DONE, NOTFOUND, INVAL}
+use Rattle.rules.specs.Tree.{Mount}
+use Rattle.rules.specs.Instance.{mountOf}
+use Rattle.rules.specs.Outcome.{nothing, unmounted}
+use Rattle.rules.specs.Unmount.{badPath, reached, mountUnder, unmountAt}
+use Rattle.tables.specs.View.{view}
+use Rattle.tables.specs.Rule.{laid}
+use Rattle.tables.specs.Answer.{tagIn}
+use Rattle.tables.specs.Call.{Told, toldBy, toldSmall}
+use Rattle.placing.specs.Place.{takeOffMem}
+use Rattle.vfs.specs.declared.unmounting.Unmounted.{Unmounted}
+use Rattle.vfs.specs.declared.unmounting.Unmounted.the-variants.{Done, NotFound, Inval, Small}
+
+abbrev pub refusal : ℕ → Told
+refusal code = record { code = code; answer = nothing; count = 0 }
+
+-- the number and the values of each answer (R97)
+unfoldable pub unmountedTold : Unmounted → Told
+unmountedTold (Done n p t) = record { code = DONE; answer = unmounted (n .0) (p .0) (tagIn t); count = 0 }
+unmountedTold NotFound = refusal NOTFOUND
+unmountedTold Inval = refusal INVAL
+unmountedTold Small = toldSmall
+
+-- the bytes after, by the node and the mount on it: where there is none, as they were
+unfoldable pub offMem : Option ℕ → Option Mount → List ℕ → List ℕ
+offMem none m mem = mem
+offMem (some x) none mem = mem
+offMem (some x) (some m) mem = takeOffMem m x mem
+
+-- the bytes after an unmount: a refusal leaves every one
+unfoldable pub unmountMem : List ℕ → List ℕ → List ℕ
+unmountMem path mem =
+    cond (laid mem) (cond (badPath path) mem (offMem (reached (view mem) path) (mountUnder (view mem) (reached (view mem) path)) mem)) mem
+
+-- of the node x
+pub record Unmounts (mem : List ℕ) (x : ℕ) (r : Unmounted) (after : List ℕ) : Type 0 where
+  pub told : unmountedTold r ≡ toldBy (unmountAt (view mem) (some x) (mountOf (view mem .tree) x))
+  pub bytes : after ≡ offMem (some x) (mountOf (view mem .tree) x) mem
+  pub stands : view after ≡ unmountAt (view mem) (some x) (mountOf (view mem .tree) x) .after
+  pub keeps : laid after ≡ true

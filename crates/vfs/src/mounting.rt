@@ -1,0 +1,116 @@
+// Mount: the rows in their order, the plan, the search and the placing.
+ghost use mathlib.Core.Path.{_≡_};
+ghost use mathlib.Core.Bool.{true};
+ghost use Rattle.tables.specs.Rule.{laid};
+ghost use mathlib.Core.Bool.{false};
+ghost use Rattle.rules.specs.Path.{rooted, tooLong};
+ghost use Rattle.rules.specs.Mount.{mountRule};
+ghost use Rattle.tables.specs.View.{view};
+ghost use Rattle.tables.specs.Call.{Does};
+ghost use Rattle.vfs.specs.Mounting.{requestOf, mountedTold, mountMem, rootedMem, rootedRule, Unrooted, Follows};
+use crate::backend::Backend;
+use crate::inner::Placed;
+use index::FsIndex;
+use plan::Planned;
+use tables::slots::Tag;
+
+// What a mount answers: the index, the count and the tag replaced, or a refusal, with its count where it has one.
+pub enum Mounted {
+    Done {
+        fs_idx: u8,
+        count: u32,
+        replaced: Tag,
+    },
+    TooLong,
+    Inval {
+        count: u32,
+    },
+    Inode {
+        count: u32,
+    },
+    NoRoom,
+    Full {
+        count: u32,
+    },
+    Small,
+}
+
+// Rows 5 and 6, of a path without leading slash: the counter has moved (R72, R73).
+fn unrooted(s: &mut [u8]) -> Mounted
+    requires { ⌜ laid (now s) ≡ true ⌝ }
+    ensures { λ r. ⌜ Unrooted (now (s .entry)) r (now (s .exit)) ⌝ }
+{
+    let a = tables::slots::search(s);
+    tables::header::set_counter(s, a.next_super);
+    let answer = a.answer;
+    match answer {
+        FsIndex::Index(k) => Mounted::Inval { count: a.count },
+        FsIndex::Full => Mounted::Full { count: a.count },
+    }
+}
+
+// Rows 4, 5, 7 and 8, of a path with leading slash (R71, R72, R74, R75).
+fn mount_rooted(s: &mut [u8], path: &[u8], b: Backend) -> Mounted
+    requires { ⌜ laid (now s) ≡ true ⌝ }
+    requires { ⌜ tooLong (now path) ≡ false ⌝ }
+    requires { ⌜ rooted (now path) ≡ true ⌝ }
+    ensures { λ r. ⌜ Follows (rootedRule (view (now (s .entry))) (requestOf (now (path .entry)) b)) (rootedMem (requestOf (now (path .entry)) b) (now (s .entry))) (mountedTold r) (now (s .exit)) ⌝ }
+{
+    let mut made = [0u64; 1024];
+    let mut starts = [0u16; 1024];
+    let mut lens = [0u8; 1024];
+    match plan::plan_mount(s, path, &mut made, &mut starts, &mut lens) {
+        Planned::NoRoom => Mounted::NoRoom,
+        Planned::Fits { node, count } => {
+            let a = tables::slots::search(s);
+            tables::header::set_counter(s, a.next_super);
+            let answer = a.answer;
+            match answer {
+                FsIndex::Full => Mounted::Full { count: a.count },
+                FsIndex::Index(k) => {
+                    let p = crate::inner::place_planned(
+                        s,
+                        path,
+                        &made,
+                        &starts,
+                        &lens,
+                        count,
+                        node,
+                        k,
+                        b,
+                    );
+                    match p {
+                        Placed::TooLarge => Mounted::Inode { count: a.count },
+                        Placed::Done { replaced, .. } => Mounted::Done {
+                            fs_idx: k,
+                            count: a.count,
+                            replaced,
+                        },
+                    }
+                }
+            }
+        }
+    }
+}
+
+// The first of the rows of a mount that applies, or the mount (R68 to R79).
+pub fn mount(s: &mut [u8], path: &[u8], b: Backend) -> Mounted
+    ensures { λ r. ⌜ Does (now (s .entry)) (λ i. mountRule i (requestOf (now (path .entry)) b)) (mountedTold r) (now (s .exit)) (mountMem (requestOf (now (path .entry)) b) (now (s .entry))) ⌝ }
+{
+    if !storage::is_laid(s) {
+        return Mounted::Small;
+    }
+    if path::limits::is_too_long(path) {
+        return Mounted::TooLong;
+    }
+    if !path::utf8::is_utf8(path) {
+        return Mounted::Inval { count: 0 };
+    }
+    if rules::VFS_MAX_INO < b.max {
+        return Mounted::Inode { count: 0 };
+    }
+    if !path::components::is_rooted(path) {
+        return unrooted(s);
+    }
+    mount_rooted(s, path, b)
+}

@@ -1,0 +1,80 @@
+// Restored mount: the index is given, and the counter stays.
+ghost use mathlib.Core.Path.{_≡_};
+ghost use mathlib.Core.Bool.{true, false};
+ghost use Prim.Native.Nat.{_≤_};
+ghost use Rattle.rules.specs.Path.{rooted, tooLong};
+ghost use Rattle.rules.specs.Instance.{Instance};
+ghost use Rattle.rules.specs.Mount.{restoreMountRule};
+ghost use Rattle.tables.specs.View.{view};
+ghost use Rattle.tables.specs.Rule.{laid};
+ghost use Rattle.tables.specs.Call.{Does};
+ghost use Rattle.vfs.specs.Mounting.{requestOf, Follows};
+ghost use Rattle.vfs.specs.Restoring.{restoredTold, restoredRule, restoredMem, restoreMem};
+use crate::backend::Backend;
+use crate::inner::Placed;
+use plan::Planned;
+use tables::slots::Tag;
+
+// What a restored mount answers: the tag replaced on the node and the tag displaced in the slot, or a refusal.
+pub enum Restored {
+    Done { replaced: Tag, displaced: Tag },
+    TooLong,
+    Inval,
+    BadIndex,
+    Inode,
+    NoRoom,
+    Small,
+}
+
+// Rows 4, 7 and 8, of a path with leading slash (R91 to R95).
+fn restore_rooted(s: &mut [u8], k: u8, path: &[u8], b: Backend) -> Restored
+    requires { ⌜ laid (now s) ≡ true ⌝ }
+    requires { ⌜ tooLong (now path) ≡ false ⌝ }
+    requires { ⌜ 1 ≤ k ⌝ }
+    ensures { λ r. ⌜ Follows (restoredRule (view (now (s .entry))) k (requestOf (now (path .entry)) b)) (restoredMem k (requestOf (now (path .entry)) b) (now (s .entry))) (restoredTold r) (now (s .exit)) ⌝ }
+{
+    let mut made = [0u64; 1024];
+    let mut starts = [0u16; 1024];
+    let mut lens = [0u8; 1024];
+    match plan::plan_mount(s, path, &mut made, &mut starts, &mut lens) {
+        Planned::NoRoom => Restored::NoRoom,
+        Planned::Fits { node, count } => {
+            let p = crate::inner::place_planned(s, path, &made, &starts, &lens, count, node, k, b);
+            match p {
+                Placed::TooLarge => Restored::Inode,
+                Placed::Done {
+                    replaced,
+                    displaced,
+                } => Restored::Done {
+                    replaced,
+                    displaced,
+                },
+            }
+        }
+    }
+}
+
+// The first of the rows of a restored mount that applies, or the mount at the index given (R91 to R95).
+pub fn restore_mount(s: &mut [u8], k: u8, path: &[u8], b: Backend) -> Restored
+    ensures { λ r. ⌜ Does (now (s .entry)) (λ (i : Instance). restoreMountRule i k (requestOf (now (path .entry)) b)) (restoredTold r) (now (s .exit)) (restoreMem k (requestOf (now (path .entry)) b) (now (s .entry))) ⌝ }
+{
+    if !storage::is_laid(s) {
+        return Restored::Small;
+    }
+    if path::limits::is_too_long(path) {
+        return Restored::TooLong;
+    }
+    if !path::utf8::is_utf8(path) {
+        return Restored::Inval;
+    }
+    if k == 0 {
+        return Restored::BadIndex;
+    }
+    if rules::VFS_MAX_INO < b.max {
+        return Restored::Inode;
+    }
+    if !path::components::is_rooted(path) {
+        return Restored::Inval;
+    }
+    restore_rooted(s, k, path, b)
+}

@@ -1,0 +1,68 @@
+// Unmount.
+ghost use mathlib.Core.Path.{_≡_};
+ghost use mathlib.Core.Bool.{true};
+ghost use Rattle.rules.specs.Instance.{Instance, mountOf};
+ghost use Rattle.rules.specs.Unmount.{unmountRule};
+ghost use Rattle.tables.specs.View.{view};
+ghost use Rattle.tables.specs.Rule.{laid};
+ghost use Rattle.tables.specs.Call.{Does};
+ghost use Rattle.vfs.specs.Unmounting.{unmountedTold, unmountMem, Unmounts};
+use inode::NodeNumber;
+use path::components::is_rooted;
+use path::utf8::is_utf8;
+use pseudo_fs::inner::Walked;
+use pseudo_fs::inner::walk;
+use storage::is_laid;
+use tables::mounts::MountOn;
+use tables::slots::Tag;
+
+// What an unmount answers: the node, its parent and the tag released, or a refusal.
+pub enum Unmounted {
+    Done {
+        node: NodeNumber,
+        parent: NodeNumber,
+        released: Tag,
+    },
+    NotFound,
+    Inval,
+    Small,
+}
+
+// The mount on the node x is taken off, if there is one.
+fn unmount_at(s: &mut [u8], x: u64) -> Unmounted
+    requires { ⌜ laid (now s) ≡ true ⌝ }
+    ensures { λ r. ⌜ Unmounts (now (s .entry)) x r (now (s .exit)) ⌝ }
+{
+    let on = tables::mounts::of_node(s, x);
+    match on {
+        MountOn::Point(m) => {
+            let up = tables::rows::parent_of(s, x);
+            let released = placing::take_off(s, x, m);
+            Unmounted::Done {
+                node: NodeNumber(x),
+                parent: NodeNumber(up),
+                released,
+            }
+        }
+        MountOn::Nothing => Unmounted::NotFound,
+    }
+}
+
+// Takes the mount off the node that the path leads to, and frees its index (R96 to R100).
+pub fn umount(s: &mut [u8], path: &[u8]) -> Unmounted
+    ensures { λ r. ⌜ Does (now (s .entry)) (λ (i : Instance). unmountRule i (now (path .entry))) (unmountedTold r) (now (s .exit)) (unmountMem (now (path .entry)) (now (s .entry))) ⌝ }
+{
+    if !is_laid(s) {
+        return Unmounted::Small;
+    }
+    if !is_utf8(path) {
+        return Unmounted::Inval;
+    }
+    if !is_rooted(path) {
+        return Unmounted::Inval;
+    }
+    match walk(s, path) {
+        Walked::At(x) => unmount_at(s, x),
+        Walked::Missing { place } => Unmounted::NotFound,
+    }
+}

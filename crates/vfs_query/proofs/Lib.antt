@@ -1,0 +1,5 @@
+-- The laws that belong to no one function.
+pub mod Answers
+pub mod Rules
+pub mod Mounted
+pub mod Looks

@@ -1,0 +1,120 @@
+-- The rules of the queries by the code's tests, and what each return tells. Assumes nothing.
+use mathlib.Core.Path.{_≡_, refl, sym, ap, _∙_}
+use mathlib.Core.Bool.{Bool, true, false, not}
+use mathlib.Core.List.{List}
+use mathlib.Core.Option.{Option, none, some}
+use Prim.Native.Nat.{ℕ, _^_, _<_}
+use borrow.Author.Tests.{eq-eqb, ne-eqb, not-true, not-false}
+use Rattle.rules.specs.Numbers.{rootNumber, indexOf, numberOf, INVAL}
+use Rattle.rules.specs.Ids.{Mapping, badMapping, wrapped, unwrapped, mapped, unmapped}
+use Rattle.rules.specs.Path.{components, rooted}
+use Rattle.rules.specs.Utf8.{wellFormed}
+use Rattle.rules.specs.Tree.{Mount, walk}
+use Rattle.rules.specs.Instance.{Instance, tagIn as tagInSlot, tagOf, mountOf}
+use Rattle.rules.specs.Outcome.{toTree, rootfs, Outcome, refused, says, firstOf}
+use Rattle.rules.specs.Lookup.{routeTag, routeTree, routeRule, remapped}
+use Rattle.rules.specs.Unmount.{badPath, reached, mountUnder, rootHeld, rootAt, rootRule}
+use Rattle.rules.proofs.Ids.{wrapped-is-whole}
+use Rattle.tables.specs.View.{mappingFrom, headOf, slotAt, view}
+use Rattle.tables.specs.Rule.{laid}
+use Rattle.tables.specs.Call.{Told, toldBy, toldSmall, answeredBy}
+use Rattle.tables.specs.Answer.{tagIn}
+use Rattle.tables.specs.declared.slots.Tag.{Tag}
+use Rattle.tables.specs.declared.slots.Tag.the-variants.{Held, Empty}
+use Rattle.storage.proofs.Laid.{told-by, told-small}
+use Rattle.placing.proofs.Stands.{tag-of-is}
+use Rattle.pseudo_fs.proofs.Calls.{good-mapping}
+
+-- ---- the layout rule's test, r
+
+module _ (mem : List ℕ) (r : Bool) (e : r ≡ laid mem) where
+  pub small : (f : Instance → Outcome) → not r ≡ true → toldSmall ≡ answeredBy mem f
+  small f t = sym (told-small mem f (sym e ∙ not-true r t))
+
+  pub kept : not r ≡ false → laid mem ≡ true
+  kept t = sym e ∙ not-false r t
+
+-- a call that found the layout rule kept tells what its rule gives
+pub tells-by : (mem : List ℕ) (f : Instance → Outcome) (t : Told) (o : Outcome) → laid mem ≡ true → t ≡ toldBy o → f (view mem) ≡ o → t ≡ answeredBy mem f
+tells-by mem f t o e a b = a ∙ (ap toldBy (sym b) ∙ sym (told-by mem f e))
+
+-- ---- the tag of an index
+
+module _ (mem : List ℕ) (k : ℕ) (h : k < 256) (r : Tag) (e : tagIn r ≡ tagInSlot (slotAt mem k)) where
+  pub tag-held : (t : ℕ) → r ≡ Held t → tagOf (view mem) k ≡ some t
+  unfolding tagIn
+  tag-held t q = sym (tag-of-is mem k (tagIn r) h e) ∙ ap tagIn q
+
+  pub tag-empty : r ≡ Empty → tagOf (view mem) k ≡ none
+  unfolding tagIn
+  tag-empty q = sym (tag-of-is mem k (tagIn r) h e) ∙ ap tagIn q
+
+-- ---- routing: k and n are index and number of the full number
+
+module _ (i : Instance) (x k n : ℕ) (p : k ≡ indexOf x) (q : n ≡ numberOf x) where
+  pub by-index : (k ≡ 0 → ⊥) → routeRule i x ≡ routeTag i k n (tagOf i k)
+  unfolding routeRule
+  by-index h = rw (sym p, sym q, ne-eqb k 0 h)
+
+  in-tree : k ≡ 0 → routeRule i x ≡ routeTree i n (i .tree .root)
+  unfolding routeRule
+  in-tree h = rw (sym p, sym q, eq-eqb k 0 h)
+
+  other-number : (m : Option Mount) → (n ≡ rootNumber → ⊥) → routeTree i n m ≡ says (toTree n) i
+  unfolding routeTree
+  other-number none h = refl
+  other-number (some m) h = rw (ne-eqb n 1 h)
+
+  pub by-number : k ≡ 0 → (n ≡ rootNumber → ⊥) → routeRule i x ≡ says (toTree n) i
+  by-number h g = in-tree h ∙ other-number (i .tree .root) g
+
+  pub by-root : k ≡ 0 → n ≡ rootNumber → (m : Mount) → some m ≡ i .tree .root → routeRule i x ≡ routeTag i (m .index) (m .root) (tagOf i (m .index))
+  unfolding routeTree
+  by-root h g m e = in-tree h ∙ rw (sym e, eq-eqb n 1 g)
+
+  pub by-no-root : k ≡ 0 → none ≡ i .tree .root → routeRule i x ≡ says (toTree n) i
+  unfolding routeTree
+  by-no-root h e = in-tree h ∙ rw (sym e)
+
+-- ---- the root query
+
+module _ (i : Instance) (p : List ℕ) where
+  pub root-unformed : wellFormed p ≡ false → rootRule i p ≡ refused INVAL i
+  unfolding rootRule firstOf badPath
+  root-unformed w = rw w
+
+  pub root-unrooted : wellFormed p ≡ true → rooted p ≡ false → rootRule i p ≡ refused INVAL i
+  unfolding rootRule firstOf badPath
+  root-unrooted w r = rw (w, r)
+
+  module _ (w : wellFormed p ≡ true) (r : rooted p ≡ true) where
+    root-reached : (o : Option ℕ) → o ≡ walk (i .tree .nodes) rootNumber (components 0 p) → rootRule i p ≡ rootAt i (mountUnder i o)
+    unfolding rootRule firstOf badPath reached
+    root-reached o e = rw (w, r, e)
+
+    pub root-nowhere : none ≡ walk (i .tree .nodes) rootNumber (components 0 p) → rootRule i p ≡ says (rootfs none) i
+    unfolding rootAt
+    root-nowhere e = root-reached none e
+
+    pub root-bare : (x : ℕ) → some x ≡ walk (i .tree .nodes) rootNumber (components 0 p) → none ≡ mountOf (i .tree) x → rootRule i p ≡ says (rootfs none) i
+    unfolding rootAt
+    root-bare x e m = root-reached (some x) e ∙ rw (sym m)
+
+    pub root-mounted : (x : ℕ) → some x ≡ walk (i .tree .nodes) rootNumber (components 0 p) → (m : Mount) → some m ≡ mountOf (i .tree) x
+        → rootRule i p ≡ rootHeld i (m .index) (tagOf i (m .index))
+    unfolding rootAt
+    root-mounted x e m f = root-reached (some x) e ∙ rw (sym f)
+
+-- ---- ids: the mapping in force, m, passes its test, so what wraps is the formula in whole numbers
+
+module _ (mem : List ℕ) (e : laid mem ≡ true) (id : ℕ) (low : id < 2 ^ 32) (m : Mapping) (r : ℕ) (f : m ≡ mappingFrom 7 (headOf mem)) where
+  whole : (wrapped m id ≡ mapped m id) × (unwrapped m id ≡ unmapped m id)
+  whole = wrapped-is-whole m id (ap badMapping f ∙ good-mapping mem e) low
+
+  pub goes-out : r ≡ wrapped m id → (out : Bool) → out ≡ true → r ≡ remapped out (view mem) id
+  unfolding view
+  goes-out a out b = rw (b, sym f) (a ∙ whole .0)
+
+  pub goes-back : r ≡ unwrapped m id → (out : Bool) → out ≡ false → r ≡ remapped out (view mem) id
+  unfolding view
+  goes-back a out b = rw (b, sym f) (a ∙ whole .1)

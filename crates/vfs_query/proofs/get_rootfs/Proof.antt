@@ -1,0 +1,94 @@
+-- Each return is a case of the rule, by the path's tests, the walk and the mount.
+use mathlib.Core.Path.{_≡_, refl, sym, ap, _∙_}
+use mathlib.Core.Bool.{true}
+use denote.Ref.{now}
+use borrow.Author.Tests.{not-true, not-false}
+use Rattle.rules.specs.Utf8.{wellFormed}
+use Rattle.rules.specs.Path.{rooted}
+use Rattle.pseudo_fs.specs.Walks.{walkedOf}
+use Rattle.tables.specs.View.{view}
+use Rattle.tables.specs.Rule.{laid}
+use Rattle.tables.specs.Answer.{mountIn}
+use Rattle.tables.proofs.Keeps.{laid-is}
+use Rattle.vfs_query.specs.Told.{rootfsTold}
+use Rattle.vfs_query.proofs.Rules.{small, kept, tells-by, root-unformed, root-unrooted, root-nowhere, root-bare, root-mounted}
+use borrow.Author.Needs.{needs}
+use Rattle.vfs_query.proofs.get_rootfs.Statement.{statement}
+use Rattle.vfs_query.proofs.get_rootfs.Tie as tie
+
+laid-here : (c : tie.Else1) → laid (now (c .before .before .before .before .args .s)) ≡ true
+laid-here c = kept _ _ (c .before .is-laid .ensures) (c .if1 .left)
+
+formed : (c : tie.Else2) → wellFormed (now (c .before .before .before .before .before .before .args .path)) ≡ true
+formed c = sym (c .before .is-utf8 .ensures) ∙ not-false _ (c .if2 .left)
+
+slash : (c : tie.Else3) → rooted (now (c .before .before .before .before .before .before .before .before .args .path)) ≡ true
+slash c = sym (c .before .is-rooted .ensures) ∙ not-false _ (c .if3 .left)
+
+returns : tie.Need-returns
+unfolding rootfsTold
+returns c = small _ _ (c .before .is-laid .ensures) _ (c .if1 .taken)
+
+returns-2 : tie.Need-returns-2
+unfolding rootfsTold
+returns-2 c = tells-by _ _ _ _ (laid-here (c .before .before)) refl (root-unformed _ _ (sym (c .before .is-utf8 .ensures) ∙ not-true _ (c .if2 .taken)))
+
+returns-3 : tie.Need-returns-3
+unfolding rootfsTold
+returns-3 c = tells-by _ _ _ _ (laid-here (c .before .before .before .before)) refl (root-unrooted _ _ (formed (c .before .before)) (sym (c .before .is-rooted .ensures) ∙ not-true _ (c .if3 .taken)))
+
+walk-requires : tie.Need-walk-requires
+walk-requires c κs = laid-is _ (laid-here (c .before .before .before .before))
+
+of-node-requires : tie.Need-of-node-requires
+of-node-requires c κs = laid-is _ (laid-here (c .before .before .before .before .before .before .before .before))
+
+root-held-requires : tie.Need-root-held-requires
+root-held-requires c κs = laid-here (c .before .before .before .before .before .before .before .before .before .before .before .before)
+
+returns-4 : tie.Need-returns-4
+unfolding walkedOf mountIn view
+returns-4 c =
+    let o = c .before .before .before .before in
+    let w = o .before .before .before .before in
+    let s = w .before in
+    tells-by _ _ _ _ (laid-here (s .before .before .before .before)) (c .root-held .ensures)
+    (root-mounted _ _ (formed (s .before .before)) (slash s) _ (sym (ap walkedOf (o .before .before .x .given .1)) ∙ w .walk .ensures .node) _ (sym (ap mountIn (c .before .before .m .given .1)) ∙ o .of-node .ensures))
+
+returns-5 : tie.Need-returns-5
+unfolding rootfsTold walkedOf mountIn view
+returns-5 c =
+    let o = c .before .before in
+    let w = o .before .before .before .before in
+    let s = w .before in
+    tells-by _ _ _ _ (laid-here (s .before .before .before .before)) refl
+    (root-bare _ _ (formed (s .before .before)) (slash s) _ (sym (ap walkedOf (o .before .before .x .given .1)) ∙ w .walk .ensures .node) (sym (ap mountIn (c .enum-told .given .1)) ∙ o .of-node .ensures))
+
+returns-6 : tie.Need-returns-6
+unfolding rootfsTold walkedOf view
+returns-6 c =
+    let w = c .before .before in
+    let s = w .before in
+    tells-by _ _ _ _ (laid-here (s .before .before .before .before)) refl
+    (root-nowhere _ _ (formed (s .before .before)) (slash s) (sym (ap walkedOf (c .enum-told2 .given .1)) ∙ w .walk .ensures .node))
+
+pub get-rootfs-spec : {M : Type 1} → statement M
+get-rootfs-spec =
+    tie.close
+    (tie.spec
+    (λ c κs. search needs)
+    returns
+    (λ c κs. search needs)
+    returns-2
+    (λ c κs. search needs)
+    returns-3
+    walk-requires
+    (λ c. search needs)
+    of-node-requires
+    (λ c. search needs)
+    root-held-requires
+    (λ c. search needs)
+    (λ c. search needs)
+    returns-4
+    returns-5
+    returns-6)

@@ -1,0 +1,2 @@
+-- What the answers of the calls tell.
+pub mod Told

@@ -1,0 +1,198 @@
+// What a host asks of the mount tables: routing, the root query, lookup across mounts, and ids by the mapping in force. Nothing is written.
+use inode::BackendNumber;
+use inode::Converted;
+use inode::NodeNumber;
+use inode::VfsInode;
+use path::components::is_rooted;
+use path::utf8::is_utf8;
+use pseudo_fs::Entry;
+use pseudo_fs::Looked;
+use pseudo_fs::inner::Finding;
+use pseudo_fs::inner::Walked;
+use pseudo_fs::inner::find;
+use pseudo_fs::inner::pseudo_entry;
+use pseudo_fs::inner::walk;
+use storage::is_laid;
+use tables::mounts::MountOn;
+use tables::mounts::MountPoint;
+use tables::mounts::of_node;
+use tables::mounts::of_root;
+use tables::slots::Tag;
+use tables::slots::tag_of;
+ghost use mathlib.Core.Path.{_≡_};
+ghost use mathlib.Core.Bool.{true};
+ghost use Rattle.rules.specs.Numbers.{convert};
+ghost use Rattle.rules.specs.Instance.{Instance, tagOf};
+ghost use Rattle.rules.specs.Lookup.{routeTag, routeRule, lookupRule, remapped, remapRule};
+ghost use Rattle.rules.specs.Unmount.{rootHeld, rootRule};
+ghost use Rattle.tables.specs.View.{view};
+ghost use Rattle.tables.specs.Rule.{laid};
+ghost use Rattle.tables.specs.Call.{toldBy, answeredBy};
+ghost use Rattle.tables.specs.Answer.{mountOfPoint};
+ghost use Rattle.pseudo_fs.specs.Told.{entryAnswer, lookedTold, orZero};
+ghost use Rattle.vfs_query.specs.Told.{routedTold, rootfsTold, remappedTold, rootAnswer};
+
+// Where a full number goes: to the tree, or to a backend.
+pub enum Routed {
+    Tree(NodeNumber),
+    Backend {
+        tag: u32,
+        fs_idx: u8,
+        ino: BackendNumber,
+    },
+    NoEnt,
+    Small,
+}
+
+// The backend that a path is the root of.
+pub enum Rootfs {
+    Backend { tag: u32, fs_idx: u8 },
+    Nothing,
+    NotFound,
+    Inval,
+    Small,
+}
+
+// Ids after mapping.
+pub enum Remapped {
+    Ids { uid: u32, gid: u32 },
+    Small,
+}
+
+// The backend of an index, or NOENT where its slot is empty.
+fn route_tag(s: &[u8], index: u8, number: u64) -> Routed
+    requires { ⌜ laid (now s) ≡ true ⌝ }
+    ensures { λ r. ⌜ routedTold r ≡ toldBy (routeTag (view (now (s .entry))) index number (tagOf (view (now (s .entry))) index)) ⌝ }
+{
+    match tag_of(s, index) {
+        Tag::Held(tag) => Routed::Backend {
+            tag,
+            fs_idx: index,
+            ino: BackendNumber(number),
+        },
+        Tag::Empty => Routed::NoEnt,
+    }
+}
+
+// Where a full number goes, the Rust's get_real_rootfs: index 0 to the tree, except number 1 with a mount on the root; any other index to its tag, or NOENT (R105, R106, R107).
+pub fn route(s: &[u8], x: VfsInode) -> Routed
+    ensures { λ r. ⌜ routedTold r ≡ answeredBy (now (s .entry)) (λ (i : Instance). routeRule i (x .0)) ⌝ }
+{
+    if !is_laid(s) {
+        return Routed::Small;
+    }
+    let fs_idx = x.fs_idx();
+    let ino = x.ino();
+    if fs_idx != 0 {
+        return route_tag(s, fs_idx, ino);
+    }
+    if ino != rules::ROOT_ID {
+        return Routed::Tree(NodeNumber(ino));
+    }
+    match of_root(s) {
+        MountOn::Point(m) => route_tag(s, m.fs_idx, m.ino),
+        MountOn::Nothing => Routed::Tree(NodeNumber(ino)),
+    }
+}
+
+// Tag and index of a mount, or NOTFOUND where its slot is empty.
+fn root_held(s: &[u8], index: u8) -> Rootfs
+    requires { ⌜ laid (now s) ≡ true ⌝ }
+    ensures { λ r. ⌜ rootfsTold r ≡ toldBy (rootHeld (view (now (s .entry))) index (tagOf (view (now (s .entry))) index)) ⌝ }
+{
+    match tag_of(s, index) {
+        Tag::Held(tag) => Rootfs::Backend { tag, fs_idx: index },
+        Tag::Empty => Rootfs::NotFound,
+    }
+}
+
+// The backend mounted where a path leads, nothing for no path or no mount, or NOTFOUND where its slot is empty (R103, R104).
+pub fn get_rootfs(s: &[u8], path: &[u8]) -> Rootfs
+    ensures { λ r. ⌜ rootfsTold r ≡ answeredBy (now (s .entry)) (λ (i : Instance). rootRule i (now (path .entry))) ⌝ }
+{
+    if !is_laid(s) {
+        return Rootfs::Small;
+    }
+    if !is_utf8(path) {
+        return Rootfs::Inval;
+    }
+    if !is_rooted(path) {
+        return Rootfs::Inval;
+    }
+    match walk(s, path) {
+        Walked::At(x) => match of_node(s, x) {
+            MountOn::Point(m) => root_held(s, m.fs_idx),
+            MountOn::Nothing => Rootfs::Nothing,
+        },
+        Walked::Missing { .. } => Rootfs::Nothing,
+    }
+}
+
+// An id by the mapping in force, out or back.
+fn remap(s: &[u8], id: u32, outward: bool) -> u32
+    requires { ⌜ laid (now s) ≡ true ⌝ }
+    ensures { λ r. ⌜ r ≡ remapped outward (view (now (s .entry))) id ⌝ }
+{
+    let m = tables::header::mapping(s);
+    if outward {
+        return id_map::map_out(m, id);
+    }
+    id_map::map_back(m, id)
+}
+
+// The ids of an attribute by the mapping in force, out or back (R113, R114, R118).
+pub fn remap_attr_id(s: &[u8], uid: u32, gid: u32, outward: bool) -> Remapped
+    ensures { λ r. ⌜ remappedTold r ≡ answeredBy (now (s .entry)) (λ (i : Instance). remapRule i outward uid gid) ⌝ }
+{
+    if !is_laid(s) {
+        return Remapped::Small;
+    }
+    Remapped::Ids {
+        uid: remap(s, uid, outward),
+        gid: remap(s, gid, outward),
+    }
+}
+
+// The full number of a backend's number; 0 where the number is above 2^56 − 1, which no mount's is (R7, R8).
+fn full_number(index: u8, number: u64) -> VfsInode
+    ensures { λ r. ⌜ r .0 ≡ orZero (convert index number) ⌝ }
+{
+    match inode::convert_inode(index, BackendNumber(number)) {
+        Converted::Full(full) => full,
+        Converted::Inode => VfsInode(0),
+    }
+}
+
+// The root entry of a mount: its number converted from the root number, its ids mapped twice, its mode as the request brought it, block size 0 (R77, R108, R109).
+fn root_entry(s: &[u8], m: MountPoint) -> Entry
+    requires { ⌜ laid (now s) ≡ true ⌝ }
+    ensures { λ r. ⌜ entryAnswer r ≡ rootAnswer (view (now (s .entry))) (mountOfPoint m) ⌝ }
+{
+    let inode = full_number(m.fs_idx, m.ino);
+    let uid = remap(s, m.uid, true);
+    let gid = remap(s, m.gid, true);
+    Entry {
+        inode,
+        mode: m.mode,
+        uid: remap(s, uid, true),
+        gid: remap(s, gid, true),
+        blksize: 0,
+    }
+}
+
+// In a directory by a name: the root entry of the mount on what is found, by `.` and `..` too, or its pseudo entry (R108, R109, R110, R111).
+pub fn lookup(s: &[u8], parent: NodeNumber, name: &[u8]) -> Looked
+    ensures { λ r. ⌜ lookedTold r ≡ answeredBy (now (s .entry)) (λ (i : Instance). lookupRule i (parent .0) (now (name .entry))) ⌝ }
+{
+    if !is_laid(s) {
+        return Looked::Small;
+    }
+    match find(s, parent.0, name) {
+        Finding::Node(x) => match of_node(s, x) {
+            MountOn::Point(m) => Looked::Entry(root_entry(s, m)),
+            MountOn::Nothing => Looked::Entry(pseudo_entry(s, x)),
+        },
+        Finding::NoEnt => Looked::NoEnt,
+        Finding::Inval => Looked::Inval,
+    }
+}
