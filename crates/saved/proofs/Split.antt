@@ -1,0 +1,116 @@
+-- The clauses of `accepted` in groups: of the last bytes, of each record, of the pairs of records. Assumes nothing.
+use mathlib.Core.Path.{_≡_, refl, sym, _∙_}
+use mathlib.Core.Bool.{Bool, true, false, not, _&&_, and-true, and-false, and-assoc}
+use mathlib.Core.List.{List, [], _∷_, _++_}
+use Prim.Native.Nat.{ℕ, zero, suc, _+_}
+use lib.ListN.{length, getD}
+use lib.Dec.{leb, ltb, eqb}
+use Rattle.rules.specs.Numbers.{topNumber}
+use Rattle.rules.specs.Fields.{get}
+use Rattle.rules.specs.Saved.{Entry, nodesAt, endAt, optionsIn, trailerIn, offsetOf, countOf, nextOf, stateOf, every, laidOut, lastNumber, present, used, goodName, goodNode, goodNodes, valid, accepted}
+use Rattle.saved.specs.Scan.{framed, sound, allSound, soundTo, placed, allPlaced}
+
+every-append : (xs ys : List Bool) → every (xs ++ ys) ≡ (every xs && every ys)
+unfolding every
+every-append [] ys = refl
+every-append (x ∷ xs) ys = rw (every-append xs ys) (sym (and-assoc x (every xs) (every ys)))
+
+every-one : (t : Bool) → every (t ∷ []) ≡ t
+unfolding every
+every-one t = and-true t
+
+-- a test that fails, wherever it stands among others
+pub fails : (k : ℕ) (ts : List Bool) → getD ts k true ≡ false → every ts ≡ false
+unfolding every
+fails zero [] e = e
+fails (suc k) [] e = e
+fails zero (t ∷ ts) e = rw e
+fails (suc k) (t ∷ ts) e = rw (fails k ts e, and-false)
+
+middle : (s p S P : Bool) → ((s && p) && (S && P)) ≡ ((s && S) && (p && P))
+middle false p S P = refl
+middle true false false P = refl
+middle true false true P = refl
+middle true true S P = refl
+
+-- ---- records
+
+node-split : (next : ℕ) (before : List Entry) (n : Entry) → goodNode next before n ≡ (sound next (lastNumber before) n && placed before n)
+unfolding goodNode sound placed
+node-split next before n =
+    every-append (ltb (lastNumber before) (n .number) ∷ ltb (n .number) next ∷ goodName (n .called) ∷ [])
+    (present (n .above) before ∷ not (used (n .above) (n .called) before) ∷ [])
+
+-- the law: all pass the one group and all pass the other
+pub nodes-split : (next : ℕ) (before ns : List Entry) → goodNodes next before ns ≡ (allSound next (lastNumber before) ns && allPlaced before ns)
+unfolding goodNodes allSound allPlaced lastNumber
+nodes-split next before [] = refl
+nodes-split next before (n ∷ ns) =
+    rw (node-split next before n, nodes-split next (n ∷ before) ns)
+    (middle (sound next (lastNumber before) n) (placed before n) (allSound next (n .number) ns) (allPlaced (n ∷ before) ns))
+
+-- ---- the whole
+
+shuffle : (A E B S P : Bool) → ((A && E) && (B && (S && P))) ≡ ((A && B) && ((E && S) && P))
+shuffle false E B S P = refl
+shuffle true false false S P = refl
+shuffle true false true S P = refl
+shuffle true true false S P = refl
+shuffle true true true S P = refl
+
+module _ (b : List ℕ) where
+  abbrev frame : List Bool
+  frame =
+      leb 56 (length b)
+      ∷ eqb (offsetOf b) (optionsIn b)
+      ∷ eqb (get 1 b (trailerIn b + 17)) 1
+      ∷ eqb (get 6 b (trailerIn b + 18)) 0
+      ∷ eqb (get 3 b (optionsIn b + 29)) 0
+      ∷ ltb (get 1 b (optionsIn b + 28)) 64
+      ∷ []
+
+  abbrev bounds : List Bool
+  bounds = leb 2 (nextOf b) ∷ leb (nextOf b) topNumber ∷ []
+
+  abbrev filled : Bool
+  filled = eqb (endAt b (countOf b) 0) (optionsIn b)
+
+  abbrev records : List Entry
+  records = nodesAt b (countOf b) 0
+
+  laid-split : laidOut b ≡ (every frame && filled)
+  unfolding laidOut
+  laid-split = every-append frame (filled ∷ []) ∙ rw (every-one filled)
+
+  valid-split : valid (stateOf b) ≡ (every bounds && (allSound (nextOf b) 1 records && allPlaced [] records))
+  unfolding valid stateOf lastNumber
+  valid-split = every-append bounds (goodNodes (nextOf b) [] records ∷ []) ∙ rw (every-one (goodNodes (nextOf b) [] records), nodes-split (nextOf b) [] records)
+
+  framed-split : framed b ≡ (every frame && every bounds)
+  unfolding framed
+  framed-split = every-append frame bounds
+
+  sound-split : soundTo b (nextOf b) (optionsIn b) (countOf b) 0 1 ≡ (filled && allSound (nextOf b) 1 records)
+  unfolding soundTo
+  sound-split = every-append (filled ∷ []) (allSound (nextOf b) 1 records ∷ []) ∙ rw (every-one filled, every-one (allSound (nextOf b) 1 records))
+
+  pub accepted-split : accepted b ≡ (framed b && (soundTo b (nextOf b) (optionsIn b) (countOf b) 0 1 && allPlaced [] records))
+  unfolding accepted
+  accepted-split =
+      rw (laid-split, valid-split, framed-split, sound-split)
+      (shuffle (every frame) filled (every bounds) (allSound (nextOf b) 1 records) (allPlaced [] records))
+
+  -- where a part fails, and where the first two hold
+  pub not-framed : framed b ≡ false → accepted b ≡ false
+  not-framed e = rw (accepted-split, e)
+
+  pub not-sound : soundTo b (nextOf b) (optionsIn b) (countOf b) 0 1 ≡ false → accepted b ≡ false
+  not-sound e = rw (accepted-split, e, and-false)
+
+  pub by-pairs : framed b ≡ true → soundTo b (nextOf b) (optionsIn b) (countOf b) 0 1 ≡ true → allPlaced [] records ≡ accepted b
+  by-pairs e f = rw (accepted-split, e, f)
+
+  -- the answer of the one pass, for the next number and the count that were read
+  pub sound-by : (next count : ℕ) (r : Bool) → next ≡ nextOf b → count ≡ countOf b → r ≡ soundTo b next (optionsIn b) count 0 1
+      → soundTo b (nextOf b) (optionsIn b) (countOf b) 0 1 ≡ r
+  sound-by next count r e f g = sym (g ∙ rw (e, f))

@@ -1,0 +1,59 @@
+-- The records of saved bytes as a walk meets them, and the clauses of `accepted` in two groups: those that one record and the
+-- number before it decide, and those of pairs.
+use Prim.Native.Nat.{ℕ, zero, suc, _+_}
+use mathlib.Core.Bool.{Bool, true, not, _&&_}
+use mathlib.Core.List.{List, [], _∷_}
+use lib.ListN.{length}
+use lib.Dec.{leb, ltb, eqb}
+use Rattle.rules.specs.Numbers.{topNumber}
+use Rattle.rules.specs.Bytes.{same}
+use Rattle.rules.specs.Fields.{get}
+use Rattle.rules.specs.Saved.{Entry, nodeAt, behind, nodesAt, endAt, optionsIn, trailerIn, offsetOf, nextOf, every, present, used, goodName}
+
+-- where record i starts
+unfoldable pub startOf : List ℕ → ℕ → ℕ
+startOf b zero = 0
+startOf b (suc i) = behind b (startOf b i)
+
+-- the first i records, the nearest first
+unfoldable pub earlier : List ℕ → ℕ → List Entry
+earlier b zero = []
+earlier b (suc i) = nodeAt b (startOf b i) ∷ earlier b i
+
+-- of the last 56 bytes
+unfoldable pub framed : List ℕ → Bool
+framed b =
+    every
+    (leb 56 (length b)
+    ∷ eqb (offsetOf b) (optionsIn b)
+    ∷ eqb (get 1 b (trailerIn b + 17)) 1
+    ∷ eqb (get 6 b (trailerIn b + 18)) 0
+    ∷ eqb (get 3 b (optionsIn b + 29)) 0
+    ∷ ltb (get 1 b (optionsIn b + 28)) 64
+    ∷ leb 2 (nextOf b)
+    ∷ leb (nextOf b) topNumber
+    ∷ [])
+
+-- of one record, behind one with the number `last`
+unfoldable pub sound : ℕ → ℕ → Entry → Bool
+sound next last n = every (ltb last (n .number) ∷ ltb (n .number) next ∷ goodName (n .called) ∷ [])
+
+unfoldable pub allSound : ℕ → ℕ → List Entry → Bool
+allSound next last [] = true
+allSound next last (n ∷ ns) = sound next last n && allSound next (n .number) ns
+
+-- the k records from a place on end at another, and are sound
+unfoldable pub soundTo : List ℕ → ℕ → ℕ → ℕ → ℕ → ℕ → Bool
+soundTo b next to k at last = every (eqb (endAt b k at) to ∷ allSound next last (nodesAt b k at) ∷ [])
+
+-- one parent, equal names
+unfoldable pub twin : Entry → Entry → Bool
+twin m n = eqb (m .above) (n .above) && same (m .called) (n .called)
+
+-- of a record and those before it
+unfoldable pub placed : List Entry → Entry → Bool
+placed before n = every (present (n .above) before ∷ not (used (n .above) (n .called) before) ∷ [])
+
+unfoldable pub allPlaced : List Entry → List Entry → Bool
+allPlaced before [] = true
+allPlaced before (n ∷ ns) = placed before n && allPlaced (n ∷ before) ns
