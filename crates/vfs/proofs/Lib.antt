@@ -6,3 +6,4 @@ pub mod PlanWays
 pub mod MountCalls
 pub mod RestoreWays
 pub mod Answers
+pub mod Runs

@@ -68,12 +68,15 @@ module _ (mem : List ℕ) (k x : ℕ) (b : Backend) (l : laid mem ≡ true) wher
         keeps = ap laid z ∙ keeps-placed mem l k r x f g (p .within);
       }
 
+-- ---- the counter of the view
+
+pub counter-in : (mem : List ℕ) → Bytes mem → counterOf (view mem) < 256
+unfolding view row get
+counter-in mem bytes = get-fits 1 mem 81 bytes
+
 -- ---- the search over the bytes is the allocation of the view
 
 module _ (mem : List ℕ) (l : laid mem ≡ true) (bytes : Bytes mem) where
-  counter-low : counterAt mem < 256
-  counter-low = get-fits 1 mem 81 bytes
-
   counter-is : counterOf (view mem) ≡ counterAt mem
   unfolding view row get
   counter-is = refl
@@ -82,11 +85,11 @@ module _ (mem : List ℕ) (l : laid mem ≡ true) (bytes : Bytes mem) where
   unfolding allocation
   allocation-is =
       ap (allocate (heldIn (view mem))) counter-is
-      ∙ allocate-same (heldIn (view mem)) (heldAt mem) (λ k h. ap (λ s. s .held) (slot-of mem k h)) (counterAt mem) counter-low
+      ∙ allocate-same (heldIn (view mem)) (heldAt mem) (λ k h. ap (λ s. s .held) (slot-of mem k h)) (counterAt mem) (get-fits 1 mem 81 bytes)
 
   pub index-up : (k : ℕ) → allocation (view mem) .found ≡ some k → 1 ≤ k
   unfolding allocation
-  index-up k e = exact (heldIn (view mem)) (counterOf (view mem)) (subst (λ c. c < 256) (sym counter-is) counter-low) .handed-out k .0 e .1 .least
+  index-up k e = exact (heldIn (view mem)) (counterOf (view mem)) (counter-in mem bytes) .handed-out k .0 e .1 .least
 
   -- rows 5 and 6 of a path without leading slash
   module _ (a : Allocated) (h : readOf a ≡ toldFound (allocate (heldAt mem) (counterAt mem))) (after : List ℕ) (w : after ≡ setCounter (a .«next_super») mem) (low : a .«next_super» < 256) where

@@ -2,3 +2,4 @@
 pub mod Unmounting
 pub mod Mounting
 pub mod Restoring
+pub mod Runs

@@ -1,0 +1,69 @@
+-- Demand 3 of the bytes, from the theorem on the rules; and which steps the contracts of the calls allow. Assumes nothing.
+use mathlib.Core.Path.{_≡_, refl, sym, ap, _∙_, subst}
+use mathlib.Core.Bool.{Bool, true}
+use mathlib.Core.List.{List, [], _∷_}
+use mathlib.Core.Option.{Option, none, some}
+use Prim.Native.Nat.{ℕ, _+_, _%_, _<_}
+use Rattle.rules.specs.Bytes.{Bytes}
+use Rattle.rules.specs.Instance.{Instance, counterOf}
+use Rattle.rules.specs.Outcome.{Outcome, count}
+use Rattle.rules.specs.Mount.{Request, mountRule, restoreMountRule}
+use Rattle.rules.specs.Unmount.{unmountRule}
+use Rattle.rules.specs.Calls.{Call, mount, restore-mount, umount, rule}
+use Rattle.rules.specs.Trace.{Unrestored, total, lastFound, Laps}
+use Rattle.rules.proofs.Trace.{laps}
+use Rattle.tables.specs.View.{view}
+use Rattle.tables.specs.Rule.{laid}
+use Rattle.tables.specs.Call.{Told, answeredBy, Does}
+use Rattle.storage.proofs.Laid.{told-by}
+use Rattle.vfs.specs.Runs.{Step, Allowed, Run, callsOf, counts, LapsOf, EveryLapOfBytes}
+use Rattle.vfs.proofs.MountWays.{counter-in}
+
+-- the counts that are told are those of the rules
+pub same-total : (ss : List Step) (mem : List ℕ) → laid mem ≡ true → Run mem ss → counts ss ≡ total (view mem) (callsOf ss)
+unfolding Run callsOf counts total
+same-total [] mem l r = refl
+same-total (s ∷ ss) mem l (b, (a, r)) =
+    let f : Instance → Outcome = λ (i : Instance). rule i (s .call) in
+    let on : laid (s .before) ≡ true = ap laid b ∙ l in
+    let told : s .told .count ≡ count (rule (view (s .before)) (s .call)) = λ i. (a .answer ∙ told-by (s .before) f on) i .count in
+    let rest : counts ss ≡ total (view (s .after)) (callsOf ss) = same-total ss (s .after) (a .keeps on) r in
+    (λ i. told i + rest i)
+    ∙ (λ i. count (rule (view (s .before)) (s .call)) + total (a .stands on i) (callsOf ss))
+    ∙ (λ i. count (rule (view (b i)) (s .call)) + total (rule (view (b i)) (s .call) .after) (callsOf ss))
+
+-- the theorem
+pub laps-of-bytes : EveryLapOfBytes
+laps-of-bytes s a l bytes k f ss r u last =
+    let e : view (s .after) ≡ rule (view (s .before)) (s .call) .after = a .stands l in
+    let z : Laps (rule (view (s .before)) (s .call) .after) (callsOf ss) =
+    laps (view (s .before)) (counter-in (s .before) bytes) (s .call) k f (callsOf ss) (subst (λ i. Unrestored i (callsOf ss)) e u) (subst (λ i. lastFound none i (callsOf ss) ≡ some k) e last) in
+    let y : Laps (view (s .after)) (callsOf ss) = subst (λ i. Laps i (callsOf ss)) (sym e) z in
+    let t : counts ss ≡ total (view (s .after)) (callsOf ss) = same-total ss (s .after) (a .keeps l) r in
+    record {
+      positive = subst (λ n. 0 < n) (sym t) (y .positive);
+      whole = ap (λ n. n % 256) t ∙ y .whole;
+      fair = y .fair;
+    }
+
+-- ---- the steps of the calls
+
+module _ (mem : List ℕ) (t : Told) (after exact : List ℕ) where
+  pub allowed : (c : Call) → Does mem (λ (i : Instance). rule i c) t after exact → Allowed (record { before = mem; call = c; told = t; after = after })
+  allowed c d = record { answer = d .answer; stands = d .stands; keeps = d .keeps }
+
+  pub mount-allowed : (r : Request) → Does mem (λ (i : Instance). mountRule i r) t after exact → Allowed (record { before = mem; call = mount r; told = t; after = after })
+  unfolding rule
+  mount-allowed r d = allowed (mount r) d
+
+  pub restore-mount-allowed : (k : ℕ) (r : Request) → Does mem (λ (i : Instance). restoreMountRule i k r) t after exact → Allowed (record { before = mem; call = restore-mount k r; told = t; after = after })
+  unfolding rule
+  restore-mount-allowed k r d = allowed (restore-mount k r) d
+
+  pub umount-allowed : (path : List ℕ) → Does mem (λ (i : Instance). unmountRule i path) t after exact → Allowed (record { before = mem; call = umount path; told = t; after = after })
+  unfolding rule
+  umount-allowed path d = allowed (umount path) d
+
+-- a call that only reads: its rule leaves the instance
+pub read-allowed : (mem : List ℕ) (t : Told) (c : Call) → ((i : Instance) → rule i c .after ≡ i) → t ≡ answeredBy mem (λ (i : Instance). rule i c) → Allowed (record { before = mem; call = c; told = t; after = mem })
+read-allowed mem t c same e = record { answer = e; stands = λ l. sym (same (view mem)); keeps = λ l. l }

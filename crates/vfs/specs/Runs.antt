@@ -1,0 +1,50 @@
+-- Demand 3 of the bytes: steps that the contracts allow, each on what the last one left, and what is claimed of the counts in their answers.
+use Prim.Native.Nat.{ℕ, _+_, _%_, _<_}
+use mathlib.Core.Bool.{true}
+use mathlib.Core.List.{List, [], _∷_}
+use mathlib.Core.Option.{Option, none, some}
+use mathlib.Core.Path.{_≡_}
+use Rattle.rules.specs.Bytes.{Bytes}
+use Rattle.rules.specs.Calls.{Call, rule}
+use Rattle.rules.specs.Trace.{Unrestored, lastFound, Met}
+use Rattle.tables.specs.View.{view}
+use Rattle.tables.specs.Rule.{laid}
+use Rattle.tables.specs.Call.{Told, answeredBy}
+
+-- a call on lent bytes: the bytes before, the call, what its answer tells, and the bytes after
+pub record Step : Type 0 where
+  pub before : List ℕ
+  pub call : Call
+  pub told : Told
+  pub after : List ℕ
+
+-- what the call's contract says of it: the answer, what the bytes after stand for, and the layout rule kept
+pub record Allowed (s : Step) : Type 0 where
+  pub answer : s .told ≡ answeredBy (s .before) (λ i. rule i (s .call))
+  pub stands : laid (s .before) ≡ true → view (s .after) ≡ rule (view (s .before)) (s .call) .after
+  pub keeps : laid (s .before) ≡ true → laid (s .after) ≡ true
+
+-- each step finds the bytes as the last one left them
+unfoldable pub Run : List ℕ → List Step → Type 0
+Run mem [] = Unit {0}
+Run mem (s ∷ ss) = (s .before ≡ mem) × (Allowed s × Run (s .after) ss)
+
+unfoldable pub callsOf : List Step → List Call
+callsOf [] = []
+callsOf (s ∷ ss) = s .call ∷ callsOf ss
+
+-- the sum of the counts in the answers, 257 of a FULL included (R82, R87)
+unfoldable pub counts : List Step → ℕ
+counts [] = 0
+counts (s ∷ ss) = s .told .count + counts ss
+
+-- the sum (R87), and every other index (R88)
+pub record LapsOf (mem : List ℕ) (ss : List Step) : Type 0 where
+  pub positive : 0 < counts ss
+  pub whole : counts ss % 256 ≡ 0
+  pub fair : (j : ℕ) → 0 < j → j < 256 → Met j (view mem) (callsOf ss)
+
+-- from any bytes that keep the layout rule: a step handed k out, and the last of the steps after it hands k out again (R87, R88)
+abbrev pub EveryLapOfBytes : Type 0
+EveryLapOfBytes = (s : Step) → Allowed s → laid (s .before) ≡ true → Bytes (s .before) → (k : ℕ) → rule (view (s .before)) (s .call) .found ≡ some k
+    → (ss : List Step) → Run (s .after) ss → Unrestored (view (s .after)) (callsOf ss) → lastFound none (view (s .after)) (callsOf ss) ≡ some k → LapsOf (s .after) ss
