@@ -40,12 +40,12 @@ fn unrooted(s: &mut [u8]) -> Mounted
     requires { ⌜ laid (now s) ≡ true ⌝ }
     ensures { λ r. ⌜ Unrooted (now (s .entry)) r (now (s .exit)) ⌝ }
 {
-    let a = tables::slots::search(s);
-    tables::header::set_counter(s, a.next_super);
-    let answer = a.answer;
+    let found = tables::slots::search(s);
+    tables::header::set_counter(s, found.next_super);
+    let answer = found.answer;
     match answer {
-        FsIndex::Index(k) => Mounted::Inval { count: a.count },
-        FsIndex::Full => Mounted::Full { count: a.count },
+        FsIndex::Index(k) => Mounted::Inval { count: found.count },
+        FsIndex::Full => Mounted::Full { count: found.count },
     }
 }
 
