@@ -73,10 +73,10 @@ pub fn take_off(s: &mut [u8], x: u64, m: MountPoint) -> Tag
     requires { ⌜ laid (now s) ≡ true ⌝ }
     ensures { λ r. ⌜ TakesOff (now (s .entry)) (mountOfPoint m) x r (now (s .exit)) ⌝ }
 {
-    let k = m.fs_idx;
-    let tag = tables::slots::tag_of(s, k);
+    let freed = m.fs_idx;
+    let tag = tables::slots::tag_of(s, freed);
     tables::mounts::clear(s, x);
     take_out(s, x);
-    tables::slots::free(s, k);
+    tables::slots::free(s, freed);
     tag
 }

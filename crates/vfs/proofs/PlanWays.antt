@@ -4,6 +4,7 @@ use mathlib.Core.Bool.{Bool, true, false, cond, not}
 use mathlib.Core.List.{List, []}
 use mathlib.Core.Option.{Option, none, some, Option·none-ne-some, Option·some-injective}
 use Prim.Native.Nat.{ℕ, _+_, _^_, _≤_, _<_}
+use native.Mathlib.Omega.{arith}
 use lib.ListN.{length}
 use lib.Dec.{ltb}
 use Rattle.rules.specs.Numbers.{maxIno, DONE, INVAL, INODE, NOROOM}
@@ -11,7 +12,7 @@ use Rattle.rules.specs.Bytes.{Bytes}
 use Rattle.rules.specs.Path.{rooted, tooLong}
 use Rattle.rules.specs.Round.{Allocation, allocate}
 use Rattle.rules.specs.Tree.{Mount}
-use Rattle.rules.specs.Instance.{Instance, mountOf, tagOf}
+use Rattle.rules.specs.Instance.{Instance, mountOf, tagOf, withCounter}
 use Rattle.rules.specs.Outcome.{Outcome, nothing, mounted, refused, firstOf}
 use Rattle.rules.specs.Mount.{Request, planned, noRoom, ended, walkedTo, mountThere, tagAt, placed, allocation, stepped, allocated, mountAs}
 use Rattle.index.specs.Search.{readOf, told as toldFound, foundOf}
@@ -24,7 +25,9 @@ use Rattle.tables.specs.Write.{setCounter}
 use Rattle.tables.specs.Answer.{heldAt, tagIn}
 use Rattle.tables.specs.declared.slots.Tag.{Tag}
 use Rattle.tables.specs.Call.{Told, toldBy}
-use Rattle.tables.proofs.Keeps.{laid-is}
+use Rattle.tables.proofs.Refine.{view-counter}
+use Rattle.tables.proofs.Keeps.{laid-is, keeps-counter}
+use Rattle.placing.proofs.Stands.{long}
 use Rattle.plan.specs.Plan.{Columns, plannedFrom, Within, told as toldPlan, fitting, Plans}
 use Rattle.plan.specs.Apply.{appendAll}
 use Rattle.plan.specs.declared.Planned.{Planned}
@@ -36,7 +39,7 @@ use Rattle.vfs.specs.declared.mounting.Mounted.{Mounted}
 use Rattle.vfs.specs.declared.mounting.Mounted.the-variants.{Done as Mounted-Done, Inode, NoRoom, Full}
 use Rattle.vfs.specs.declared.inner.Placed.{Placed}
 use Rattle.vfs.specs.declared.inner.Placed.the-variants.{Done as Placed-Done, TooLarge}
-use Rattle.vfs.proofs.MountWays.{index-up, visited, found, moved-bytes, moved-view, moved-laid}
+use Rattle.vfs.proofs.MountWays.{allocation-is, index-up, visited, found, moved-bytes, moved-view}
 
 -- ---- the application
 
@@ -60,6 +63,9 @@ module _ (mem path : List ℕ) (l : laid mem ≡ true) (s : tooLong path ≡ fal
     grows k b r after f = subst (λ m. Finishes m k (ended (view mem) path) b r after) walk-made (subst (λ x. Finishes mid k x b r after) (fits .ends) f)
 
 -- ---- the rows from 4 on
+
+pub mid-laid : (mem : List ℕ) → laid mem ≡ true → (x : ℕ) (mid : List ℕ) → mid ≡ setCounter x mem → laid mid ≡ true
+mid-laid mem l x mid w = ap laid w ∙ keeps-counter mem l x
 
 -- the tag of an index is not of the tree or the counter
 tag-same : (m : Option Mount) (path : List ℕ) (i : Instance) → tagAt m (walkedTo path (stepped i)) ≡ tagAt m i
@@ -101,32 +107,45 @@ module _ (mem path : List ℕ) (l : laid mem ≡ true) (s : tooLong path ≡ fal
       let z : noRoom (view mem) path ≡ true = refused-plan mem path t p e in
       record { told = rw z; bytes = rw z; stands = rw z; keeps = l }
 
-  module _ (bytes : Bytes mem) (node nodes : ℕ) (e : q ≡ Fits node nodes) (a : Allocated) (h : readOf a ≡ toldFound (allocate (heldAt mem) (counterAt mem))) (mid : List ℕ) (w : mid ≡ setCounter (a .«next_super») mem) (low : a .«next_super» < 256) where
-    fit : Fitted mem path t node nodes
-    fit = fitted mem path t p e
+  fit : (node nodes : ℕ) → q ≡ Fits node nodes → Fitted mem path t node nodes
+  fit node nodes e = fitted mem path t p e
 
-    stand : view mid ≡ stepped (view mem)
-    stand = moved-view mem l bytes a h mid w low
-
-    pub mid-laid : laid mid ≡ true
-    mid-laid = moved-laid mem l bytes a h mid w low
+  -- the plan stands whatever the counter is
+  module _ (node nodes : ℕ) (e : q ≡ Fits node nodes) (x : ℕ) (mid : List ℕ) (w : mid ≡ setCounter x mem) (low : x < 256) where
+    counted-view : view mid ≡ withCounter x (view mem)
+    counted-view = ap view w ∙ view-counter x mem low (omega (arith, long mem l))
 
     again : Fitted mid path t node nodes
-    again = fitted-over mem mid path t node nodes (λ i. stand i .tree) (λ i. stand i .fixed .capacity) fit
+    again = fitted-over mem mid path t node nodes (λ i. counted-view i .tree) (λ i. counted-view i .fixed .capacity) (fit node nodes e)
 
     pub plan-stands : Plans mid path t (Fits node nodes)
     unfolding toldPlan fitting
     plan-stands = record { answer = rw (again .room) (λ i. some (record { nodes = again .nodes i; here = again .ends i })); named = again .named }
+
+  -- an index that was found is no less than 1
+  pub index-least : Bytes mem → (a : Allocated) → readOf a ≡ toldFound (allocate (heldAt mem) (counterAt mem)) → (k : ℕ) → a .answer ≡ Index k → 1 ≤ k
+  unfolding readOf toldFound foundOf
+  index-least bytes a h k f = index-up mem l bytes k (ap (λ x. x .found) (ap toldFound (allocation-is mem l bytes) ∙ sym h) ∙ ap foundOf f)
+
+  module _ (bytes : Bytes mem) (node nodes : ℕ) (e : q ≡ Fits node nodes) (a : Allocated) (h : readOf a ≡ toldFound (allocate (heldAt mem) (counterAt mem))) (mid : List ℕ) (w : mid ≡ setCounter (a .«next_super») mem) (low : a .«next_super» < 256) where
+    stand : view mid ≡ stepped (view mem)
+    stand = moved-view mem l bytes a h mid w low
+
+    room : noRoom (view mem) path ≡ false
+    room = fit node nodes e .room
+
+    laid-mid : laid mid ≡ true
+    laid-mid = mid-laid mem l (a .«next_super») mid w
 
     pub full-way : (b : Backend) → a .answer ≡ IndexFull → Ends b (Full (a .count)) mid
     unfolding rootedMem mountedTold foundMem foundOf mountAs
     full-way b f =
         let g : allocation (view mem) .found ≡ none = sym (found mem l bytes a h mid w low) ∙ ap foundOf f in
         record {
-          told = rw (fit .room, g) (ap (counted 5) (visited mem l bytes a h mid w low));
-          bytes = rw (fit .room, g) (moved-bytes mem l bytes a h mid w low);
-          stands = rw (fit .room, g) stand;
-          keeps = mid-laid;
+          told = rw (room, g) (ap (counted 5) (visited mem l bytes a h mid w low));
+          bytes = rw (room, g) (moved-bytes mem l bytes a h mid w low);
+          stands = rw (room, g) stand;
+          keeps = laid-mid;
         }
 
     module _ (k : ℕ) (f : a .answer ≡ Index k) where
@@ -134,12 +153,9 @@ module _ (mem path : List ℕ) (l : laid mem ≡ true) (s : tooLong path ≡ fal
       unfolding foundOf
       got = sym (found mem l bytes a h mid w low) ∙ ap foundOf f
 
-      pub index-least : 1 ≤ k
-      index-least = index-up mem l bytes k got
-
       walked-view : view (walkMem path mid) ≡ walkedTo path (stepped (view mem))
       unfolding walkMem
-      walked-view = view-walked mid path mid-laid s (again .room) ∙ ap (walkedTo path) stand
+      walked-view = view-walked mid path laid-mid s (again node nodes e (a .«next_super») mid w low .room) ∙ ap (walkedTo path) stand
 
       ends-there : ended (view mid) path ≡ ended (view mem) path
       ends-there = λ i. ended (stand i) path
@@ -157,7 +173,7 @@ module _ (mem path : List ℕ) (l : laid mem ≡ true) (s : tooLong path ≡ fal
         rule-is : rootedRule (view mem) R ≡ cond (ltb maxIno (b .root .0)) Big Done
         unfolding mountAs firstOf
         rule-is =
-            ap (λ (c : Bool). cond c (refused NOROOM (view mem)) (mountAs (view mem) R (allocation (view mem) .found))) (fit .room)
+            ap (λ (c : Bool). cond c (refused NOROOM (view mem)) (mountAs (view mem) R (allocation (view mem) .found))) (room)
             ∙ ap (mountAs (view mem) R) got
             ∙ ap (λ (o : Bool). cond (not o) (allocated (view mem) INVAL nothing (stepped (view mem))) (cond (ltb maxIno (b .root .0)) Big Done)) on
 
@@ -169,7 +185,7 @@ module _ (mem path : List ℕ) (l : laid mem ≡ true) (s : tooLong path ≡ fal
 
         bytes-are : (after : List ℕ) → after ≡ finishMem k (requestOf [] b) (ended (view mid) path) (walkMem path mid) → after ≡ rootedMem R mem
         unfolding plannedMem finishMem rootedMem foundMem
-        bytes-are after e = rw (fit .room, got) (e ∙ ap (plannedMem k R) (moved-bytes mem l bytes a h mid w low))
+        bytes-are after e = rw (room, got) (e ∙ ap (plannedMem k R) (moved-bytes mem l bytes a h mid w low))
 
         module _ (r : Placed) (after : List ℕ) (g : Grows mid path k b r after) where
           pub large-way : r ≡ TooLarge → Ends b (Inode (a .count)) after

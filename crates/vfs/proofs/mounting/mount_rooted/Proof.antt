@@ -44,7 +44,7 @@ enum-known-answer c = search needs
 place-planned-requires : tie.Need-place-planned-requires
 place-planned-requires c κs =
     let p = c .before .before .before .before .before .before .before .before .before .before .before .before .before .before .before .before .before .before .before .before .before .before .before .pre in
-    (search (mid-laid _ _ (p .0) (p .1 .0) _ _ (c .before .before .before .before .before .before .before .before .before .before .before .before .before .before .before .before .plan-mount .ensures) (λ i. c .before .before .before .before .before .before .before .before .before .before .before .before .before .before .before .before .before .before .before .before .before .before .slice-known .given i .fits), needs), (p .1 .0, (search (plan-stands _ _ (p .0) (p .1 .0) _ _ (c .before .before .before .before .before .before .before .before .before .before .before .before .before .before .before .before .plan-mount .ensures) (λ i. c .before .before .before .before .before .before .before .before .before .before .before .before .before .before .before .before .before .before .before .before .before .before .slice-known .given i .fits), needs), search (index-least _ _ (p .0) (p .1 .0) _ _ (c .before .before .before .before .before .before .before .before .before .before .before .before .before .before .before .before .plan-mount .ensures) (λ i. c .before .before .before .before .before .before .before .before .before .before .before .before .before .before .before .before .before .before .before .before .before .before .slice-known .given i .fits), needs))))
+    (mid-laid _ (p .0) _ _ (c .before .before .before .before .before .before .before .before .before .set-counter .ensures), (p .1 .0, (search (plan-stands _ _ (p .0) (p .1 .0) _ _ (c .before .before .before .before .before .before .before .before .before .before .before .before .before .before .before .before .plan-mount .ensures) _ _ (c .before .before .before .before .before .before .before .before .before .before .before .before .before .before .node .given .1) _ _ (c .before .before .before .before .before .before .before .before .before .set-counter .ensures), needs), search (index-least _ _ (p .0) (p .1 .0) _ _ (c .before .before .before .before .before .before .before .before .before .before .before .before .before .before .before .before .plan-mount .ensures) (λ i. c .before .before .before .before .before .before .before .before .before .before .before .before .before .before .before .before .before .before .before .before .before .before .slice-known .given i .fits), needs))))
 
 -- src/mounting.rt:143:45
 enum-told-3 : tie.Need-enum-told-3
