@@ -66,7 +66,7 @@ const FLAGS: u8 = 64;
 const TAGS: usize = 512;
 
 // Whether a bit of either word is outside the mask (R28).
-fn is_unknown(known: u64, in_opts: u64, out_opts: u64) -> bool
+pub fn is_unknown(known: u64, in_opts: u64, out_opts: u64) -> bool
     ensures { λ r. ⌜ r ≡ (outside known «in_opts» || outside known «out_opts») ⌝ }
 {
     if in_opts & known != in_opts {

@@ -1,5 +1,4 @@
 -- What is proved of the calls on the mount tables.
-pub mod Calls
 pub mod UnmountWays
 pub mod MountWays
 pub mod PlanWays

@@ -20,7 +20,7 @@ use Rattle.vfs.specs.Mounting.{requestOf, counted, mountedTold, allocMem
 use Rattle.vfs.specs.declared.backend.Backend.{Backend}
 use Rattle.vfs.specs.declared.mounting.Mounted.{Mounted}
 use Rattle.vfs.specs.declared.mounting.Mounted.the-variants.{TooLong, Inval, Inode, Small}
-use Rattle.vfs.proofs.Calls.{does-small, does-nothing, does}
+use Rattle.storage.proofs.Calls.{does-small, does-nothing, does}
 
 pub short-by : (path : List ℕ) (long : Bool) → long ≡ tooLong path → long ≡ false → tooLong path ≡ false
 short-by path long lo e = sym lo ∙ e

@@ -30,7 +30,7 @@ use Rattle.vfs.specs.declared.inner.Placed.{Placed}
 use Rattle.vfs.specs.declared.inner.Placed.the-variants.{Done as Placed-Done, TooLarge}
 use Rattle.vfs.specs.declared.restoring.Restored.{Restored}
 use Rattle.vfs.specs.declared.restoring.Restored.the-variants.{Done as Restored-Done, TooLong, Inval, BadIndex, Inode, NoRoom, Small}
-use Rattle.vfs.proofs.Calls.{does-small, does-nothing, does}
+use Rattle.storage.proofs.Calls.{does-small, does-nothing, does}
 use Rattle.vfs.proofs.PlanWays.{large-by, placed-by}
 
 -- the tags of indexes are not of the tree

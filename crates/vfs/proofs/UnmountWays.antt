@@ -30,7 +30,7 @@ use Rattle.placing.proofs.Stands.{view-taken-off, keeps-taken-off}
 use Rattle.vfs.specs.Unmounting.{unmountedTold, offMem, unmountMem, Unmounts}
 use Rattle.vfs.specs.declared.unmounting.Unmounted.{Unmounted}
 use Rattle.vfs.specs.declared.unmounting.Unmounted.the-variants.{Done, NotFound, Inval, Small}
-use Rattle.vfs.proofs.Calls.{does-small, does-nothing, does}
+use Rattle.storage.proofs.Calls.{does-small, does-nothing, does}
 
 -- ---- of a node, by the mount on it
 

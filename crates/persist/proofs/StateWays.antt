@@ -1,0 +1,188 @@
+-- What each way through a state restore gives. Assumes nothing.
+use mathlib.Core.Path.{_≡_, refl, sym, ap, _∙_}
+use mathlib.Core.Bool.{Bool, true, false, not, _&&_, true≢false, false≢true}
+use mathlib.Core.List.{List, [], _∷_, _++_}
+use mathlib.Core.Option.{Option, none, some}
+use Prim.Native.Nat.{ℕ, _+_, _^_, _≤_, _<_}
+use native.Mathlib.Omega.{arith}
+use lib.ListN.{length}
+use lib.Dec.{eqb, ltb}
+use borrow.Author.Tests.{not-true, not-false, ne-eqb, ltb-false}
+use Rattle.le.specs.Mem.{get}
+use Rattle.rules.specs.Bytes.{Bytes}
+use Rattle.rules.specs.Numbers.{DONE, BADSAVE, BADOPT, NOROOM, NOTFRESH}
+use Rattle.rules.specs.Tree.{Mount, Node, isNone}
+use Rattle.rules.specs.Instance.{Instance}
+use Rattle.rules.specs.Outcome.{nothing, Outcome, refused, says, firstOf}
+use Rattle.rules.specs.Create.{unknown}
+use Rattle.rules.specs.Saved.{State, countOf as recordsOf, stateOf, accepted}
+use Rattle.rules.specs.Restore.{nodesFrom, noNodes, fresh, restoredTo, restoreRule}
+use Rattle.rules.proofs.Tests.{and-both}
+use Rattle.rules.proofs.RoundTrip.{fits}
+use Rattle.tables.specs.Table.{row}
+use Rattle.tables.specs.Layout.{capacityOf, countOf}
+use Rattle.tables.specs.View.{nodesOf, view}
+use Rattle.tables.specs.Rule.{laid, Laid}
+use Rattle.tables.specs.Call.{Told, toldBy, Does}
+use Rattle.tables.proofs.Keeps.{laid-is}
+use Rattle.tables.proofs.Places.{nodes-count}
+use Rattle.storage.proofs.Answers.{long}
+use Rattle.storage.proofs.Calls.{does-small, does-nothing, does}
+use Rattle.saved.proofs.Accepted.{accepted-long}
+use Rattle.persist.specs.Restoring.{stateTold, loadNodes, stateMem, restoreStateMem}
+use Rattle.persist.specs.declared.restoring.StateRestored.{StateRestored}
+use Rattle.persist.specs.declared.restoring.StateRestored.the-variants.{Done, NotFresh, BadSave, BadOpt, NoRoom, Small}
+use Rattle.persist.proofs.Records.{count-is, next-low, next-top, all-load}
+use Rattle.persist.proofs.Loads.{AllLoaded, loads-all}
+use Rattle.persist.proofs.StateHead.{become, view-state, state-keeps}
+
+-- ---- a fresh instance
+
+no-nodes : (ns : List Node) → noNodes ns ≡ true → ns ≡ []
+unfolding noNodes
+no-nodes [] e = refl
+no-nodes (n ∷ ns) e = absurd (false≢true e)
+
+no-root : (m : Option Mount) → isNone m ≡ true → m ≡ none
+no-root none e = refl
+no-root (some m) e = absurd (false≢true e)
+
+module _ (mem : List ℕ) (f : fresh (view mem) ≡ true) where
+  parts : (noNodes (view mem .tree .nodes) ≡ true) × (isNone (view mem .tree .root) ≡ true)
+  unfolding fresh
+  parts = and-both (noNodes (view mem .tree .nodes)) (isNone (view mem .tree .root)) f
+
+  bare-root : view mem .tree .root ≡ none
+  bare-root = no-root (view mem .tree .root) (parts .1)
+
+  bare-nodes : view mem .tree .nodes ≡ []
+  bare-nodes = no-nodes (view mem .tree .nodes) (parts .0)
+
+  none-live : countOf mem ≡ 0
+  unfolding view
+  none-live = sym (nodes-count mem) ∙ ap (λ (ns : List Node). length ns) bare-nodes
+
+-- ---- the state is there
+
+module _ (mem b : List ℕ) (k : laid mem ≡ true) (f : fresh (view mem) ≡ true) (a : accepted b ≡ true) (mask : unknown (view mem .fixed .known) (stateOf b .options) ≡ false)
+    (fit : ltb (view mem .fixed .capacity) (1 + length (stateOf b .nodes)) ≡ false) where
+  pub room : countOf mem + recordsOf b < capacityOf mem
+  unfolding view row get
+  room = omega (arith, none-live mem f, count-is b, ltb-false (capacityOf mem) (1 + length (stateOf b .nodes)) fit)
+
+  module _ (bytes : Bytes b) where
+    abbrev s : State
+    s = stateOf b
+
+    abbrev m′ : List ℕ
+    m′ = loadNodes (s .nodes) mem
+
+    all : AllLoaded (s .nodes) mem
+    all = loads-all (s .nodes) mem k (all-load b a) (omega (arith, room, count-is b))
+
+    pub view-restored : view (stateMem s mem) ≡ restoredTo s (view mem)
+    unfolding stateMem restoredTo
+    view-restored =
+        let w = fits b bytes a in
+        let root = bare-root mem f in
+        let nodes = bare-nodes mem f in
+        view-state (s .next) (s .counter) (s .options) m′ (w .options) (next-top b a) (w .counter) (omega (arith, all .long, long mem k))
+        ∙ ap (become (s .next) (s .counter) (s .options)) (all .stands 0)
+        ∙ (λ t. become (s .next) (s .counter) (s .options) (record {
+          fixed = view mem .fixed;
+          removal = view mem .removal;
+          initialized = view mem .initialized;
+          options = view mem .options;
+          indexes = view mem .indexes;
+          tree = record { next = 0; root = root t; nodes = nodes t ++ nodesFrom (s .nodes) };
+        }))
+
+    pub keeps-restored : laid (stateMem s mem) ≡ true
+    unfolding stateMem
+    keeps-restored =
+        let w = fits b bytes a in
+        let known : view m′ .fixed .known ≡ view mem .fixed .known = ap (λ (i : Instance). i .fixed .known) (all .stands 0) in
+        state-keeps (s .next) (s .counter) (s .options) m′ (w .options) (next-top b a) (w .counter) (all .keeps) (next-low b a) (rw known mask)
+
+-- ---- the call
+
+module _ (b : List ℕ) (a : Bool) (ae : a ≡ accepted b) (e : not a ≡ false) where
+  pub accepted-by : accepted b ≡ true
+  accepted-by = sym ae ∙ not-false a e
+
+  pub long-by : 56 ≤ length b
+  long-by = accepted-long b accepted-by
+
+module _ (mem : List ℕ) (l : Bool) (le : l ≡ laid mem) (on : not l ≡ false) where
+  pub laid-by : laid mem ≡ true
+  laid-by = sym le ∙ not-false l on
+
+  pub rule-by : Laid mem
+  rule-by = laid-is mem laid-by
+
+  pub bytes-by : 8192 ≤ length mem
+  bytes-by = long mem laid-by
+
+module _ (mem b : List ℕ) where
+  abbrev F : Instance → Outcome
+  F = λ (i : Instance). restoreRule i b
+
+  abbrev Gives : StateRestored → List ℕ → Type 0
+  Gives r after = Does mem F (stateTold r) after (restoreStateMem b mem)
+
+  refusal : laid mem ≡ true → (r : StateRestored) (code : ℕ) → F (view mem) ≡ refused code (view mem) → (code ≡ DONE → ⊥) → stateTold r ≡ toldBy (refused code (view mem)) → Gives r mem
+  unfolding restoreStateMem
+  refusal e r code f n t =
+      let z : eqb (restoreRule (view mem) b .code) DONE ≡ false = ap (λ (o : Outcome). eqb (o .code) DONE) f ∙ ne-eqb code DONE n in
+      does-nothing mem F (stateTold r) (restoreStateMem b mem) (refused code (view mem)) e f refl t (rw (e, z))
+
+  module _ (l : Bool) (le : l ≡ laid mem) where
+    pub small : not l ≡ true → Gives Small mem
+    unfolding restoreStateMem stateTold
+    small e =
+        let f : laid mem ≡ false = sym le ∙ not-true l e in
+        does-small mem F (stateTold Small) (restoreStateMem b mem) f refl (rw f)
+
+    module _ (on : not l ≡ false) (fr : Bool) (fe : fr ≡ fresh (view mem)) where
+      abbrev k : laid mem ≡ true
+      k = laid-by mem l le on
+
+      pub not-fresh : not fr ≡ true → Gives NotFresh mem
+      unfolding stateTold restoreRule firstOf
+      not-fresh e = let z : fresh (view mem) ≡ false = sym fe ∙ not-true fr e in refusal k NotFresh NOTFRESH (rw z) (λ q. omega arith) refl
+
+      module _ (is : not fr ≡ false) (a : Bool) (ae : a ≡ accepted b) where
+        new : fresh (view mem) ≡ true
+        new = sym fe ∙ not-false fr is
+
+        pub bad-save : not a ≡ true → Gives BadSave mem
+        unfolding stateTold restoreRule firstOf
+        bad-save e = let z : accepted b ≡ false = sym ae ∙ not-true a e in refusal k BadSave BADSAVE (rw (new, z)) (λ q. omega arith) refl
+
+        module _ (good : not a ≡ false) (u : Bool) (ue : u ≡ unknown (view mem .fixed .known) (stateOf b .options)) where
+          ok : accepted b ≡ true
+          ok = accepted-by b a ae good
+
+          pub bad-opt : u ≡ true → Gives BadOpt mem
+          unfolding stateTold restoreRule firstOf
+          bad-opt e = let z : unknown (view mem .fixed .known) (stateOf b .options) ≡ true = sym ue ∙ e in refusal k BadOpt BADOPT (rw (new, ok, z)) (λ q. omega arith) refl
+
+          module _ (in-mask : u ≡ false) (m : Bool) (me : m ≡ ltb (view mem .fixed .capacity) (1 + length (stateOf b .nodes))) where
+            mask : unknown (view mem .fixed .known) (stateOf b .options) ≡ false
+            mask = sym ue ∙ in-mask
+
+            pub no-room : m ≡ true → Gives NoRoom mem
+            unfolding stateTold restoreRule firstOf
+            no-room e =
+                let z : ltb (view mem .fixed .capacity) (1 + length (stateOf b .nodes)) ≡ true = sym me ∙ e in
+                refusal k NoRoom NOROOM (rw (new, ok, mask, z)) (λ q. omega arith) refl
+
+            pub fits-by : m ≡ false → countOf mem + recordsOf b < capacityOf mem
+            fits-by e = room mem b k new ok mask (sym me ∙ e)
+
+            pub restores : m ≡ false → Bytes b → (after : List ℕ) → after ≡ stateMem (stateOf b) mem → Gives Done after
+            unfolding stateTold restoreRule firstOf restoreStateMem
+            restores e bytes after p =
+                let fit : ltb (view mem .fixed .capacity) (1 + length (stateOf b .nodes)) ≡ false = sym me ∙ e in
+                does mem F (stateTold Done) after (restoreStateMem b mem) (says nothing (restoredTo (stateOf b) (view mem))) k (rw (new, ok, mask, fit)) refl (p ∙ sym (rw (k, new, ok, mask, fit)))
+                (ap view p ∙ view-restored mem b k new ok mask fit bytes) (ap laid p ∙ keeps-restored mem b k new ok mask fit bytes)

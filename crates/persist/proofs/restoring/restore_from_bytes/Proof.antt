@@ -1,0 +1,82 @@
+-- Each return is a row of the rule. Assumes nothing.
+use borrow.Author.Needs.{needs}
+use Rattle.persist.proofs.StateWays.{accepted-by, long-by, laid-by, rule-by, bytes-by, small, not-fresh, bad-save, bad-opt, no-room, fits-by, restores}
+use Rattle.persist.proofs.restoring.restore_from_bytes.Statement.{statement}
+use Rattle.persist.proofs.restoring.restore_from_bytes.Tie as tie
+
+is-laid-requires : tie.Need-is-laid-requires
+is-laid-requires c κs = search needs
+
+same-length : tie.Need-same-length
+same-length c = search needs
+
+returns : tie.Need-returns
+returns c = search (small, needs)
+
+is-fresh-requires : tie.Need-is-fresh-requires
+is-fresh-requires c κs = search (rule-by, needs)
+
+same-length-2 : tie.Need-same-length-2
+same-length-2 c = search needs
+
+returns-2 : tie.Need-returns-2
+returns-2 c = search (not-fresh, needs)
+
+is-accepted-requires : tie.Need-is-accepted-requires
+is-accepted-requires c κs = search needs
+
+same-length-3 : tie.Need-same-length-3
+same-length-3 c = search needs
+
+returns-3 : tie.Need-returns-3
+returns-3 c = search (bad-save, needs)
+
+has-unknown-requires : tie.Need-has-unknown-requires
+has-unknown-requires c κs = (search (bytes-by, needs), long-by _ _ (c .before .before .is-accepted .ensures) (c .before .if3 .left))
+
+same-length-4 : tie.Need-same-length-4
+same-length-4 c = search needs
+
+returns-4 : tie.Need-returns-4
+returns-4 c = search (bad-opt, needs)
+
+is-too-many-requires : tie.Need-is-too-many-requires
+is-too-many-requires c κs = (search (rule-by, needs), long-by _ _ (c .before .before .before .before .before .is-accepted .ensures) (c .before .before .before .before .if3 .left))
+
+same-length-5 : tie.Need-same-length-5
+same-length-5 c = search needs
+
+returns-5 : tie.Need-returns-5
+returns-5 c = search (no-room, needs)
+
+put-saved-requires : tie.Need-put-saved-requires
+put-saved-requires c κs = (laid-by _ _ (c .before .before .before .before .before .before .before .before .before .before .before .before .before .is-laid .ensures) (c .before .before .before .before .before .before .before .before .before .before .before .before .if1 .left), (accepted-by _ _ (c .before .before .before .before .before .before .before .before .is-accepted .ensures) (c .before .before .before .before .before .before .before .if3 .left), fits-by _ _ _ (c .before .before .before .before .before .before .before .before .before .before .before .before .before .is-laid .ensures) (c .before .before .before .before .before .before .before .before .before .before .before .before .if1 .left) _ (c .before .before .before .before .before .before .before .before .before .before .is-fresh .ensures) (c .before .before .before .before .before .before .before .before .before .if2 .left) _ (c .before .before .before .before .before .before .before .before .is-accepted .ensures) (c .before .before .before .before .before .before .before .if3 .left) _ (c .before .before .before .before .before .has-unknown .ensures) (c .before .before .before .before .if4 .left) _ (c .before .before .is-too-many .ensures) (c .before .if5 .left)))
+
+same-length-6 : tie.Need-same-length-6
+same-length-6 c = search needs
+
+returns-6 : tie.Need-returns-6
+returns-6 c = restores _ _ _ (c .before .before .before .before .before .before .before .before .before .before .before .before .before .before .before .before .is-laid .ensures) (c .before .before .before .before .before .before .before .before .before .before .before .before .before .before .before .if1 .left) _ (c .before .before .before .before .before .before .before .before .before .before .before .before .before .is-fresh .ensures) (c .before .before .before .before .before .before .before .before .before .before .before .before .if2 .left) _ (c .before .before .before .before .before .before .before .before .before .before .before .is-accepted .ensures) (c .before .before .before .before .before .before .before .before .before .before .if3 .left) _ (c .before .before .before .before .before .before .before .before .has-unknown .ensures) (c .before .before .before .before .before .before .before .if4 .left) _ (c .before .before .before .before .before .is-too-many .ensures) (c .before .before .before .before .if5 .left) (λ i. c .before .before .before .before .before .before .before .before .before .before .before .before .before .before .before .before .before .before .shared-slice-known .given i .fits) _ (c .before .before .put-saved .ensures)
+
+pub restore-from-bytes-spec : {M : Type 1} → statement M
+restore-from-bytes-spec =
+    tie.close
+    (tie.spec
+    is-laid-requires
+    same-length
+    returns
+    is-fresh-requires
+    same-length-2
+    returns-2
+    is-accepted-requires
+    same-length-3
+    returns-3
+    has-unknown-requires
+    same-length-4
+    returns-4
+    is-too-many-requires
+    same-length-5
+    returns-5
+    put-saved-requires
+    same-length-6
+    returns-6)

@@ -1,0 +1,2 @@
+// Saved state over the storage of an instance.
+pub mod restoring;
