@@ -6,3 +6,4 @@ pub mod StateTests
 pub mod Loading
 pub mod StateWays
 pub mod StateAnswers
+pub mod Both

@@ -1,0 +1,42 @@
+-- Demand 2 of save and restore on bytes, over the contracts: what comes back, that no other bytes are accepted for it, and what a refusal leaves.
+use mathlib.Core.Path.{_≡_}
+use mathlib.Core.Bool.{true}
+use mathlib.Core.List.{List}
+use Prim.Native.Nat.{ℕ, _≤_}
+use Rattle.rules.specs.Bytes.{Bytes}
+use Rattle.rules.specs.Instance.{Instance, counterOf, live}
+use Rattle.rules.specs.Saved.{encode}
+use Rattle.rules.specs.Restore.{saved, fresh, restoreRule}
+use Rattle.rules.specs.Driven.{Driven, Present}
+use Rattle.rules.specs.Restored.{bareTree}
+use Rattle.tables.specs.View.{view}
+use Rattle.tables.specs.Rule.{laid}
+use Rattle.tables.specs.Call.{Does}
+use Rattle.persist.specs.Restoring.{stateTold, restoreStateMem}
+use Rattle.persist.specs.declared.restoring.StateRestored.{StateRestored}
+use Rattle.persist.specs.declared.restoring.StateRestored.the-variants.{Done}
+
+-- the contract of a state restore: of the storage and the saved bytes, with the answer and the storage after
+abbrev pub Restores : List ℕ → List ℕ → StateRestored → List ℕ → Type 0
+Restores mem b r after = Does mem (λ (i : Instance). restoreRule i b) (stateTold r) after (restoreStateMem b mem)
+
+-- the restore is done, and the storage stands for the tree without its mounts, the next number, the counter and the options
+pub record Back (i : Instance) (r : StateRestored) (after : List ℕ) : Type 0 where
+  pub done : r ≡ Done
+  pub keeps : laid after ≡ true
+  pub tree : view after .tree ≡ bareTree (i .tree)
+  pub counter : counterOf (view after) ≡ counterOf i
+  pub options : view after .options ≡ i .options
+
+-- what is saved of a driven instance with all parents present comes back in any fresh one with room and the same mask (R135)
+abbrev pub ComesBack : Type 0
+ComesBack = (mem new : List ℕ) (r : StateRestored) (after : List ℕ) → Driven (view mem) → Present (view mem .tree .nodes) (view mem .tree .nodes) → laid new ≡ true → fresh (view new) ≡ true
+    → view new .fixed .known ≡ view mem .fixed .known → live (view mem) ≤ view new .fixed .capacity → Restores new (encode (saved (view mem))) r after → Back (view mem) r after
+
+-- what a done restore read is what is saved then (R136)
+abbrev pub SavedAgain : Type 0
+SavedAgain = (mem b after : List ℕ) → Bytes b → Restores mem b Done after → encode (saved (view after)) ≡ b
+
+-- a refused restore leaves every byte (R15, R128)
+abbrev pub Unchanged : Type 0
+Unchanged = (mem b : List ℕ) (r : StateRestored) (after : List ℕ) → Restores mem b r after → (r ≡ Done → ⊥) → after ≡ mem
