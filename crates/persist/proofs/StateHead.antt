@@ -54,22 +54,7 @@ module _ (next counter : ℕ) (o : Options) (mem : List ℕ) where
   init = heldByte (hasBits (o .inOpts))
 
   abbrev cells : List (List ℕ)
-  cells =
-      bytesOf 8 next
-      ∷ []
-      ∷ bytesOf 8 (o .inOpts)
-      ∷ bytesOf 8 (o .outOpts)
-      ∷ []
-      ∷ []
-      ∷ []
-      ∷ bytesOf 4 (o .mapping .internal)
-      ∷ bytesOf 4 (o .mapping .external)
-      ∷ bytesOf 4 (o .mapping .range)
-      ∷ bytesOf 1 (o .flags)
-      ∷ bytesOf 1 counter
-      ∷ []
-      ∷ bytesOf 1 init
-      ∷ []
+  cells = bytesOf 8 next ∷ [] ∷ (optionCells o ++ (bytesOf 1 counter ∷ [] ∷ bytesOf 1 init ∷ []))
 
   abbrev H : List (List ℕ)
   H = over header (fromPlace 3 cells) mem 0

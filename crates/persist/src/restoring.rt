@@ -50,7 +50,7 @@ fn has_unknown(s: &[u8], b: &[u8]) -> bool
 {
     let known = le::fields::get_u64(s, 32);
     let o = saved::inner::options_of(b);
-    storage::is_unknown(known, o.in_opts, o.out_opts)
+    storage::inner::is_unknown(known, o.in_opts, o.out_opts)
 }
 
 // Whether the records and the root are more than N (R131).

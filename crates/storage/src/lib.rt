@@ -1,11 +1,11 @@
 // The bytes that a host lends: the layout rule's test, creation, and the calls on the header alone (docs/LAYOUT.md).
 ghost use mathlib.Core.Path.{_≡_};
-ghost use mathlib.Core.Bool.{cond, _||_};
+ghost use mathlib.Core.Bool.{cond};
 ghost use mathlib.Core.List.{[], _∷_};
 ghost use Prim.Native.Nat.{_+_, _*_, _≤_};
 ghost use lib.ListN.{length};
 ghost use Rattle.le.specs.Mem.{write, bytesOf, put};
-ghost use Rattle.rules.specs.Create.{tooSmall, outside};
+ghost use Rattle.rules.specs.Create.{tooSmall};
 ghost use Rattle.tables.specs.View.{headOf};
 ghost use Rattle.tables.specs.Rule.{laid};
 ghost use Rattle.tables.specs.Write.{putHeader, setRemoval};
@@ -13,6 +13,8 @@ ghost use Rattle.tables.specs.Call.{answeredBy, Does};
 ghost use Rattle.storage.specs.Laid.{settingsFit};
 ghost use Rattle.storage.specs.Creation.{creationOf, tagBytes, emptySlots, createMem, Creates};
 ghost use Rattle.storage.specs.Answers.{removalTold, removeCall, initializedTold, initializedCall, optionsTold, optionsCall};
+
+pub mod inner;
 
 // The answer of creation (R26).
 pub enum Created {
@@ -65,16 +67,6 @@ const FLAGS: u8 = 64;
 
 const TAGS: usize = 512;
 
-// Whether a bit of either word is outside the mask (R28).
-pub fn is_unknown(known: u64, in_opts: u64, out_opts: u64) -> bool
-    ensures { λ r. ⌜ r ≡ (outside known «in_opts» || outside known «out_opts») ⌝ }
-{
-    if in_opts & known != in_opts {
-        return true;
-    }
-    out_opts & known != out_opts
-}
-
 // Whether the option bits are within the mask, the flags within theirs, and the mapping in force passes its test.
 fn settings_fit(s: &[u8]) -> bool
     requires { ⌜ 8192 ≤ length (now s) ⌝ }
@@ -83,7 +75,7 @@ fn settings_fit(s: &[u8]) -> bool
     let known = le::fields::get_u64(s, 32);
     let in_opts = le::fields::get_u64(s, 40);
     let out_opts = le::fields::get_u64(s, 48);
-    if is_unknown(known, in_opts, out_opts) {
+    if inner::is_unknown(known, in_opts, out_opts) {
         return false;
     }
     if FLAGS <= le::fields::get_u8(s, 80) {
@@ -229,7 +221,7 @@ pub fn create(
     if is_small(s.len(), n) {
         return Created::Small;
     }
-    if is_unknown(known, in_opts, out_opts) {
+    if inner::is_unknown(known, in_opts, out_opts) {
         return Created::BadOpt;
     }
     if FLAGS <= flags {

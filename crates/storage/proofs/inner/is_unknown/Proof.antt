@@ -1,8 +1,8 @@
 -- Each return is a test of the rule. Assumes nothing.
 use mathlib.Core.Path.{sym}
 use Rattle.storage.proofs.Refusals.{in-unknown, by-out}
-use Rattle.storage.proofs.is_unknown.Statement.{statement}
-use Rattle.storage.proofs.is_unknown.Tie as tie
+use Rattle.storage.proofs.inner.is_unknown.Statement.{statement}
+use Rattle.storage.proofs.inner.is_unknown.Tie as tie
 
 returns : tie.Need-returns
 returns c = sym (in-unknown _ _ _ (c .if1 .taken))
