@@ -1,4 +1,4 @@
--- What is proved of the calls of this crate.
+-- What is proved of the calls on saved state.
 pub mod Records
 pub mod Loads
 pub mod StateHead

@@ -1,3 +1,3 @@
--- What the contracts of this crate say.
+-- What the calls on saved state answer, and the bytes that they leave.
 pub mod Restoring
 pub mod Both

@@ -1,2 +1,2 @@
-// Saved state over the storage of an instance.
+// The saved state of an instance in lent bytes: save and restore.
 pub mod restoring;
