@@ -13,12 +13,12 @@ use Rattle.rules.specs.Listing.{direntsFrom, laid as laidRecords, listRule}
 use Rattle.le.specs.Mem.{write}
 use Rattle.tables.specs.View.{nodesOf, view}
 use Rattle.tables.specs.Rule.{laid}
-use Rattle.tables.specs.Call.{Told, toldBy}
+use Rattle.tables.specs.Call.{Told, toldBy, writtenBy}
 use Rattle.dirent.specs.Entry.{Lays}
 use Rattle.storage.proofs.Laid.{told-small, told-by}
 use Rattle.listing.specs.declared.Listed.{Listed}
 use Rattle.listing.specs.declared.Listed.the-variants.{Wrote, NoEnt, Small}
-use Rattle.listing.specs.Listed.{listedTold, writtenBy, listing, Lists}
+use Rattle.listing.specs.Listed.{listedTold, listing, Lists}
 
 -- ---- the answers are known by their meaning
 

@@ -1,2 +1,2 @@
--- What the contracts of this crate say: a name copied, and what a listing answers and leaves.
+-- What the contracts of this crate say: what a listing answers and leaves.
 pub mod Listed

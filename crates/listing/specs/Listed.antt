@@ -1,34 +1,22 @@
 -- What a listing answers and leaves, by the rule on the instance that the bytes stand for.
 use Prim.Native.Nat.{ℕ}
 use mathlib.Core.Path.{_≡_}
-use mathlib.Core.Bool.{cond}
-use mathlib.Core.List.{List, [], _++_}
-use lib.ListN.{length, drop}
+use mathlib.Core.List.{List}
+use lib.ListN.{length}
 use Rattle.rules.specs.Numbers.{DONE, NOENT}
 use Rattle.rules.specs.Instance.{Instance}
 use Rattle.rules.specs.Outcome.{nothing, wrote, Outcome}
 use Rattle.rules.specs.Listing.{ListRequest, listRule}
 use Rattle.le.specs.Mem.{write}
-use Rattle.tables.specs.View.{view}
-use Rattle.tables.specs.Rule.{laid}
-use Rattle.tables.specs.Call.{Told, toldSmall, answeredBy}
+use Rattle.tables.specs.Call.{Told, toldSmall, answeredBy, writtenBy}
 use Rattle.listing.specs.declared.Listed.{Listed}
 use Rattle.listing.specs.declared.Listed.the-variants.{Wrote, NoEnt, Small}
-
--- a name at the start of the bytes d: n is its length, and e holds it and behind it what d held
-pub record Copied (name d : List ℕ) (n : ℕ) (e : List ℕ) : Type 0 where
-  pub count : n ≡ length name
-  pub bytes : e ≡ name ++ drop n d
 
 -- the number of each answer and its values (R15, R16)
 unfoldable pub listedTold : Listed → Told
 listedTold (Wrote n) = record { code = DONE; answer = wrote n; count = 0 }
 listedTold NoEnt = record { code = NOENT; answer = nothing; count = 0 }
 listedTold Small = toldSmall
-
--- the bytes that a rule lays at the start of the lent output; none where the layout rule is broken (R17)
-unfoldable pub writtenBy : List ℕ → (Instance → Outcome) → List ℕ
-writtenBy mem f = cond (laid mem) (f (view mem) .written) []
 
 -- the rule for a request on the lent output d (R63 to R66)
 abbrev pub listing : ℕ → ℕ → ℕ → List ℕ → Instance → Outcome

@@ -9,7 +9,7 @@ ghost use Rattle.tables.specs.Layout.{capacityOf, countOf};
 ghost use Rattle.tables.specs.View.{nodeAt, nodesOf};
 ghost use Rattle.tables.specs.Rule.{Laid};
 ghost use Rattle.dirent.specs.Entry.{entry, Lays};
-ghost use Rattle.listing.specs.Listed.{Copied, Lists};
+ghost use Rattle.listing.specs.Listed.{Lists};
 
 // What a listing answers: how many bytes were written, NOENT or SMALL.
 pub enum Listed {
@@ -21,25 +21,6 @@ pub enum Listed {
 // The longest name (R10).
 const NAME: usize = 255;
 
-// Copies the name of row i to the start of the lent bytes: its length. Its last seven bytes stand apart from those before them.
-fn copy_name(s: &[u8], i: usize, out: &mut [u8]) -> usize
-    requires { ⌜ Laid (now s) ⌝ }
-    requires { ⌜ i < countOf (now s) ⌝ }
-    requires { ⌜ 255 ≤ length (now out) ⌝ }
-    ensures { λ r. ⌜ Copied (nodeAt (capacityOf (now (s .entry))) (now (s .entry)) i .called) (now (out .entry)) r (now (out .exit)) ⌝ }
-{
-    let n = tables::header::capacity(s);
-    let at = tables::rows::TABLE + 24 * n + 8 * i;
-    let len = le::fields::get_u8(s, at) as usize;
-    if len <= 7 {
-        le::runs::copy_run(out, 0, s, at + 1, len);
-        return len;
-    }
-    le::runs::copy_run(out, 0, s, tables::rows::TABLE + 44 * n + 248 * i, len - 7);
-    le::runs::copy_run(out, len - 7, s, at + 1, 7);
-    len
-}
-
 // Lays the record of row i with that offset at the start of the lent bytes: its length, or 0 and all as it was where it does not fit (R64, R65).
 fn lay_row(s: &[u8], i: usize, off: u64, out: &mut [u8]) -> usize
     requires { ⌜ Laid (now s) ⌝ }
@@ -47,7 +28,7 @@ fn lay_row(s: &[u8], i: usize, off: u64, out: &mut [u8]) -> usize
     ensures { λ r. ⌜ Lays (now (out .entry)) (length (now (out .entry))) (entry (nodeAt (capacityOf (now (s .entry))) (now (s .entry)) i .number) off (nodeAt (capacityOf (now (s .entry))) (now (s .entry)) i .called) ∷ []) r (now (out .exit)) ⌝ }
 {
     let mut name = [0u8; NAME];
-    let len = copy_name(s, i, &mut name);
+    let len = row_name::copy_name(s, i, &mut name, 0);
     dirent::write_dirent(out, tables::rows::number(s, i), off, &name[..len])
 }
 

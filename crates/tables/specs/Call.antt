@@ -1,7 +1,7 @@
 -- The common form of the contracts of calls on an instance in bytes.
 use Prim.Native.Nat.{ℕ}
 use mathlib.Core.Bool.{cond, true}
-use mathlib.Core.List.{List}
+use mathlib.Core.List.{List, []}
 use mathlib.Core.Path.{_≡_}
 use Rattle.rules.specs.Numbers.{SMALL}
 use Rattle.rules.specs.Instance.{Instance}
@@ -24,6 +24,10 @@ toldSmall = record { code = SMALL; answer = nothing; count = 0 }
 -- by a rule on the instance that the bytes stand for; SMALL where they break the layout rule (R19, R21)
 unfoldable pub answeredBy : List ℕ → (Instance → Outcome) → Told
 answeredBy mem f = cond (laid mem) (toldBy (f (view mem))) toldSmall
+
+-- the bytes that a rule lays at the start of the lent output; none where the layout rule is broken (R17)
+unfoldable pub writtenBy : List ℕ → (Instance → Outcome) → List ℕ
+writtenBy mem f = cond (laid mem) (f (view mem) .written) []
 
 -- what a call that writes tells and leaves: the answer; the bytes exactly; they stand for what the rule leaves, and keep the layout rule
 pub record Does (mem : List ℕ) (f : Instance → Outcome) (told : Told) (after exact : List ℕ) : Type 0 where

@@ -1,0 +1,80 @@
+-- The name of a row, copied from its two cells. Assumes nothing.
+use mathlib.Core.Path.{_≡_, refl, sym, ap, _∙_}
+use mathlib.Core.List.{List, _++_}
+use Prim.Native.Nat.{ℕ, _+_, _-_, _≤_, _<_, min}
+use native.Mathlib.Decide.{decLe}
+use native.Mathlib.Omega.{arith}
+use lib.ListN.{length, getD, take, length-append}
+use lib.Seq.{take-all}
+use Rattle.rules.proofs.Fields.{length-read}
+use Rattle.le.specs.Mem.{read, get, write}
+use Rattle.le.proofs.Lens.{get-one, take-read, write-append}
+use Rattle.tables.specs.Table.{row}
+use Rattle.tables.specs.Layout.{lastAt, firstAt}
+use Rattle.tables.specs.View.{nameFrom, nodeFrom, nodeAt}
+use Rattle.row_name.specs.Copied.{Copied}
+
+-- the first w of k bytes, which are all of them where w is larger
+take-least : (mem : List ℕ) (p k w : ℕ) → take w (read mem p k) ≡ read mem p (min w k)
+take-least mem p k w = go (decLe w k)
+  where
+    go : Dec (w ≤ k) → take w (read mem p k) ≡ read mem p (min w k)
+    go (yes h) = let e : min w k ≡ w = omega arith in rw e (take-read mem p k w h)
+    go (no h) = let e : min w k ≡ k = omega arith in rw e (take-all w (read mem p k) (omega (arith, length-read mem p k)))
+
+module _ (n : ℕ) (mem : List ℕ) (i : ℕ) where
+  abbrev name : List ℕ
+  name = nodeAt n mem i .called
+
+  abbrev byte : ℕ
+  byte = get 1 mem (lastAt n i)
+
+  cells : name ≡ take (getD mem (lastAt n i) 0 - 7) (read mem (firstAt n i) 248) ++ take (min (getD mem (lastAt n i) 0) 7) (read mem (lastAt n i + 1) 7)
+  unfolding nodeAt nodeFrom row nameFrom read
+  cells = refl
+
+  by-byte : name ≡ read mem (firstAt n i) (min (byte - 7) 248) ++ read mem (lastAt n i + 1) (min (min byte 7) 7)
+  by-byte = cells ∙ rw (get-one mem (lastAt n i), take-least mem (firstAt n i) 248 (byte - 7), take-least mem (lastAt n i + 1) 7 (min byte 7))
+
+  size : length name ≡ min (byte - 7) 248 + min byte 7
+  size =
+      let p : List ℕ = read mem (firstAt n i) (min (byte - 7) 248) in
+      let q : List ℕ = read mem (lastAt n i + 1) (min (min byte 7) 7) in
+      ap length by-byte ∙ length-append p q
+      ∙ omega (arith, length-read mem (firstAt n i) (min (byte - 7) 248), length-read mem (lastAt n i + 1) (min (min byte 7) 7))
+
+  -- no name is longer, whatever the bytes are
+  pub name-short : (l : ℕ) → l ≡ length name → l ≤ 255
+  name-short l e = omega (arith, size)
+
+  -- the first byte of its cell is its length
+  pub name-size : (l : ℕ) → l ≡ byte → l < 256 → l ≡ length name
+  name-size l e h = omega (arith, size)
+
+  -- the bytes before the last seven, and those
+  two : (l : ℕ) → l ≡ length name → name ≡ read mem (firstAt n i) (l - 7) ++ read mem (lastAt n i + 1) (min l 7)
+  two l e =
+      let a : min (byte - 7) 248 ≡ l - 7 = omega (arith, size) in
+      let b : min (min byte 7) 7 ≡ min l 7 = omega (arith, size) in
+      by-byte ∙ rw (a, b)
+
+  -- ---- its l bytes into d at a place
+
+  module _ (l : ℕ) (d : List ℕ) (to : ℕ) (e : l ≡ length name) where
+    -- the last bytes are all of it
+    pub copied-short : l ≤ 7 → (f : List ℕ) → f ≡ write d to (read mem (lastAt n i + 1) l) → Copied name d to l f
+    unfolding read
+    copied-short h f w =
+        let z : l - 7 ≡ 0 = omega arith in
+        let m : min l 7 ≡ l = omega arith in
+        record { count = e; bytes = w ∙ ap (write d to) (sym (two l e ∙ rw (z, m))) }
+
+    -- the bytes before the last seven, and those
+    pub copied-long : 7 < l → (f g : List ℕ) → f ≡ write d to (read mem (firstAt n i) (l - 7)) → g ≡ write f (to + (l - 7)) (read mem (lastAt n i + 1) 7) → Copied name d to l g
+    copied-long h f g w v =
+        let m : min l 7 ≡ 7 = omega arith in
+        let p : List ℕ = read mem (firstAt n i) (l - 7) in
+        let q : List ℕ = read mem (lastAt n i + 1) 7 in
+        let one : write (write d to p) (to + (l - 7)) q ≡ write d to (p ++ q) =
+        ap (λ (k : ℕ). write (write d to p) (to + k) q) (sym (length-read mem (firstAt n i) (l - 7))) ∙ sym (write-append d to p q) in
+        record { count = e; bytes = v ∙ ap (λ (x : List ℕ). write x (to + (l - 7)) q) w ∙ one ∙ ap (write d to) (sym (two l e ∙ rw m)) }

@@ -1,0 +1,37 @@
+// The name of a row of the node table: how long it is, and its bytes brought together where a caller wants them.
+ghost use mathlib.Core.Path.{_≡_};
+ghost use Prim.Native.Nat.{_+_, _≤_, _<_};
+ghost use lib.ListN.{length};
+ghost use Rattle.tables.specs.Layout.{capacityOf, countOf};
+ghost use Rattle.tables.specs.View.{nodeAt};
+ghost use Rattle.tables.specs.Rule.{Laid};
+ghost use Rattle.row_name.specs.Copied.{Copied};
+
+// How many bytes the name of row i has (R10).
+pub fn name_len(s: &[u8], i: usize) -> usize
+    requires { ⌜ Laid (now s) ⌝ }
+    requires { ⌜ i < countOf (now s) ⌝ }
+    ensures { λ r. ⌜ r ≡ length (nodeAt (capacityOf (now (s .entry))) (now (s .entry)) i .called) ⌝ }
+{
+    let n = tables::header::capacity(s);
+    le::fields::get_u8(s, tables::rows::TABLE + 24 * n + 8 * i) as usize
+}
+
+// Copies the name of row i into the lent bytes at a place: its length. Its last seven bytes stand apart from those before them (R10).
+pub fn copy_name(s: &[u8], i: usize, out: &mut [u8], to: usize) -> usize
+    requires { ⌜ Laid (now s) ⌝ }
+    requires { ⌜ i < countOf (now s) ⌝ }
+    requires { ⌜ to + length (nodeAt (capacityOf (now s)) (now s) i .called) ≤ length (now out) ⌝ }
+    ensures { λ r. ⌜ Copied (nodeAt (capacityOf (now (s .entry))) (now (s .entry)) i .called) (now (out .entry)) to r (now (out .exit)) ⌝ }
+{
+    let len = name_len(s, i);
+    let n = tables::header::capacity(s);
+    let at = tables::rows::TABLE + 24 * n + 8 * i;
+    if len <= 7 {
+        le::runs::copy_run(out, to, s, at + 1, len);
+        return len;
+    }
+    le::runs::copy_run(out, to, s, tables::rows::TABLE + 44 * n + 248 * i, len - 7);
+    le::runs::copy_run(out, to + (len - 7), s, at + 1, 7);
+    len
+}
