@@ -7,3 +7,5 @@ pub mod Loading
 pub mod StateWays
 pub mod StateAnswers
 pub mod Both
+pub mod SaveRecords
+pub mod SaveWays

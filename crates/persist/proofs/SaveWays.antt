@@ -1,0 +1,155 @@
+-- The answers of a save: a law for each, that the contract allows one alone, and how much is written at most. Assumes nothing.
+use mathlib.Core.Path.{_≡_, refl, sym, ap, _∙_}
+use mathlib.Core.Bool.{Bool, true, false}
+use mathlib.Core.List.{List, [], _∷_, _++_}
+use Prim.Native.Nat.{ℕ, zero, suc, _+_, _≤_, _<_}
+use native.Mathlib.Nat.{zero-add}
+use native.Mathlib.Decide.{decLe}
+use native.Mathlib.Omega.{arith}
+use lib.ListN.{length}
+use borrow.Author.Tests.{lt-ltb, le-ltb}
+use Rattle.rules.specs.Numbers.{SMALL}
+use Rattle.rules.specs.Tree.{Node}
+use Rattle.rules.specs.Instance.{Options}
+use Rattle.rules.specs.Outcome.{wrote, Outcome, refused, writes, firstOf}
+use Rattle.rules.specs.Saved.{optionsRow, optionsBytes, trailerBytes, encode}
+use Rattle.rules.specs.Restore.{entriesFor, saved, saveRule}
+use Rattle.rules.specs.RoundTrip.{NamesTo}
+use Rattle.rules.proofs.Fields.{total, fields-length}
+use Rattle.rules.proofs.RoundTrip.{encode-length, longest}
+use Rattle.le.specs.Mem.{get, write}
+use Rattle.le.proofs.Lens.{write-append}
+use Rattle.tables.specs.Table.{row, tab}
+use Rattle.tables.specs.Layout.{capacityOf, countOf, nextOf, counterAt}
+use Rattle.tables.specs.View.{optionsFrom, headOf, nodeAt, nodesOf, view}
+use Rattle.tables.specs.Rule.{laid}
+use Rattle.tables.specs.Call.{Told, toldBy, writtenBy}
+use Rattle.tables.proofs.Places.{nodes-count}
+use Rattle.tables.proofs.Find.{nodes-of}
+use Rattle.tables.proofs.Keeps.{laid-is}
+use Rattle.storage.proofs.Laid.{told-small, told-by}
+use Rattle.row_name.proofs.Names.{name-short}
+use Rattle.persist.specs.declared.saving.Saved.{Saved}
+use Rattle.persist.specs.declared.saving.Saved.the-variants.{Wrote, Small}
+use Rattle.persist.specs.Saving.{savedTold, saving, Puts, Saves, NeverLonger, Enough}
+use Rattle.persist.proofs.SaveRecords.{records}
+
+-- ---- the answers are known by their meaning
+
+pub savedTold-injective : (a b : Saved) → savedTold a ≡ savedTold b → a ≡ b
+unfolding savedTold
+savedTold-injective (Wrote n) (Wrote m) e = let h : wrote n ≡ wrote m = ap (λ (t : Told). t .answer) e in cc
+savedTold-injective (Wrote n) Small e = absurd (omega (arith, ap (λ (t : Told). t .code) e))
+savedTold-injective Small (Wrote m) e = absurd (omega (arith, ap (λ (t : Told). t .code) e))
+savedTold-injective Small Small e = refl
+
+-- any two answers that the contract allows are equal, and so are the bytes after
+pub saves-once : (mem d : List ℕ) (r t : Saved) (e f : List ℕ) → Saves mem d r e → Saves mem d t f → (r ≡ t) × (e ≡ f)
+saves-once mem d r t e f a b = (savedTold-injective r t (a .answer ∙ sym (b .answer)), a .bytes ∙ sym (b .bytes))
+
+-- ---- lengths
+
+entries-count : (ns : List Node) → length (entriesFor ns) ≡ length ns
+unfolding entriesFor
+entries-count [] = refl
+entries-count (n ∷ ns) = ap suc (entries-count ns)
+
+options-long : (o : Options) → length (optionsBytes o) ≡ 32
+unfolding optionsBytes total
+options-long o = fields-length optionsRow (o .inOpts ∷ o .outOpts ∷ o .mapping .internal ∷ o .mapping .external ∷ o .mapping .range ∷ o .flags ∷ 0 ∷ []) refl
+
+-- ---- each answer
+
+module _ (mem d : List ℕ) where
+  pub saves-small : laid mem ≡ false → Saves mem d Small d
+  unfolding savedTold writtenBy write
+  saves-small l = record { answer = sym (told-small mem (saving d) l); bytes = rw l }
+
+  -- by the outcome of the rule
+  module _ (l : laid mem ≡ true) (o : Outcome) (q : saving d (view mem) ≡ o) where
+    by-rule : (r : Saved) (e : List ℕ) → savedTold r ≡ toldBy o → e ≡ write d 0 (o .written) → Saves mem d r e
+    unfolding writtenBy
+    by-rule r e a b = record { answer = a ∙ sym (told-by mem (saving d) l ∙ ap toldBy q); bytes = b ∙ sym (rw (l, q)) }
+
+  -- what is saved: its parts, and its size
+  abbrev state : List ℕ
+  state = encode (saved (view mem))
+
+  parts : (end : ℕ) → end ≡ length (records mem)
+      → state ≡ records mem ++ (optionsBytes (optionsFrom (headOf mem)) ++ trailerBytes end (length (entriesFor (nodesOf mem))) (nextOf mem) (counterAt mem))
+  unfolding encode saved view row get
+  parts end e = rw e
+
+  size : length state ≡ length (records mem) + 56
+  unfolding saved view
+  size = encode-length (saved (view mem))
+
+  module _ (l : laid mem ≡ true) where
+    pub saves-full : length d < length state → Saves mem d Small d
+    unfolding savedTold write saveRule firstOf
+    saves-full h = by-rule l (refused SMALL (view mem)) (rw (lt-ltb (length d) (length state) h)) Small d refl refl
+
+    pub saves-all : length state ≤ length d → Saves mem d (Wrote (length state)) (write d 0 state)
+    unfolding savedTold saveRule firstOf
+    saves-all h = by-rule l (writes state (view mem)) (rw (le-ltb (length d) (length state) h)) (Wrote (length state)) (write d 0 state) refl refl
+
+    -- as the code finds it
+    module _ (end : ℕ) (e : end ≡ length (records mem)) where
+      pub saves-no-room : length d < end + 56 → Saves mem d Small d
+      saves-no-room h = saves-full (omega (arith, size))
+
+      -- the records, the options and the trailer, one behind the other
+      pub saves-whole : end + 56 ≤ length d → (n : ℕ) (d₁ d₂ d₃ : List ℕ) (c x k : ℕ) → c ≡ countOf mem → x ≡ nextOf mem → k ≡ counterAt mem
+          → Puts (records mem) d n d₁ → d₂ ≡ write d₁ end (optionsBytes (optionsFrom (headOf mem))) → d₃ ≡ write d₂ (end + 32) (trailerBytes end c x k)
+          → Saves mem d (Wrote (end + 56)) d₃
+      saves-whole h n d₁ d₂ d₃ c x k f g j p q r =
+          let os : List ℕ = optionsBytes (optionsFrom (headOf mem)) in
+          let ts : List ℕ = trailerBytes end (countOf mem) (nextOf mem) (counterAt mem) in
+          let all : state ≡ records mem ++ (os ++ ts) = parts end e ∙ rw (entries-count (nodesOf mem), nodes-count mem) in
+          let a : 0 + length (records mem) ≡ end = zero-add (length (records mem)) ∙ sym e in
+          let w : write d 0 state ≡ write (write (write d 0 (records mem)) end os) (end + 32) ts =
+          ap (write d 0) all ∙ write-append d 0 (records mem) (os ++ ts) ∙ write-append (write d 0 (records mem)) (0 + length (records mem)) os ts
+          ∙ rw (a, options-long (optionsFrom (headOf mem))) in
+          let last : d₃ ≡ write d 0 state = r ∙ rw (f, g, j, q, p .bytes) (sym w) in
+          let s : end + 56 ≡ length state = omega (arith, size) in
+          rw (last, s) (saves-all (omega (arith, size)))
+
+-- ---- how much is written at most
+
+-- whatever the rows are, their names are short
+names-to : (f : ℕ → Node) → ((j : ℕ) → length (f j .called) ≤ 255) → (i k : ℕ) → NamesTo 255 (entriesFor (tab f i k))
+unfolding NamesTo entriesFor tab
+names-to f h i zero = tt
+names-to f h i (suc k) = (h i, names-to f h (i + 1) k)
+
+at-most : (mem : List ℕ) → laid mem ≡ true → length (encode (saved (view mem))) ≤ 279335
+unfolding saved view
+at-most mem l =
+    let r = laid-is mem l in
+    let few : length (entriesFor (nodesOf mem)) ≤ 1023 = omega (arith, entries-count (nodesOf mem), nodes-count mem, r .live, r .few-nodes) in
+    let short : NamesTo 255 (entriesFor (nodesOf mem)) =
+    rw (nodes-of mem) (names-to (nodeAt (capacityOf mem) mem) (λ j. name-short (capacityOf mem) mem j _ refl) 0 (countOf mem)) in
+    longest .most (saved (view mem)) few short
+
+not-small : (n : ℕ) → Wrote n ≡ Small → ⊥
+unfolding savedTold
+not-small n e = omega (arith, ap (λ (r : Saved). savedTold r .code) e)
+
+same-count : (n m : ℕ) → Wrote n ≡ Wrote m → n ≡ m
+same-count n m e = cc
+
+-- the theorem: no save writes more than 279,335 bytes
+pub never-longer : NeverLonger
+never-longer mem d n e w = by-laid (laid mem) refl
+  where
+    by-room : laid mem ≡ true → Dec (length (encode (saved (view mem))) ≤ length d) → n ≤ 279335
+    by-room l (yes h) = omega (arith, at-most mem l, same-count n _ (saves-once mem d _ _ _ _ w (saves-all mem d l h) .0))
+    by-room l (no h) = absurd (not-small n (saves-once mem d _ _ _ _ w (saves-full mem d l (omega arith)) .0))
+
+    by-laid : (b : Bool) → laid mem ≡ b → n ≤ 279335
+    by-laid true l = by-room l (decLe (length (encode (saved (view mem)))) (length d))
+    by-laid false l = absurd (not-small n (saves-once mem d _ _ _ _ w (saves-small mem d l) .0))
+
+-- the theorem: 279,335 bytes are enough for every state
+pub enough : Enough
+enough mem d r e l h w = saves-once mem d _ _ _ _ w (saves-all mem d l (omega (arith, at-most mem l))) .0

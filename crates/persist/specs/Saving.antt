@@ -1,0 +1,55 @@
+-- What a save answers and leaves, by the rule on the instance that the bytes stand for; and how much it can be.
+use Prim.Native.Nat.{ℕ, _≤_}
+use mathlib.Core.Path.{_≡_}
+use mathlib.Core.Bool.{true}
+use mathlib.Core.List.{List}
+use lib.ListN.{length}
+use Rattle.rules.specs.Numbers.{DONE}
+use Rattle.rules.specs.Instance.{Options, Instance}
+use Rattle.rules.specs.Outcome.{wrote, Outcome}
+use Rattle.rules.specs.Saved.{encode}
+use Rattle.rules.specs.Restore.{saved, saveRule}
+use Rattle.le.specs.Mem.{write}
+use Rattle.tables.specs.View.{view}
+use Rattle.tables.specs.Rule.{laid}
+use Rattle.tables.specs.Call.{Told, toldSmall, answeredBy, writtenBy}
+use Rattle.persist.specs.declared.saving.Saved.{Saved}
+use Rattle.persist.specs.declared.saving.Saved.the-variants.{Wrote, Small}
+
+-- bytes put at the start of d: n is their number, and e holds them and behind them what d held
+pub record Puts (bs d : List ℕ) (n : ℕ) (e : List ℕ) : Type 0 where
+  pub count : n ≡ length bs
+  pub bytes : e ≡ write d 0 bs
+
+-- options by their numbers (R27)
+abbrev pub optionsBy : ℕ → ℕ → ℕ → ℕ → ℕ → ℕ → Options
+optionsBy inOpts outOpts internal external range flags = record {
+  inOpts = inOpts;
+  outOpts = outOpts;
+  mapping = record { internal = internal; external = external; range = range };
+  flags = flags;
+}
+
+-- the number of each answer and its values (R15, R16, R125)
+unfoldable pub savedTold : Saved → Told
+savedTold (Wrote n) = record { code = DONE; answer = wrote n; count = 0 }
+savedTold Small = toldSmall
+
+-- the rule for the lent output d (R125)
+abbrev pub saving : List ℕ → Instance → Outcome
+saving d i = saveRule i (length d)
+
+-- r is answered, and the lent output d is e then: the state stands at its start, and later bytes keep what they held
+pub record Saves (mem d : List ℕ) (r : Saved) (e : List ℕ) : Type 0 where
+  pub answer : savedTold r ≡ answeredBy mem (saving d)
+  pub bytes : e ≡ write d 0 (writtenBy mem (saving d))
+
+-- ---- how much it can be, on any storage (R124)
+
+-- no save writes more
+abbrev pub NeverLonger : Type 0
+NeverLonger = (mem d : List ℕ) (n : ℕ) (e : List ℕ) → Saves mem d (Wrote n) e → n ≤ 279335
+
+-- so many bytes are always enough: the whole state is saved
+abbrev pub Enough : Type 0
+Enough = (mem d : List ℕ) (r : Saved) (e : List ℕ) → laid mem ≡ true → 279335 ≤ length d → Saves mem d r e → r ≡ Wrote (length (encode (saved (view mem))))
