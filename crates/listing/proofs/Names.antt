@@ -5,7 +5,6 @@ use Prim.Native.Nat.{ℕ, _≤_}
 use native.Mathlib.Omega.{arith}
 use lib.ListN.{length, take, drop}
 use lib.Seq.{take-at}
-use Rattle.le.specs.Mem.{write}
 use Rattle.le.proofs.Lens.{length-write}
 use Rattle.dirent.specs.Entry.{entry, Lays}
 use Rattle.dirent.proofs.Writes.{write-over}

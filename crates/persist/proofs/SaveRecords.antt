@@ -1,8 +1,8 @@
 -- The parts of a saved state, put one behind the other: the fields of each, and the records of the rows. Assumes nothing.
 use mathlib.Core.Path.{_≡_, refl, sym, ap, _∙_}
-use mathlib.Core.List.{List, [], _∷_, _++_, append-assoc}
+use mathlib.Core.List.{List, [], _++_, append-assoc}
 use Prim.Native.Nat.{ℕ, _+_, _-_, _*_, _≤_, _<_}
-use native.Mathlib.Nat.{zero-add, add-zero, sub-zero}
+use native.Mathlib.Nat.{zero-add, sub-zero}
 use native.Mathlib.Omega.{arith}
 use lib.ListN.{length, take, drop, length-append, length-drop}
 use lib.Seq.{length-take-le}
@@ -46,10 +46,10 @@ options-put mem at o =
     simp (field-put, e₁, e₂, e₃, e₄, e₅, put-add 1 2, e₆)
 
 -- as the header has them, with their own mapping
-pub options-by : (mem d : List ℕ) (at i o a b r f : ℕ) → i ≡ get 8 mem 40 → o ≡ get 8 mem 48 → a ≡ get 4 mem 68 → b ≡ get 4 mem 72 → r ≡ get 4 mem 76 → f ≡ get 1 mem 80
-    → write d at (optionsBytes (optionsBy i o a b r f)) ≡ write d at (optionsBytes (optionsFrom (headOf mem)))
+pub options-by : (mem d e : List ℕ) (at i o a b r f : ℕ) → i ≡ get 8 mem 40 → o ≡ get 8 mem 48 → a ≡ get 4 mem 68 → b ≡ get 4 mem 72 → r ≡ get 4 mem 76 → f ≡ get 1 mem 80
+    → e ≡ write d at (optionsBytes (optionsBy i o a b r f)) → e ≡ write d at (optionsBytes (optionsFrom (headOf mem)))
 unfolding row get
-options-by mem d at i o a b r f e₁ e₂ e₃ e₄ e₅ e₆ = rw (e₁, e₂, e₃, e₄, e₅, e₆)
+options-by mem d e at i o a b r f e₁ e₂ e₃ e₄ e₅ e₆ w = rw (e₁, e₂, e₃, e₄, e₅, e₆) at w
 
 pub trailer-put : (mem : List ℕ) (at offset count next counter : ℕ)
     → put 4 (put 2 (put 1 (put 1 (put 8 (put 4 (put 4 mem at offset) (at + 4) count) (at + 8) next) (at + 16) counter) (at + 17) 1) (at + 18) 0) (at + 20) 0
@@ -70,9 +70,9 @@ module _ (n : Entry) (d : List ℕ) where
   record-put = simp (append-assoc, field-put)
 
   pub record-puts : (x y len m : ℕ) (e₁ e₂ e₃ e₄ : List ℕ) → x ≡ n .number → y ≡ n .above → len ≡ length (n .called)
-      → e₁ ≡ put 8 d 0 x → e₂ ≡ put 8 e₁ 8 y → e₃ ≡ put 2 e₂ 16 len → Copied (n .called) e₃ 18 m e₄ → Puts (nodeBytes n) d (18 + len) e₄
+      → e₁ ≡ put 8 d 0 x → e₂ ≡ put 8 e₁ 8 y → e₃ ≡ put 2 e₂ 16 len → Copied (n .called) e₃ 18 m e₄ → Puts (nodeBytes n) d (18 + m) e₄
   record-puts x y len m e₁ e₂ e₃ e₄ a b l p q r w = record {
-    count = ap (λ (k : ℕ). 18 + k) l ∙ sym (node-length n);
+    count = ap (λ (k : ℕ). 18 + k) (w .count) ∙ sym (node-length n);
     bytes = w .bytes ∙ rw (r, q, p, a, b, l) record-put;
   }
 
@@ -159,11 +159,9 @@ module _ (mem : List ℕ) (c : ℕ) (d₀ d : List ℕ) (at i : ℕ) (p : Puttin
   pub putting-within : at ≤ length d
   putting-within = omega (arith, p .count, p .fits, p .long)
 
-  pub putting-done : c ≤ i → Puts (records mem) d₀ at d
+  pub putting-done : c ≤ i → d ≡ write d₀ 0 (records mem)
   unfolding write
-  putting-done h =
-      let e = later-none mem c i h in
-      record { count = omega (arith, p .count, ap length e); bytes = ap (write d at) (sym e) ∙ p .bytes }
+  putting-done h = ap (write d at) (sym (later-none mem c i h)) ∙ p .bytes
 
   module _ (h : i < c) where
     -- the unwritten rest, as it is lent

@@ -31,7 +31,7 @@ use Rattle.storage.proofs.Laid.{told-small, told-by}
 use Rattle.row_name.proofs.Names.{name-short}
 use Rattle.persist.specs.declared.saving.Saved.{Saved}
 use Rattle.persist.specs.declared.saving.Saved.the-variants.{Wrote, Small}
-use Rattle.persist.specs.Saving.{savedTold, saving, Puts, Saves, NeverLonger, Enough}
+use Rattle.persist.specs.Saving.{savedTold, saving, Saves, NeverLonger, Enough}
 use Rattle.persist.proofs.SaveRecords.{records}
 
 -- ---- the answers are known by their meaning
@@ -99,10 +99,10 @@ module _ (mem d : List ℕ) where
       saves-no-room h = saves-full (omega (arith, size))
 
       -- the records, the options and the trailer, one behind the other
-      pub saves-whole : end + 56 ≤ length d → (n : ℕ) (d₁ d₂ d₃ : List ℕ) (c x k : ℕ) → c ≡ countOf mem → x ≡ nextOf mem → k ≡ counterAt mem
-          → Puts (records mem) d n d₁ → d₂ ≡ write d₁ end (optionsBytes (optionsFrom (headOf mem))) → d₃ ≡ write d₂ (end + 32) (trailerBytes end c x k)
+      pub saves-whole : end + 56 ≤ length d → (d₁ d₂ d₃ : List ℕ) (c x k : ℕ) → c ≡ countOf mem → x ≡ nextOf mem → k ≡ counterAt mem
+          → d₁ ≡ write d 0 (records mem) → d₂ ≡ write d₁ end (optionsBytes (optionsFrom (headOf mem))) → d₃ ≡ write d₂ (end + 32) (trailerBytes end c x k)
           → Saves mem d (Wrote (end + 56)) d₃
-      saves-whole h n d₁ d₂ d₃ c x k f g j p q r =
+      saves-whole h d₁ d₂ d₃ c x k f g j p q r =
           let os : List ℕ = optionsBytes (optionsFrom (headOf mem)) in
           let ts : List ℕ = trailerBytes end (countOf mem) (nextOf mem) (counterAt mem) in
           let all : state ≡ records mem ++ (os ++ ts) = parts end e ∙ rw (entries-count (nodesOf mem), nodes-count mem) in
@@ -110,7 +110,7 @@ module _ (mem d : List ℕ) where
           let w : write d 0 state ≡ write (write (write d 0 (records mem)) end os) (end + 32) ts =
           ap (write d 0) all ∙ write-append d 0 (records mem) (os ++ ts) ∙ write-append (write d 0 (records mem)) (0 + length (records mem)) os ts
           ∙ rw (a, options-long (optionsFrom (headOf mem))) in
-          let last : d₃ ≡ write d 0 state = r ∙ rw (f, g, j, q, p .bytes) (sym w) in
+          let last : d₃ ≡ write d 0 state = r ∙ rw (f, g, j, q, p) (sym w) in
           let s : end + 56 ≡ length state = omega (arith, size) in
           rw (last, s) (saves-all (omega (arith, size)))
 

@@ -57,19 +57,17 @@ fn put_record(s: &[u8], i: usize, out: &mut [u8]) -> usize
     requires { ⌜ 18 + length (nodeAt (capacityOf (now s)) (now s) i .called) ≤ length (now out) ⌝ }
     ensures { λ r. ⌜ Puts (nodeBytes (entryFor (nodeAt (capacityOf (now (s .entry))) (now (s .entry)) i))) (now (out .entry)) r (now (out .exit)) ⌝ }
 {
-    let len = name_len(s, i);
     put_u64(out, 0, tables::rows::number(s, i));
     put_u64(out, 8, tables::rows::parent(s, i));
-    put_u16(out, 16, len as u16);
-    copy_name(s, i, out, RECORD);
-    RECORD + len
+    put_u16(out, 16, name_len(s, i) as u16);
+    RECORD + copy_name(s, i, out, RECORD)
 }
 
-// Puts the records of all rows, in table order, each into the rest that is unwritten: how many bytes (R120, R126).
-fn put_records(s: &[u8], out: &mut [u8]) -> usize
+// Puts the records of all rows, in table order, each into the rest that is unwritten (R120, R126).
+fn put_records(s: &[u8], out: &mut [u8])
     requires { ⌜ Laid (now s) ⌝ }
     requires { ⌜ length (nodesBytes (entriesFor (nodesOf (now s)))) ≤ length (now out) ⌝ }
-    ensures { λ r. ⌜ Puts (nodesBytes (entriesFor (nodesOf (now (s .entry))))) (now (out .entry)) r (now (out .exit)) ⌝ }
+    ensures { λ _. ⌜ now (out .exit) ≡ write (now (out .entry)) 0 (nodesBytes (entriesFor (nodesOf (now (s .entry))))) ⌝ }
 {
     let c = tables::header::count(s);
     let mut at = 0;
@@ -79,7 +77,6 @@ fn put_records(s: &[u8], out: &mut [u8]) -> usize
         at += n;
         i += 1;
     }
-    at
 }
 
 // Puts the fields of options at a place, and their zeros (R121).

@@ -1,7 +1,6 @@
 -- The record is that of the number and the name of the row, which stands in the local bytes.
 use mathlib.Core.Path.{refl, sym}
 use Prim.Native.Nat.{_≤_}
-use native.Mathlib.Omega.{arith}
 use lib.ListN.{length}
 use lib.Seq.{length-take-le}
 use denote.Ref.{now}

@@ -1,5 +1,4 @@
 -- The options are those of the header. Assumes nothing.
-use mathlib.Core.Path.{_∙_}
 use Rattle.persist.proofs.SaveRecords.{options-by}
 use borrow.Author.Needs.{needs}
 use Rattle.persist.proofs.saving.put_options.Statement.{statement}
@@ -9,8 +8,8 @@ returns : tie.Need-returns
 returns c =
     let p = c .before .before in
     let g = p .before .before in
-    p .put-fields .ensures
-    ∙ options-by _ _ _ _ _ _ _ _ _ (g .before .before .before .before .before .get-u64 .ensures) (g .before .before .before .before .get-u642 .ensures) (g .before .before .before .get-u32 .ensures) (g .before .before .get-u322 .ensures) (g .before .get-u323 .ensures) (g .get-u8 .ensures)
+    options-by _ _ _ _ _ _ _ _ _ _ (g .before .before .before .before .before .get-u64 .ensures) (g .before .before .before .before .get-u642 .ensures) (g .before .before .before .get-u32 .ensures) (g .before .before .get-u322 .ensures) (g .before .get-u323 .ensures) (g .get-u8 .ensures)
+    (p .put-fields .ensures)
 
 pub put-options-spec : {M : Type 1} → statement M
 put-options-spec =

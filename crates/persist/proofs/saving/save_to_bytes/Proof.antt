@@ -55,7 +55,7 @@ returns-3 c =
     let k = r .before .before in
     let n = k .before .before in
     let e = n .before in
-    saves-whole _ _ (on (e .before .before)) _ (e .before .records-size .ensures .0) (e .if2 .left) _ _ _ _ _ _ _ (n .count .ensures) (k .before .next .ensures)
+    saves-whole _ _ (on (e .before .before)) _ (e .before .records-size .ensures .0) (e .if2 .left) _ _ _ _ _ _ (n .count .ensures) (k .before .next .ensures)
     (k .counter .ensures) (r .put-records .ensures) (o .put-options .ensures) (t .put-trailer .ensures)
 
 pub save-to-bytes-spec : {M : Type 1} → statement M
