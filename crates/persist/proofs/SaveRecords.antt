@@ -24,7 +24,7 @@ use Rattle.tables.proofs.Tab.{tab-next, tab-done}
 use Rattle.tables.proofs.Find.{nodes-of, left}
 use Rattle.row_name.specs.Copied.{Copied}
 use Rattle.row_name.proofs.Names.{name-short}
-use Rattle.persist.specs.Saving.{Puts, optionsBy}
+use Rattle.persist.specs.Saving.{Sizes, Puts, optionsBy}
 
 -- ---- the fields of each part, one by one
 
@@ -130,12 +130,12 @@ module _ (mem : List ℕ) (c size i : ℕ) (s : Sized mem c size i) where
     count = omega (arith, s .count, later-size mem c i h);
   }
 
-  pub sized-done : c ≤ i → (size ≡ length (records mem)) × (size ≤ 279279)
-  sized-done h = (omega (arith, s .count, ap length (later-none mem c i h)), omega (arith, s .rows, s .most, s .few))
-
   -- what is counted stays small
   pub sized-small : size ≤ 279279
   sized-small = omega (arith, s .rows, s .most, s .few)
+
+  pub sized-done : c ≤ i → Sizes mem size
+  sized-done h = record { count = omega (arith, s .count, ap length (later-none mem c i h)); most = sized-small }
 
 -- ---- put into d₀: i of c rows are done, and `at` bytes of d are written; putting the others behind these gives what putting all gives
 

@@ -8,7 +8,7 @@ ghost use Rattle.rules.specs.Restore.{entryFor, entriesFor};
 ghost use Rattle.tables.specs.Layout.{capacityOf, countOf};
 ghost use Rattle.tables.specs.View.{optionsFrom, headOf, nodeAt, nodesOf};
 ghost use Rattle.tables.specs.Rule.{Laid};
-ghost use Rattle.persist.specs.Saving.{Puts, optionsBy, Saves};
+ghost use Rattle.persist.specs.Saving.{Sizes, Puts, optionsBy, Saves};
 use le::fields::get_u8;
 use le::fields::get_u32;
 use le::fields::get_u64;
@@ -38,7 +38,7 @@ const TAIL: usize = 56;
 // How many bytes the node records take (R120).
 fn records_size(s: &[u8]) -> usize
     requires { ⌜ Laid (now s) ⌝ }
-    ensures { λ r. ⌜ (r ≡ length (nodesBytes (entriesFor (nodesOf (now (s .entry)))))) × (r ≤ 279279) ⌝ }
+    ensures { λ r. ⌜ Sizes (now (s .entry)) r ⌝ }
 {
     let c = tables::header::count(s);
     let mut size = 0;

@@ -22,7 +22,7 @@ records-size-requires : tie.Need-records-size-requires
 records-size-requires c κs = laid-is _ (on c)
 
 returns-2 : tie.Need-returns-2
-returns-2 c = saves-no-room _ _ (on (c .before .before)) _ (c .before .records-size .ensures .0) (c .if2 .taken)
+returns-2 c = saves-no-room _ _ (on (c .before .before)) _ (c .before .records-size .ensures .count) (c .if2 .taken)
 
 count-requires : tie.Need-count-requires
 count-requires c κs = laid-is _ (on (c .before .before))
@@ -36,7 +36,7 @@ counter-requires c κs = omega (arith, laid-is _ (on (c .before .before .before 
 put-records-requires : tie.Need-put-records-requires
 put-records-requires c κs =
     let r = c .before .before .before .before .before in
-    (laid-is _ (on (r .before)), omega (arith, r .records-size .ensures .0, c .before .before .before .before .if2 .left))
+    (laid-is _ (on (r .before)), omega (arith, r .records-size .ensures .count, c .before .before .before .before .if2 .left))
 
 put-options-requires : tie.Need-put-options-requires
 put-options-requires c κs = (laid-is _ (on (c .before .before .before .before .before .before .before .before .before .before)), search needs)
@@ -55,7 +55,7 @@ returns-3 c =
     let k = r .before .before in
     let n = k .before .before in
     let e = n .before in
-    saves-whole _ _ (on (e .before .before)) _ (e .before .records-size .ensures .0) (e .if2 .left) _ _ _ _ _ _ (n .count .ensures) (k .before .next .ensures)
+    saves-whole _ _ (on (e .before .before)) _ (e .before .records-size .ensures .count) (e .if2 .left) _ _ _ _ _ _ (n .count .ensures) (k .before .next .ensures)
     (k .counter .ensures) (r .put-records .ensures) (o .put-options .ensures) (t .put-trailer .ensures)
 
 pub save-to-bytes-spec : {M : Type 1} → statement M
