@@ -1,4 +1,4 @@
--- The answers of a save: a law for each, that the contract allows one alone, and how much is written at most. Assumes nothing.
+-- The answers of a save: a law for each, that the contract allows one alone, what each leaves, and how much is written at most. Assumes nothing.
 use mathlib.Core.Path.{_≡_, refl, sym, ap, _∙_}
 use mathlib.Core.Bool.{Bool, true, false}
 use mathlib.Core.List.{List, [], _∷_, _++_}
@@ -6,7 +6,7 @@ use Prim.Native.Nat.{ℕ, zero, suc, _+_, _≤_, _<_}
 use native.Mathlib.Nat.{zero-add}
 use native.Mathlib.Decide.{decLe}
 use native.Mathlib.Omega.{arith}
-use lib.ListN.{length}
+use lib.ListN.{length, drop}
 use borrow.Author.Tests.{lt-ltb, le-ltb}
 use Rattle.rules.specs.Numbers.{SMALL}
 use Rattle.rules.specs.Tree.{Node}
@@ -19,6 +19,7 @@ use Rattle.rules.proofs.Fields.{total, fields-length}
 use Rattle.rules.proofs.RoundTrip.{encode-length, longest}
 use Rattle.le.specs.Mem.{get, write}
 use Rattle.le.proofs.Lens.{write-append}
+use Rattle.dirent.proofs.Writes.{write-over}
 use Rattle.tables.specs.Table.{row, tab}
 use Rattle.tables.specs.Layout.{capacityOf, countOf, nextOf, counterAt}
 use Rattle.tables.specs.View.{optionsFrom, headOf, nodeAt, nodesOf, view}
@@ -31,7 +32,7 @@ use Rattle.storage.proofs.Laid.{told-small, told-by}
 use Rattle.row_name.proofs.Names.{name-short}
 use Rattle.persist.specs.declared.saving.Saved.{Saved}
 use Rattle.persist.specs.declared.saving.Saved.the-variants.{Wrote, Small}
-use Rattle.persist.specs.Saving.{savedTold, saving, Saves, NeverLonger, Enough}
+use Rattle.persist.specs.Saving.{savedTold, saving, Saves, Holds, DoneHolds, SmallLeaves, NeverLonger, Enough}
 use Rattle.persist.proofs.SaveRecords.{records}
 
 -- ---- the answers are known by their meaning
@@ -114,6 +115,45 @@ module _ (mem d : List ℕ) where
           let s : end + 56 ≡ length state = omega (arith, size) in
           rw (last, s) (saves-all (omega (arith, size)))
 
+-- ---- from the answer to what is left
+
+not-small : (n : ℕ) → Wrote n ≡ Small → ⊥
+unfolding savedTold
+not-small n e = omega (arith, ap (λ (r : Saved). savedTold r .code) e)
+
+same-count : (n m : ℕ) → Wrote n ≡ Wrote m → n ≡ m
+same-count n m e = cc
+
+-- the theorem: where a save is done, the whole state stands in the lent output
+pub done-holds : DoneHolds
+done-holds mem d n e w = by-laid (laid mem) refl
+  where
+    whole : laid mem ≡ true → length (state mem d) ≤ length d → Holds mem d n e
+    whole l h =
+        let o = saves-once mem d _ _ _ _ w (saves-all mem d l h) in
+        let k : n ≡ length (state mem d) = same-count n (length (state mem d)) (o .0) in
+        record { rule = l; count = k; bytes = o .1 ∙ write-over d (state mem d) h ∙ ap (λ (j : ℕ). state mem d ++ drop j d) (sym k) }
+
+    by-room : laid mem ≡ true → Dec (length (state mem d) ≤ length d) → Holds mem d n e
+    by-room l (yes h) = whole l h
+    by-room l (no h) = absurd (not-small n (saves-once mem d _ _ _ _ w (saves-full mem d l (omega arith)) .0))
+
+    by-laid : (b : Bool) → laid mem ≡ b → Holds mem d n e
+    by-laid true l = by-room l (decLe (length (state mem d)) (length d))
+    by-laid false l = absurd (not-small n (saves-once mem d _ _ _ _ w (saves-small mem d l) .0))
+
+-- the theorem: where it is refused, every byte is as it was
+pub small-leaves : SmallLeaves
+small-leaves mem d e w = by-laid (laid mem) refl
+  where
+    by-room : laid mem ≡ true → Dec (length (state mem d) ≤ length d) → e ≡ d
+    by-room l (yes h) = absurd (not-small _ (saves-once mem d _ _ _ _ (saves-all mem d l h) w .0))
+    by-room l (no h) = saves-once mem d _ _ _ _ w (saves-full mem d l (omega arith)) .1
+
+    by-laid : (b : Bool) → laid mem ≡ b → e ≡ d
+    by-laid true l = by-room l (decLe (length (state mem d)) (length d))
+    by-laid false l = saves-once mem d _ _ _ _ w (saves-small mem d l) .1
+
 -- ---- how much is written at most
 
 -- whatever the rows are, their names are short
@@ -131,24 +171,9 @@ at-most mem l =
     rw (nodes-of mem) (names-to (nodeAt (capacityOf mem) mem) (λ j. name-short (capacityOf mem) mem j _ refl) 0 (countOf mem)) in
     longest .most (saved (view mem)) few short
 
-not-small : (n : ℕ) → Wrote n ≡ Small → ⊥
-unfolding savedTold
-not-small n e = omega (arith, ap (λ (r : Saved). savedTold r .code) e)
-
-same-count : (n m : ℕ) → Wrote n ≡ Wrote m → n ≡ m
-same-count n m e = cc
-
 -- the theorem: no save writes more than 279,335 bytes
 pub never-longer : NeverLonger
-never-longer mem d n e w = by-laid (laid mem) refl
-  where
-    by-room : laid mem ≡ true → Dec (length (encode (saved (view mem))) ≤ length d) → n ≤ 279335
-    by-room l (yes h) = omega (arith, at-most mem l, same-count n _ (saves-once mem d _ _ _ _ w (saves-all mem d l h) .0))
-    by-room l (no h) = absurd (not-small n (saves-once mem d _ _ _ _ w (saves-full mem d l (omega arith)) .0))
-
-    by-laid : (b : Bool) → laid mem ≡ b → n ≤ 279335
-    by-laid true l = by-room l (decLe (length (encode (saved (view mem)))) (length d))
-    by-laid false l = absurd (not-small n (saves-once mem d _ _ _ _ w (saves-small mem d l) .0))
+never-longer mem d n e w = let h = done-holds mem d n e w in omega (arith, at-most mem (h .rule), h .count)
 
 -- the theorem: 279,335 bytes are enough for every state
 pub enough : Enough

@@ -2,8 +2,8 @@
 use Prim.Native.Nat.{ℕ, _≤_}
 use mathlib.Core.Path.{_≡_}
 use mathlib.Core.Bool.{true}
-use mathlib.Core.List.{List}
-use lib.ListN.{length}
+use mathlib.Core.List.{List, _++_}
+use lib.ListN.{length, drop}
 use Rattle.rules.specs.Numbers.{DONE}
 use Rattle.rules.specs.Instance.{Options, Instance}
 use Rattle.rules.specs.Outcome.{wrote, Outcome}
@@ -48,6 +48,21 @@ saving d i = saveRule i (length d)
 pub record Saves (mem d : List ℕ) (r : Saved) (e : List ℕ) : Type 0 where
   pub answer : savedTold r ≡ answeredBy mem (saving d)
   pub bytes : e ≡ write d 0 (writtenBy mem (saving d))
+
+-- ---- the same, read off the answer
+
+-- a done save: the storage keeps the layout rule, n is the length of its state, and the state stands before what d held behind it
+pub record Holds (mem d : List ℕ) (n : ℕ) (e : List ℕ) : Type 0 where
+  pub rule : laid mem ≡ true
+  pub count : n ≡ length (encode (saved (view mem)))
+  pub bytes : e ≡ encode (saved (view mem)) ++ drop n d
+
+abbrev pub DoneHolds : Type 0
+DoneHolds = (mem d : List ℕ) (n : ℕ) (e : List ℕ) → Saves mem d (Wrote n) e → Holds mem d n e
+
+-- a refused one leaves every byte of the lent output (R17)
+abbrev pub SmallLeaves : Type 0
+SmallLeaves = (mem d e : List ℕ) → Saves mem d Small e → e ≡ d
 
 -- ---- how much it can be, on any storage (R124)
 
