@@ -1,12 +1,14 @@
 -- Save and restore on bytes: the theorems of the rules, by the contracts. Assumes nothing.
-use mathlib.Core.Path.{_≡_, refl, sym, ap, _∙_}
+use mathlib.Core.Path.{_≡_, refl, sym, ap, _∙_, subst}
 use mathlib.Core.Bool.{Bool, true, false, cond}
-use mathlib.Core.List.{List}
-use Prim.Native.Nat.{ℕ}
+use mathlib.Core.List.{List, [], _∷_, _++_}
+use Prim.Native.Nat.{ℕ, _≤_}
+use lib.ListN.{length, take, drop}
 use native.Mathlib.Omega.{arith}
 use lib.Dec.{eqb}
 use borrow.Author.Tests.{eqb-true}
 use Rattle.rules.specs.Numbers.{DONE, SMALL}
+use Rattle.rules.specs.Bytes.{Bytes}
 use Rattle.rules.specs.Instance.{Instance}
 use Rattle.rules.specs.Outcome.{Outcome}
 use Rattle.rules.specs.Saved.{stateOf, encode}
@@ -17,9 +19,13 @@ use Rattle.tables.specs.Rule.{laid}
 use Rattle.tables.specs.Call.{Told, toldBy, toldSmall, answeredBy}
 use Rattle.storage.proofs.Laid.{told-small, told-by}
 use Rattle.persist.specs.Restoring.{stateTold, stateMem, restoreStateMem}
+use Rattle.persist.specs.Saving.{Saves}
 use Rattle.persist.specs.Both.{Restores, Back, ComesBack, SavedAgain, Unchanged}
+use Rattle.persist.specs.declared.saving.Saved.{Saved}
+use Rattle.persist.specs.declared.saving.Saved.the-variants.{Wrote}
 use Rattle.persist.specs.declared.restoring.StateRestored.{StateRestored}
 use Rattle.persist.specs.declared.restoring.StateRestored.the-variants.{Done, NotFresh, BadSave, BadOpt, NoRoom, Small}
+use Rattle.persist.proofs.SaveWays.{saves-once, saves-all, done-holds}
 
 -- ---- the number tells which answer is done
 
@@ -60,25 +66,48 @@ module _ (mem b : List ℕ) (r : StateRestored) (after : List ℕ) (w : Restores
       go false p true q = refl
       go false p false q = refl
 
+-- ---- what a save wrote
+
+front : (xs ys : List ℕ) → take (length xs) (xs ++ ys) ≡ xs
+unfolding take length _++_
+front [] ys = refl
+front (x ∷ xs) ys = ap (λ (zs : List ℕ). x ∷ zs) (front xs ys)
+
+written : (mem d : List ℕ) (n : ℕ) (e : List ℕ) → Saves mem d (Wrote n) e → take n e ≡ encode (saved (view mem))
+written mem d n e w =
+    let h = done-holds mem d n e w in
+    (λ i. take (h .count i) (h .bytes i)) ∙ front (encode (saved (view mem))) (drop n d)
+
 -- the theorem: what was saved comes back
 pub comes-back : ComesBack
-comes-back mem new r after d p l fr mask room w =
-    let g = save-then-restore (view mem) (view new) d p fr mask room in
-    let v = w .stands l in
+comes-back mem d n e new r after s dr p l fr mask room w =
+    let g = save-then-restore (view mem) (view new) dr p fr mask room in
+    let v : Restores new (encode (saved (view mem))) r after = subst (λ (b : List ℕ). Restores new b r after) (written mem d n e s) w in
+    let a = v .stands l in
     record {
-      done = code-done r (code-by new (encode (saved (view mem))) r after w l ∙ g .done);
-      keeps = w .keeps l;
-      tree = ap (λ (i : Instance). i .tree) v ∙ g .tree;
-      counter = ap (λ (i : Instance). i .indexes .counter) v ∙ g .counter;
-      options = ap (λ (i : Instance). i .options) v ∙ g .options;
+      done = code-done r (code-by new (encode (saved (view mem))) r after v l ∙ g .done);
+      keeps = v .keeps l;
+      tree = ap (λ (i : Instance). i .tree) a ∙ g .tree;
+      counter = ap (λ (i : Instance). i .indexes .counter) a ∙ g .counter;
+      options = ap (λ (i : Instance). i .options) a ∙ g .options;
     }
+
+again : (mem b after : List ℕ) → Bytes b → Restores mem b Done after → encode (saved (view after)) ≡ b
+unfolding stateTold
+again mem b after h w =
+    let l = done-laid mem b Done after w refl in
+    ap (λ (i : Instance). encode (saved i)) (w .stands l) ∙ restore-then-save (view mem) b h (sym (code-by mem b Done after w l))
 
 -- the theorem: no other bytes are accepted for it
 pub saved-again : SavedAgain
-unfolding stateTold
-saved-again mem b after h w =
-    let l = done-laid mem b Done after w refl in
-    ap (λ (i : Instance). encode (saved i)) (w .stands l) ∙ restore-then-save (view mem) b h (sym (code-by mem b Done after w l))
+saved-again mem b after h w d r e room s =
+    let q = again mem b after h w in
+    let l : laid after ≡ true = w .keeps (done-laid mem b Done after w refl) in
+    let fit : length (encode (saved (view after))) ≤ length d = omega (arith, ap length q) in
+    let o = saves-once after d _ _ _ _ s (saves-all after d l fit) in
+    let k : r ≡ Wrote (length b) = o .0 ∙ ap (λ (x : List ℕ). Wrote (length x)) q in
+    let z = done-holds after d (length b) e (subst (λ (x : Saved). Saves after d x e) k s) in
+    (k, z .bytes ∙ ap (λ (x : List ℕ). x ++ drop (length b) d) q)
 
 -- the theorem: a refusal leaves every byte
 pub unchanged : Unchanged

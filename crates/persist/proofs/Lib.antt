@@ -6,6 +6,6 @@ pub mod StateTests
 pub mod Loading
 pub mod StateWays
 pub mod StateAnswers
-pub mod Both
 pub mod SaveRecords
 pub mod SaveWays
+pub mod Both

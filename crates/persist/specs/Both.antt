@@ -1,18 +1,21 @@
 -- Demand 2 of save and restore on bytes, over the contracts: what comes back, that no other bytes are accepted for it, and what a refusal leaves.
 use mathlib.Core.Path.{_≡_}
 use mathlib.Core.Bool.{true}
-use mathlib.Core.List.{List}
+use mathlib.Core.List.{List, _++_}
 use Prim.Native.Nat.{ℕ, _≤_}
+use lib.ListN.{length, take, drop}
 use Rattle.rules.specs.Bytes.{Bytes}
 use Rattle.rules.specs.Instance.{Instance, counterOf, live}
-use Rattle.rules.specs.Saved.{encode}
-use Rattle.rules.specs.Restore.{saved, fresh, restoreRule}
+use Rattle.rules.specs.Restore.{fresh, restoreRule}
 use Rattle.rules.specs.Driven.{Driven, Present}
 use Rattle.rules.specs.Restored.{bareTree}
 use Rattle.tables.specs.View.{view}
 use Rattle.tables.specs.Rule.{laid}
 use Rattle.tables.specs.Call.{Does}
+use Rattle.persist.specs.Saving.{Saves}
 use Rattle.persist.specs.Restoring.{stateTold, restoreStateMem}
+use Rattle.persist.specs.declared.saving.Saved.{Saved}
+use Rattle.persist.specs.declared.saving.Saved.the-variants.{Wrote}
 use Rattle.persist.specs.declared.restoring.StateRestored.{StateRestored}
 use Rattle.persist.specs.declared.restoring.StateRestored.the-variants.{Done}
 
@@ -28,14 +31,16 @@ pub record Back (i : Instance) (r : StateRestored) (after : List ℕ) : Type 0 w
   pub counter : counterOf (view after) ≡ counterOf i
   pub options : view after .options ≡ i .options
 
--- what is saved of a driven instance with all parents present comes back in any fresh one with room and the same mask (R135)
+-- what a save wrote of a driven instance with all parents present comes back in any fresh one with room and the same mask (R135)
 abbrev pub ComesBack : Type 0
-ComesBack = (mem new : List ℕ) (r : StateRestored) (after : List ℕ) → Driven (view mem) → Present (view mem .tree .nodes) (view mem .tree .nodes) → laid new ≡ true → fresh (view new) ≡ true
-    → view new .fixed .known ≡ view mem .fixed .known → live (view mem) ≤ view new .fixed .capacity → Restores new (encode (saved (view mem))) r after → Back (view mem) r after
+ComesBack = (mem d : List ℕ) (n : ℕ) (e new : List ℕ) (r : StateRestored) (after : List ℕ) → Saves mem d (Wrote n) e → Driven (view mem) → Present (view mem .tree .nodes) (view mem .tree .nodes)
+    → laid new ≡ true → fresh (view new) ≡ true → view new .fixed .known ≡ view mem .fixed .known → live (view mem) ≤ view new .fixed .capacity → Restores new (take n e) r after
+    → Back (view mem) r after
 
--- what a done restore read is what is saved then (R136)
+-- a save at once after a done restore writes what was read, at the start of a lent output that has room for it (R136)
 abbrev pub SavedAgain : Type 0
-SavedAgain = (mem b after : List ℕ) → Bytes b → Restores mem b Done after → encode (saved (view after)) ≡ b
+SavedAgain = (mem b after : List ℕ) → Bytes b → Restores mem b Done after → (d : List ℕ) (r : Saved) (e : List ℕ) → length b ≤ length d → Saves after d r e
+    → (r ≡ Wrote (length b)) × (e ≡ b ++ drop (length b) d)
 
 -- a refused restore leaves every byte (R15, R128)
 abbrev pub Unchanged : Type 0
