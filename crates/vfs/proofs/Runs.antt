@@ -9,7 +9,8 @@ use Rattle.rules.specs.Instance.{Instance, counterOf}
 use Rattle.rules.specs.Outcome.{Outcome, count}
 use Rattle.rules.specs.Mount.{Request, mountRule, restoreMountRule}
 use Rattle.rules.specs.Unmount.{unmountRule}
-use Rattle.rules.specs.Calls.{Call, mount, restore-mount, umount, rule}
+use Rattle.rules.specs.Restore.{restoreRule}
+use Rattle.rules.specs.Calls.{Call, mount, restore-mount, umount, restore, rule}
 use Rattle.rules.specs.Trace.{Unrestored, total, lastFound, Laps}
 use Rattle.rules.proofs.Trace.{laps}
 use Rattle.tables.specs.View.{view}
@@ -63,6 +64,10 @@ module _ (mem : List ℕ) (t : Told) (after exact : List ℕ) where
   pub umount-allowed : (path : List ℕ) → Does mem (λ (i : Instance). unmountRule i path) t after exact → Allowed (record { before = mem; call = umount path; told = t; after = after })
   unfolding rule
   umount-allowed path d = allowed (umount path) d
+
+  pub restore-allowed : (b : List ℕ) → Does mem (λ (i : Instance). restoreRule i b) t after exact → Allowed (record { before = mem; call = restore b; told = t; after = after })
+  unfolding rule
+  restore-allowed b d = allowed (restore b) d
 
 -- a call that only reads: its rule leaves the instance
 pub read-allowed : (mem : List ℕ) (t : Told) (c : Call) → ((i : Instance) → rule i c .after ≡ i) → t ≡ answeredBy mem (λ (i : Instance). rule i c) → Allowed (record { before = mem; call = c; told = t; after = mem })

@@ -11,7 +11,7 @@ count-of-requires : tie.Need-count-of-requires
 count-of-requires c κs = search needs
 
 returns : tie.Need-returns
-returns c = search (many-by, needs)
+returns c = many-by _ _ _ _ (c .before .capacity .ensures) (c .count-of .ensures)
 
 pub is-too-many-spec : {M : Type 1} → statement M
 is-too-many-spec = tie.close (tie.spec capacity-requires count-of-requires returns)

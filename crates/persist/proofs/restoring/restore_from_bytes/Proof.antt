@@ -11,16 +11,16 @@ same-length : tie.Need-same-length
 same-length c = search needs
 
 returns : tie.Need-returns
-returns c = search (small, needs)
+returns c = small _ _ _ (c .before .is-laid .ensures) (c .if1 .taken)
 
 is-fresh-requires : tie.Need-is-fresh-requires
-is-fresh-requires c κs = search (rule-by, needs)
+is-fresh-requires c κs = rule-by _ _ (c .before .before .is-laid .ensures) (c .before .if1 .left)
 
 same-length-2 : tie.Need-same-length-2
 same-length-2 c = search needs
 
 returns-2 : tie.Need-returns-2
-returns-2 c = search (not-fresh, needs)
+returns-2 c = not-fresh _ _ _ (c .before .before .before .before .is-laid .ensures) (c .before .before .before .if1 .left) _ (c .before .is-fresh .ensures) (c .if2 .taken)
 
 is-accepted-requires : tie.Need-is-accepted-requires
 is-accepted-requires c κs = search needs
@@ -29,25 +29,25 @@ same-length-3 : tie.Need-same-length-3
 same-length-3 c = search needs
 
 returns-3 : tie.Need-returns-3
-returns-3 c = search (bad-save, needs)
+returns-3 c = bad-save _ _ _ (c .before .before .before .before .before .before .is-laid .ensures) (c .before .before .before .before .before .if1 .left) _ (c .before .before .before .is-fresh .ensures) (c .before .before .if2 .left) _ (c .before .is-accepted .ensures) (c .if3 .taken)
 
 has-unknown-requires : tie.Need-has-unknown-requires
-has-unknown-requires c κs = (search (bytes-by, needs), long-by _ _ (c .before .before .is-accepted .ensures) (c .before .if3 .left))
+has-unknown-requires c κs = (bytes-by _ _ (c .before .before .before .before .before .before .before .is-laid .ensures) (c .before .before .before .before .before .before .if1 .left), long-by _ _ (c .before .before .is-accepted .ensures) (c .before .if3 .left))
 
 same-length-4 : tie.Need-same-length-4
 same-length-4 c = search needs
 
 returns-4 : tie.Need-returns-4
-returns-4 c = search (bad-opt, needs)
+returns-4 c = bad-opt _ _ _ (c .before .before .before .before .before .before .before .before .before .is-laid .ensures) (c .before .before .before .before .before .before .before .before .if1 .left) _ (c .before .before .before .before .before .before .is-fresh .ensures) (c .before .before .before .before .before .if2 .left) _ (c .before .before .before .before .is-accepted .ensures) (c .before .before .before .if3 .left) _ (c .before .has-unknown .ensures) (c .if4 .taken)
 
 is-too-many-requires : tie.Need-is-too-many-requires
-is-too-many-requires c κs = (search (rule-by, needs), long-by _ _ (c .before .before .before .before .before .is-accepted .ensures) (c .before .before .before .before .if3 .left))
+is-too-many-requires c κs = (rule-by _ _ (c .before .before .before .before .before .before .before .before .before .before .is-laid .ensures) (c .before .before .before .before .before .before .before .before .before .if1 .left), long-by _ _ (c .before .before .before .before .before .is-accepted .ensures) (c .before .before .before .before .if3 .left))
 
 same-length-5 : tie.Need-same-length-5
 same-length-5 c = search needs
 
 returns-5 : tie.Need-returns-5
-returns-5 c = search (no-room, needs)
+returns-5 c = no-room _ _ _ (c .before .before .before .before .before .before .before .before .before .before .before .before .is-laid .ensures) (c .before .before .before .before .before .before .before .before .before .before .before .if1 .left) _ (c .before .before .before .before .before .before .before .before .before .is-fresh .ensures) (c .before .before .before .before .before .before .before .before .if2 .left) _ (c .before .before .before .before .before .before .before .is-accepted .ensures) (c .before .before .before .before .before .before .if3 .left) _ (c .before .before .before .before .has-unknown .ensures) (c .before .before .before .if4 .left) _ (c .before .is-too-many .ensures) (c .if5 .taken)
 
 put-saved-requires : tie.Need-put-saved-requires
 put-saved-requires c κs = (laid-by _ _ (c .before .before .before .before .before .before .before .before .before .before .before .before .before .is-laid .ensures) (c .before .before .before .before .before .before .before .before .before .before .before .before .if1 .left), (accepted-by _ _ (c .before .before .before .before .before .before .before .before .is-accepted .ensures) (c .before .before .before .before .before .before .before .if3 .left), fits-by _ _ _ (c .before .before .before .before .before .before .before .before .before .before .before .before .before .is-laid .ensures) (c .before .before .before .before .before .before .before .before .before .before .before .before .if1 .left) _ (c .before .before .before .before .before .before .before .before .before .before .is-fresh .ensures) (c .before .before .before .before .before .before .before .before .before .if2 .left) _ (c .before .before .before .before .before .before .before .before .is-accepted .ensures) (c .before .before .before .before .before .before .before .if3 .left) _ (c .before .before .before .before .before .has-unknown .ensures) (c .before .before .before .before .if4 .left) _ (c .before .before .is-too-many .ensures) (c .before .if5 .left)))
