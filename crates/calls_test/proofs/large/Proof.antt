@@ -1,0 +1,12 @@
+-- `calls_test::large` meets its contract: by the law of `replicate`'s length, which antt then does not compute. Assumes nothing.
+use Prim.Native.Nat.{ℕ}
+use mathlib.Core.Path.{sym}
+use lib.ListN.{length-replicate}
+use Rattle.calls_test.proofs.large.Statement.{statement}
+use Rattle.calls_test.proofs.large.Tie as tie
+
+returns : tie.Need-returns
+returns c = sym (length-replicate {0} {A = ℕ} 1114112 0)
+
+pub large-spec : {M : Type 1} → statement M
+large-spec = tie.close (tie.spec returns)

@@ -1,0 +1,58 @@
+use borrow.Author.Needs.{needs}
+use Prim.Native.Nat.{_-_, _+_, _≤_, _<_}
+use mathlib.Core.Path.{_≡_}
+use lib.ListN.{length}
+use Rattle.calls_test.proofs.sums.with_run.Statement.{statement}
+use Rattle.calls_test.proofs.sums.with_run.Tie as tie
+use Rattle.calls_test.proofs.sums.with_run.Reads as reads
+use Rattle.calls_test.proofs.sums.with_run.Lts as lts
+use Rattle.calls_test.proofs.sums.byte_at.Reads as byte-at-reads
+use Rattle.calls_test.proofs.sums.with.Reads as with-reads
+
+abbrev Inv-loop : tie.InvT-loop
+Inv-loop sum s at len x₀ i₀ x i = i ≤ len
+
+abbrev μ-loop : tie.MeasureT-loop
+μ-loop sum s at len x₀ i₀ x i = len - i
+
+-- src/sums.rt:29:5
+loop-holds : tie.Need-loop-holds Inv-loop μ-loop
+loop-holds c = search needs
+
+-- src/sums.rt:30:21
+byte-at-requires : tie.Need-byte-at-requires Inv-loop μ-loop
+byte-at-requires c κs = search needs
+
+-- src/sums.rt:30:9
+with-requires : tie.Need-with-requires Inv-loop μ-loop
+with-requires c κs = search needs
+
+-- src/sums.rt:31:9
+add-i : tie.Need-add-i Inv-loop μ-loop
+add-i c = search needs
+
+-- src/sums.rt:29:5
+loop-less : tie.Need-loop-less Inv-loop μ-loop
+loop-less c = search needs
+
+-- src/sums.rt:29:5
+loop-again : tie.Need-loop-again Inv-loop μ-loop
+loop-again c = search needs
+
+-- src/sums.rt:26:1
+returns : tie.Need-returns Inv-loop μ-loop
+returns c = search needs
+
+pub with-run-spec : {M : Type 1} → statement M
+with-run-spec =
+    tie.close
+    (tie.spec
+    Inv-loop
+    μ-loop
+    loop-holds
+    byte-at-requires
+    with-requires
+    add-i
+    loop-less
+    loop-again
+    returns)

@@ -1,0 +1,216 @@
+// Calls on the storage and the tree, and what they answer as numbers.
+use crate::regs;
+use crate::regs::arg;
+use crate::regs::low8;
+use crate::regs::low32;
+use crate::sums;
+use crate::verbs;
+use inode::NodeNumber;
+use listing::Listed;
+use pseudo_fs::Looked;
+use pseudo_fs::PathWalk;
+use storage::Created;
+use storage::IsInitialized;
+use storage::OptionsOf;
+use storage::Removal;
+
+// The number of an answer, and how many values it has, and these.
+pub struct Answer {
+    pub code: u64,
+    pub n: u8,
+    pub a: u64,
+    pub b: u64,
+    pub c: u64,
+    pub d: u64,
+    pub e: u64,
+    pub f: u64,
+}
+
+pub fn values(n: u8, a: u64, b: u64, c: u64, d: u64) -> Answer {
+    Answer {
+        code: 0,
+        n,
+        a,
+        b,
+        c,
+        d,
+        e: 0,
+        f: 0,
+    }
+}
+
+// A refusal: its number and so many zeros.
+pub fn refused(code: u64, n: u8) -> Answer {
+    Answer {
+        code,
+        n,
+        a: 0,
+        b: 0,
+        c: 0,
+        d: 0,
+        e: 0,
+        f: 0,
+    }
+}
+
+fn truth(b: bool) -> u64 {
+    if b { 1 } else { 0 }
+}
+
+fn create(s: &mut [u8], r: &[u64]) -> Answer {
+    let mapping = id_map::IdMapping {
+        internal: low32(arg(r, 5)),
+        external: low32(arg(r, 6)),
+        range: low32(arg(r, 7)),
+    };
+    let flags = low8(arg(r, 4));
+    match storage::create(
+        s,
+        arg(r, 0) as usize,
+        arg(r, 1),
+        arg(r, 2),
+        arg(r, 3),
+        flags,
+        mapping,
+    ) {
+        Created::Done => refused(0, 0),
+        Created::Small => refused(12, 0),
+        Created::BadOpt => refused(13, 0),
+        Created::BadMap => refused(9, 0),
+    }
+}
+
+fn remove(s: &mut [u8]) -> Answer {
+    match storage::set_remove_pseudo_root(s) {
+        Removal::Done => refused(0, 0),
+        Removal::Small => refused(12, 0),
+    }
+}
+
+fn init(s: &[u8]) -> Answer {
+    match storage::initialized(s) {
+        IsInitialized::Is(b) => values(1, truth(b), 0, 0, 0),
+        IsInitialized::Small => refused(12, 1),
+    }
+}
+
+fn options(s: &[u8]) -> Answer {
+    match storage::options(s) {
+        OptionsOf::Options(o) => {
+            let m = o.mapping;
+            Answer {
+                code: 0,
+                n: 6,
+                a: o.in_opts,
+                b: o.out_opts,
+                c: m.internal as u64,
+                d: m.external as u64,
+                e: m.range as u64,
+                f: o.flags as u64,
+            }
+        }
+        OptionsOf::Small => refused(12, 6),
+    }
+}
+
+// Whether there is such a node, and its number.
+fn walk(s: &[u8], path: &[u8]) -> Answer {
+    match pseudo_fs::path_walk(s, path) {
+        PathWalk::Node(x) => values(2, 1, x.0, 0, 0),
+        PathWalk::Nothing => values(2, 0, 0, 0, 0),
+        PathWalk::Inval => refused(2, 2),
+        PathWalk::Small => refused(12, 2),
+    }
+}
+
+// Full number, mode, uid, gid and block size.
+pub fn looked(l: Looked) -> Answer {
+    match l {
+        Looked::Entry(e) => {
+            let x = e.inode;
+            Answer {
+                code: 0,
+                n: 5,
+                a: x.0,
+                b: e.mode as u64,
+                c: e.uid as u64,
+                d: e.gid as u64,
+                e: e.blksize as u64,
+                f: 0,
+            }
+        }
+        Looked::NoEnt => refused(1, 5),
+        Looked::Inval => refused(2, 5),
+        Looked::Small => refused(12, 5),
+    }
+}
+
+// What stands in the lent output before a listing.
+const BEFORE: u8 = 165;
+
+// A listing into the first bytes of a buffer: how many were written, and the sum of them all.
+fn listed(s: &[u8], r: &[u64], out: &mut [u8]) -> Answer {
+    le::runs::fill_at(out, 0, out.len(), BEFORE);
+    let l = listing::readdir(s, NodeNumber(arg(r, 0)), low32(arg(r, 1)), arg(r, 2), out);
+    let sum = sums::with_run(sums::START, out, 0, out.len());
+    match l {
+        Listed::Wrote(n) => values(2, n as u64, sum, 0, 0),
+        Listed::NoEnt => with_sum(1, sum),
+        Listed::Small => with_sum(12, sum),
+    }
+}
+
+fn with_sum(code: u64, sum: u64) -> Answer {
+    Answer {
+        code,
+        n: 2,
+        a: 0,
+        b: sum,
+        c: 0,
+        d: 0,
+        e: 0,
+        f: 0,
+    }
+}
+
+fn list(s: &[u8], r: &[u64]) -> Answer {
+    let mut out = io::large_buffer();
+    let n = crate::sink::upto(arg(r, 3), &out);
+    listed(s, r, &mut out[0..n])
+}
+
+fn laid(s: &[u8]) -> Answer {
+    values(1, truth(storage::is_laid(s)), 0, 0, 0)
+}
+
+fn of_storage(verb: u8, s: &mut [u8], r: &[u64]) -> Answer {
+    match verb {
+        verbs::CREATE => create(s, r),
+        verbs::LAID => laid(s),
+        verbs::REMOVE => remove(s),
+        verbs::INIT => init(s),
+        _ => options(s),
+    }
+}
+
+fn of_tree(verb: u8, s: &[u8], text: &[u8], r: &[u64]) -> Answer {
+    match verb {
+        verbs::WALK => walk(s, text),
+        verbs::LOOK => looked(pseudo_fs::lookup(s, NodeNumber(arg(r, 0)), text)),
+        _ => list(s, r),
+    }
+}
+
+// A call by its verb.
+pub fn call(verb: u8, s: &mut [u8], text: &[u8], r: &[u64]) -> Answer {
+    if verb < verbs::WALK {
+        return of_storage(verb, s, r);
+    }
+    if verb < verbs::MOUNT {
+        return of_tree(verb, s, text, r);
+    }
+    if verb < verbs::ROUTE {
+        return crate::mounts::of_mounts(verb, s, text, r);
+    }
+    crate::mounts::of_queries(verb, s, text, r)
+}

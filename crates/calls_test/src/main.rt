@@ -1,0 +1,68 @@
+// Reads a script and makes the calls that it says on lent bytes: one line for each answer (docs/TESTS.md).
+use libc::STDIN_FILENO;
+ghost use mathlib.Core.Path.{_≡_};
+ghost use Prim.Native.Nat.{_≤_};
+ghost use lib.ListN.{length};
+
+mod calls;
+mod lines;
+mod memory;
+mod mounts;
+mod regs;
+mod sink;
+mod sums;
+mod text;
+mod verbs;
+mod views;
+
+// Room for a script, and for the lent bytes.
+fn large() -> [u8; 1114112]
+    ensures { λ r. ⌜ 1114112 ≡ length r ⌝ }
+{
+    [0; 1114112]
+}
+
+fn main() {
+    let mut input = large();
+    let n = io::read_full(STDIN_FILENO, &mut input);
+    script(&input[..n]);
+}
+
+fn script(input: &[u8]) {
+    let mut storage = large();
+    let mut kept = large();
+    let mut text = [0u8; 8192];
+    let mut out = io::large_buffer();
+    let mut regs = [0u64; 64];
+    run(
+        input,
+        &mut storage,
+        &mut kept,
+        &mut text,
+        &mut out,
+        &mut regs,
+    );
+    sink::flush(&out, &regs);
+}
+
+// Line after line, from the place that the registers name. The turns are counted down from a number that no script uses up.
+fn run(
+    input: &[u8],
+    storage: &mut [u8],
+    kept: &mut [u8],
+    text: &mut [u8],
+    out: &mut [u8],
+    regs: &mut [u64],
+) {
+    let mut turns = u64::MAX;
+    while 0 < turns {
+        let at = regs::cell(regs, regs::PLACE) as usize;
+        if input.len() <= at {
+            return;
+        }
+        let end = text::line_end(input, at);
+        regs::put(regs, regs::PLACE, end as u64 + 1);
+        lines::line(&input[at..end], storage, kept, text, out, regs);
+        turns -= 1;
+    }
+}
