@@ -77,7 +77,748 @@ def session(s):
     s("lookup", 1, '"a')
 
 
-PARTS = [session]
+def edges(s):
+    s(": the five edges")
+    fresh(s)
+    s("fill", 256, 256, 1)
+    s("poke1", 257, 0)
+    s("poke1", 81, 255)
+    mount(s, '"/x')
+    fresh(s)
+    s("fill", 257, 254, 1)
+    s("poke1", 81, 0)
+    mount(s, '"/x')
+    fresh(s)
+    s("fill", 257, 255, 9)
+    s("poke1", 81, 255)
+    mount(s, '"/x')
+    fresh(s)
+    mount(s, '"/x', root=TOP - 1)
+    mount(s, '"/y', root=TOP)
+    fresh(s, 1)
+    mount(s, '"/a')
+    mount(s, '"/')
+
+
+# ---- creation
+
+def creation(s):
+    s(": creation at the limits of N and of the bytes")
+    s("views", 1)
+    for n in (1, 2, 64, 1024):
+        room = size(n) + 64
+        s("scatter", 0, room, n)
+        s("keep", room)
+        s("watch", room)
+        for length in (0, 8191, 8192, size(n) - 1, size(n), size(n) + 64):
+            s("length", length)
+            create(s, n, 7, 5, 3, 63, (1, 2, 3))
+            for verb in ("laid", "init", "options", 'walk "/', "list 1 4096 0 4096"):
+                s(verb)
+        for at, end in ((84, 88), (96, 256), (1536, room)):
+            s("same", at, end - at)
+    s(": creation refuses in order: SMALL, BADOPT, BADMAP")
+    s("scatter", 0, size(64) + 64, 5)
+    s("watch", size(64) + 64)
+    bad_map = (2**32 - 1, 0, 1)
+    for length in (size(64) - 1, size(64)):
+        s("length", length)
+        for known in (1, 0):
+            for mapping in (bad_map, (0, 0, 1)):
+                create(s, 64, known, 1, 0, 0, mapping)
+    s("length", 600000)
+    for n in (0, 1025, 2**16, 2**32 + 64, 2**55 + 64, 2**63, MAX64):
+        create(s, n, 0, 1, 1, 64, bad_map)
+    s("length", size(64))
+    s(": option bits, flags and mappings")
+    for bit in range(0, 64, 7):
+        word = 1 << bit
+        for known, in_opts, out_opts in ((word, word, word), (MAX64 - word, word, 0), (MAX64 - word, 0, word), (MAX64, word, MAX64)):
+            create(s, 64, known, in_opts, out_opts)
+            s("options")
+    for flags in (0, 1, 32, 63, 64, 65, 127, 128, 255):
+        create(s, 64, 0, 0, 0, flags)
+        s("options")
+    top = 2**32 - 1
+    for mapping in ((0, 0, top), (1, 0, top), (0, 1, top), (top, top, 0), (top, 0, 0), (0, top, 0), (top, 0, 1), (0, top, 1),
+                    (top - 1, 5, 1), (5, top - 1, 1), (1000, 5, top - 1000), (1000, 5, top - 999), (5, 1000, top - 999), (top, top, top)):
+        create(s, 64, 0, 0, 0, 0, mapping)
+        s("options")
+        s("ids", 0, top, 1)
+        s("ids", 0, top, 0)
+
+
+def settings(s):
+    s(": settings, initialized and the options on storage that is short or whole")
+    fresh(s, 2, known=MAX64, in_opts=MAX64, out_opts=1, flags=21, mapping=(10, 20, 30))
+    for v in (0, 1, 2, 128, 255):
+        s("poke1", 83, v)
+        s("init")
+        s("options")
+    for v in (0, 1, 7):
+        s("poke1", 82, v)
+        s("remove")
+        s("remove")
+    s("length", size(2) - 1)
+    every_call(s)
+    s("length", 0)
+    every_call(s)
+
+
+def every_call(s):
+    """Each call once, with a request that is good on good storage."""
+    for line in ("laid", "init", "options", 'walk "/', 'walk "a', 'look 1 ".', "list 1 0 0 64", "list 1 4096 0 4096", "route 1",
+                 f"route {2 * TOP + 5}", 'root "/', 'lookup 1 "..', "ids 1 2 1", "ids 1 2 0", "remove"):
+        s(line)
+    mount(s, '"/')
+    mount(s, '"a')
+    mount_at(s, 3, '"/')
+    mount_at(s, 0, '"/')
+    s("umount", '"/')
+    s("umount", '"a')
+
+
+# ---- the tree
+
+PATHS = ["/", "//", "/.", "/..", "/../..", "/a", "/a/", "//a", "/./a/.", "/a/b", "/a/b/c", "/a/b/../b", "/a/../a/b", "/a/b/../../x", "/x/..",
+         "/missing", "/a/missing/..", "/missing/..", "/...", "/..a", "/a..", "/a/./b/", "/A", "/a b", "/\u00e9", "/e\u0301", "a", "", ".", "..", "a/b",
+         b"/a\0b", b"/\0", b"/a/\xff", b"\xff", b"a\xff", b"/\xc3\xa9/..", b"/\xed\xa0\x80", b"/\xf4\x90\x80\x80", b"/\xc0\x80", b"/a\xe2\x82"]
+NAMES = ["a", "b", ".", "..", "...", "", "/", "a/", "/a", "a/b", "A", "x", "\u00e9", b"a\0", b"\0", b"\xff", b"a\xc3", b"\0\xff", "a" * 255, "a" * 256, "missing"]
+
+
+def tree(s):
+    s(": walks and lookups in a tree")
+    fresh(s, 64, mapping=(0, 100000, 65536))
+    for p in ("/a/b/c", "/a/x", "/e\u0301/\u00e9", "/a b", "/" + "a" * 255, "/x/../y/./z//", "/..a/...", b"/a\0b"):
+        mount(s, text(p), uid=1, gid=65536)
+    for p in PATHS:
+        s("walk", text(p))
+        s("root", text(p))
+    for node in (1, 2, 3, 4, 0, 13, 14, 1000, TOP - 1, TOP, TOP + 1, MAX64):
+        for name in NAMES:
+            s("look", node, text(name))
+            s("lookup", node, text(name))
+    s(": walks of long paths and names")
+    s("text", '"/')
+    s("more", 255, 97)
+    s("walk", "@")
+    s("more", 1, 97)
+    s("walk", "@")
+    s("root", "@")
+    s("umount", "@")
+    s("text", '"')
+    s("loop", "=a", 0, 2700)
+    s("more", 1, 47)
+    s("more", 2, 46)
+    s("end")
+    s("walk", "@")
+    s("more", 1, 47)
+    s("more", 1, 97)
+    for verb in ("walk", "root", "umount"):
+        s(verb, "@")
+
+
+def listings(s):
+    s(": listings cut at every size, offset and buffer")
+    fresh(s, 16)
+    for k in (1, 7, 8, 9, 6, 15, 16, 17, 3, 31, 32, 33):
+        mount(s, text("/" + "n" * k))
+    mount(s, text("/n/below"))
+    s("umount", text("/nnnnnnn"))
+    whole = sum(24 + -(-k // 8) * 8 for k in (1, 7, 8, 9, 6, 15, 16, 17, 3, 31, 32, 33))
+    for room in (whole + 9, 100):
+        s("loop", "=a", 0, whole + 10)
+        s("list", 1, "a", 0, room)
+        s("end")
+    s("fold")
+    s("watch", 0)
+    s("views", 0)
+    s("loop", "=b", 0, 15)
+    s("loop", "=a", 0, whole + 10)
+    s("list", 1, "a", "b", whole)
+    s("list", 1, 4096, "b", "a")
+    s("end")
+    s("end")
+    s("plain")
+    s("watch", size(16) + 64)
+    s("views", 1)
+    for node in (0, 1, 2, 3, 14, 15, 99, TOP - 1, TOP, TOP + 1, MAX64):
+        for offset in (0, 1, 11, 12, 13, 2**32, 2**63, MAX64):
+            for n in (0, 1, 32, 2**32 - 1):
+                s("list", node, n, offset, 64)
+    s(": a directory with names of every length, and a full one")
+    fresh(s, 1024, watch=False)
+    s("views", 0)
+    s("text", '"/d/')
+    s("loop", "=a", 1, 255)
+    s("more", 1, 120)
+    mount(s, "@")
+    s("umount", "@")
+    s("end")
+    s("views", 1)
+    s("list", 2, 65536, 0, 65536)
+    s("views", 0)
+    s("set", "=b", 0)
+    s("loop", "=a", 0, 30)
+    s("list", 2, 65536, "b", 40960)
+    s("add", "=b", 9)
+    s("end")
+    s("loop", "=a", 250, 8)
+    s("list", 2, 65536, "a", 4096)
+    s("end")
+    s("set", "=b", 0)
+    s("fold")
+    s("loop", "=a", 0, 40)
+    s("list", 2, "b", 0, 40960)
+    s("list", 2, 65536, 0, "b")
+    s("add", "=b", 1027)
+    s("end")
+    s("plain")
+    s("loop", "=a", 0, 767)
+    mount(s, '"/d/k$a')
+    s("umount", '"/d/k$a')
+    s("end")
+    s("views", 1)
+    mount(s, '"/d/more')
+    for offset in (0, 1, 255, 1000, 1020, 1021, 1022, 1023):
+        s("list", 2, 65536, offset, 65536)
+
+
+# ---- damaged storage
+
+def header_bytes(s):
+    s(": every byte of the header changed, to 52 values")
+    fresh(s, 2, known=0xFF, in_opts=0x0F, out_opts=0xF0, flags=5, mapping=(7, 9, 11), watch=False)
+    s("views", 0)
+    s("scatter", 84, 4, 1)
+    s("scatter", 96, 160, 2)
+    s("scatter", 1536, size(2) - 1536 + 64, 3)
+    mount(s, '"/a', 77, 5)
+    s("keep", size(2) + 64)
+    s("watch", size(2) + 64)
+    s("loop", "=a", 0, 256)
+    s("set", "=b", 0)
+    s("fold")
+    s("loop", "=c", 0, 52)
+    s("poke1", "a", "b")
+    s("options")
+    s("walk", '"/a')
+    mount(s, '"/a', "b", "a")
+    s("back", 1536)
+    s("add", "=b", 5)
+    s("end")
+    s("plain")
+    s("end")
+    s(": a byte of the header changed, and every call")
+    s("views", 1)
+    s("fold")
+    s("loop", "=a", 0, 108)
+    for v in (0, 1, 255):
+        s("back", size(2) + 64)
+        s("poke1", "a", v)
+        every_call(s)
+    s("end")
+    s("plain")
+    s("back", size(2) + 64)
+    s(": the limits of the fields that the rule tests")
+    for at, values in ((8, (0, 1, 2, 3, 1024, 1025, 2**63, MAX64)), (16, (0, 1, 2, 3, 2**32, MAX64)), (24, (0, 1, 2, 3, TOP - 1, TOP, TOP + 1, MAX64)),
+                       (32, (0, 0xFF, 0x0F, 0xF0, MAX64)), (40, (0, 0xFF, 0x100)), (48, (0, 0xFF, 1 << 63))):
+        for v in values:
+            s("back", size(2) + 64)
+            s("poke8", at, v)
+            s("laid")
+            mount(s, '"/b')
+    top = 2**32 - 1
+    for at, values in ((56, (top, top - 11, top - 10)), (60, (top, top - 11, top - 10)), (64, (0, top, top - 9, top - 8)), (68, (top,)), (76, (top,))):
+        for v in values:
+            s("back", size(2) + 64)
+            s("poke4", at, v)
+            s("laid")
+            s("options")
+            s("ids", 7, v, 1)
+            s("ids", 9, v, 0)
+
+
+def random_bytes(s):
+    s(": random bytes, and random bytes behind a good header")
+    s("watch", 0)
+    s("loop", "=a", 0, 20)
+    s("length", size(16))
+    s("scatter", 0, size(16), "a")
+    s("views", 1)
+    s("watch", size(16) + 64)
+    s("fold")
+    every_call(s)
+    s("plain")
+    s("end")
+    for n in (1, 2, 16, 64, 1024):
+        s("length", size(n))
+        s("watch", size(n) + 64)
+        s("loop", "=a", 0, 4 if n == 1024 else 30)
+        s("scatter", 0, size(n), "a")
+        create(s, n, MAX64, 3, 5, 7, (0, 1000, 500))
+        s("scatter", 84, size(n) - 84, "a")
+        s("poke8", 16, n - 1)
+        s("random", "=b", 1000)
+        s("add", "=b", 2)
+        s("poke8", 24, "b")
+        s("random", "=b", 256)
+        s("poke1", 81, "b")
+        s("fold")
+        for line in ('walk "/', 'walk "/..', 'look 1 ".', 'lookup 1 "..', 'lookup 1 "', 'root "/', 'route 1', "list 1 65536 0 4096",
+                     "list 0 65536 0 4096", "init", "options"):
+            s(line)
+        s("watch", 0)
+        s("views", 0)
+        s("set", "=d", 1)
+        s("loop", "=c", 0, 256)
+        s("route", "d")
+        s("add", "=d", TOP)
+        s("end")
+        s("watch", size(n) + 64)
+        s("views", 1)
+        for p in ("/", "/new", "/new/er", "/x/../y", "/new", "x"):
+            mount(s, text(p), 5, 3)
+            mount_at(s, 200, text(p), 6, 3)
+        s("umount", '"/')
+        s("umount", '"/new')
+        s("remove")
+        mount_at(s, 1, '"/new')
+        s("umount", '"/new')
+        s("umount", '"/new/er')
+        s("list", 1, 65536, 0, 4096)
+        s("plain")
+        s("end")
+
+
+def odd_tables(s):
+    s(": rows with equal numbers, numbers 0, 1, next and above, circles, own parents")
+    n = 16
+    s("length", size(n))
+    s("watch", size(n) + 64)
+    s("views", 1)
+    s("seed", 2024)
+    s("loop", "=a", 0, 150)
+    s("watch", size(n) + 64)
+    s("views", 1)
+    s("fill", 8192, 512 * n, 0)
+    create(s, n, 0, 0, 0, 0, (0, 7, 3))
+    s("random", "=b", n)
+    s("poke8", 16, "b")
+    s("random", "=b", 10)
+    s("add", "=b", 2)
+    s("poke8", 24, "b")
+    s("set", "=e", 8192)
+    s("set", "=f", 8192 + 8 * n)
+    s("set", "=g", 8192 + 16 * n)
+    s("set", "=h", 8192 + 24 * n)
+    s("loop", "=c", 0, n - 1)
+    for v in ("e", "f"):
+        s("random", "=d", 12)
+        s("poke8", v, "d")
+        s("add", "=" + v, 7)
+        s("random", "=d", 3)
+        s("poke1", v, "d")
+        s("add", "=" + v, 1)
+    s("random", "=d", 9)
+    s("poke8", "g", "d")
+    s("add", "=g", 7)
+    s("random", "=d", 6)
+    s("poke1", "g", "d")
+    s("add", "=g", 1)
+    s("poke1", "h", 1)
+    s("add", "=h", 1)
+    s("random", "=d", 4)
+    s("add", "=d", 97)
+    s("poke1", "h", "d")
+    s("add", "=h", 7)
+    s("end")
+    s("loop", "=c", 0, 6)
+    s("random", "=d", 3)
+    s("poke1", 258, "d")
+    s("poke1", 261, "d")
+    s("end")
+    s("fold")
+    s("watch", 0)
+    s("views", 0)
+    s("loop", "=c", 0, 13)
+    for name in ("a", "b", "c", "d", ".", ".."):
+        s("look", "c", text(name))
+        s("lookup", "c", text(name))
+    s("list", "c", 4096, 0, 4096)
+    s("list", "c", 100, 1, 300)
+    s("end")
+    paths = ["/a", "/b", "/c", "/a/b", "/a/..", "/a/../b", "/b/../..", "/c/c/c/c", "/a/b/c/d/../..", "/d/a/../e"]
+    for p in paths:
+        s("walk", text(p))
+        s("root", text(p))
+    s("watch", size(n) + 64)
+    s("views", 1)
+    rng = random.Random(5)
+    for turn in range(3):
+        for p in paths:
+            what = rng.randrange(4)
+            if what == 0:
+                mount(s, text(p), rng.randrange(9), rng.randrange(9))
+            elif what == 1:
+                mount_at(s, rng.randrange(1, 7), text(p), rng.randrange(9), rng.randrange(9))
+            elif what == 2:
+                s("umount", text(p))
+            else:
+                mount(s, text(p), rng.randrange(9), TOP)
+        if turn == 1:
+            s("remove")
+    s("plain")
+    s("end")
+
+
+# ---- the mount tables
+
+def order(s):
+    """Every set of faults that a mount may have, on tables with and without room and a free index."""
+    s(": the order of the refusals of a mount")
+    fresh(s, 4, watch=False, views=False)
+    mount(s, '"/a/b')
+    s("watch", size(4) + 64)
+    s("views", 1)
+    s("keep", size(4) + 64)
+    for room in (1, 0):
+        for full in (0, 1):
+            s(f": room {room}, full {full}")
+            for long in (0, 1):
+                for bad in (0, 1):
+                    for rooted in (1, 0):
+                        for largest in (TOP - 1, TOP):
+                            for root in (TOP - 1, TOP):
+                                for k in (None, 1, 0):
+                                    s("back", size(4) + 64)
+                                    if full:
+                                        s("fill", 257, 255, 1)
+                                    s("text", '"/x/../n/' if rooted else '"n/')
+                                    if not room:
+                                        s("more", 1, 47)
+                                        s("more", 1, 46)
+                                        s("more", 1, 47)
+                                        s("more", 1, 98)
+                                    if bad:
+                                        s("more", 1, 255)
+                                    if long:
+                                        s("more", 256, 99)
+                                    if k is None:
+                                        mount(s, "@", 3, root, largest)
+                                    else:
+                                        mount_at(s, k, "@", 3, root, largest)
+    s(": paths at their limits")
+    s("back", size(4) + 64)
+    s("text", '"/')
+    s("more", 255, 113)
+    mount(s, "@")
+    mount_at(s, 9, "@")
+    s("more", 1, 113)
+    mount(s, "@")
+    mount_at(s, 9, "@")
+    for start, count in (("", 2048), ("a", 2047)):
+        s("back", size(4) + 64)
+        s("text", '"' + start)
+        s("loop", "=a", 0, count)
+        s("more", 1, 47)
+        s("more", 1, 46)
+        s("end")
+        mount(s, "@")
+        mount_at(s, 9, "@")
+        s("more", 1, 47)
+        mount(s, "@")
+        mount_at(s, 9, "@")
+        s("more", 1, 46)
+        mount(s, "@")
+        mount_at(s, 9, "@")
+    for p in PATHS:
+        s("back", size(4) + 64)
+        mount(s, text(p), 11)
+        mount_at(s, 200, text(p), 12)
+        s("umount", text(p))
+        s("root", text(p))
+
+
+def numbers(s):
+    s(": root numbers and largest numbers at their limits")
+    fresh(s)
+    for root in (0, 1, 2, TOP - 1, TOP, TOP + 1, MAX64):
+        for largest in (0, TOP - 1, TOP, MAX64):
+            mount(s, '"/p', 1, root, largest)
+            mount_at(s, 250, '"/q', 2, root, largest)
+            mount(s, '"/', 3, root, largest)
+        for name in ("p", "q", ".", ".."):
+            s("lookup", 1, text(name))
+        s("route", 1)
+        s("root", '"/')
+        s("root", '"/q')
+    s(": the next number at its limit")
+    for following in (TOP - 3, TOP - 2, TOP - 1, TOP):
+        fresh(s)
+        s("poke8", 24, following)
+        for p in ("/x/..", "/x/y", "/z/w/v", "/z", "/", "/w"):
+            mount(s, text(p))
+            mount_at(s, 7, text(p))
+        s("list", 1, 4096, 0, 4096)
+
+
+def tags(s):
+    s(": tags replaced, displaced and released, shared indexes")
+    for removes in (0, 1):
+        fresh(s)
+        if removes:
+            s("remove")
+        top = 2**32 - 1
+        mount(s, '"/a', 0)
+        mount(s, '"/a', top)
+        mount(s, '"/a', 5)
+        mount_at(s, 3, '"/a', 6)
+        mount_at(s, 3, '"/b', 7)
+        mount_at(s, 3, '"/b', 8)
+        s("root", '"/a')
+        s("umount", '"/a')
+        s("root", '"/b')
+        s("lookup", 1, '"b')
+        mount(s, '"/b', 9)
+        mount_at(s, 200, '"/', 10)
+        mount_at(s, 200, '"/c', 11)
+        s("route", 1)
+        s("umount", '"/c')
+        s("route", 1)
+        s("root", '"/')
+        s("lookup", 1, '".')
+        s("umount", '"/')
+        s("umount", '"/')
+        mount(s, '"/', 12, 33)
+        s("route", 1)
+        s("route", 2)
+        s("route", TOP)
+        mount(s, '"/', 13, 0)
+        s("route", 1)
+        s("lookup", 1, '"..')
+        s("loop", "=a", 0, 8)
+        mount_at(s, "a", '"/s$a', "a")
+        mount_at(s, "a", '"/t$a', 100)
+        s("umount", '"/s$a')
+        s("umount", '"/t$a')
+        s("end")
+
+
+def removal(s):
+    s(": removed nodes, their children, and their room")
+    fresh(s, 8)
+    s("remove")
+    mount(s, '"/a/b/c')
+    mount(s, '"/a')
+    mount(s, '"/a/b', 21, 55)
+    s("umount", '"/a')
+    for line in ('walk "/a/b', 'look 3 "..', 'lookup 3 "..', 'look 2 ".', 'lookup 3 ".', "list 2 4096 0 4096", "list 1 4096 0 4096", "list 3 4096 0 4096"):
+        s(line)
+    mount(s, '"/a/b')
+    s("list", 1, 4096, 0, 4096)
+    s("umount", '"/')
+    mount(s, '"/')
+    s("umount", '"/')
+    s(": room is used again")
+    fresh(s, 3)
+    s("remove")
+    s("loop", "=a", 0, 40)
+    mount(s, '"/m$a/n', "a")
+    mount(s, '"/k$a', "a")
+    s("umount", '"/m$a/n')
+    mount(s, '"/m$a', "a")
+    s("umount", '"/m$a')
+    s("end")
+    s("list", 1, 4096, 0, 4096)
+
+
+def kept_numbers(s):
+    s(": kept numbers, routed after unmounts and mounts")
+    fresh(s)
+    for k in range(6):
+        mount(s, text("/k%d" % k), 100 + k, 40 + k)
+    s("umount", '"/k2')
+    s("umount", '"/k4')
+    mount(s, '"/k2', 200)
+    s("fold")
+    s("watch", 0)
+    s("views", 0)
+    s("loop", "=a", 0, 8)
+    s("set", "=b", "a")
+    s("loop", "=c", 0, 256)
+    s("route", "b")
+    s("add", "=b", TOP)
+    s("end")
+    s("end")
+    s("plain")
+    s("watch", size(64) + 64)
+    s("views", 1)
+    for index in (0, 1, 2, 3, 4, 5, 6, 7, 8, 255):
+        for number in (0, 1, 2, 3, 40, TOP - 1):
+            s("route", index * TOP + number)
+    s(": each index goes round")
+    s("views", 0)
+    s("watch", 0)
+    s("loop", "=a", 0, 600)
+    s("umount", '"/k1')
+    mount(s, '"/k1', "a")
+    s("end")
+    s("views", 1)
+    s("laid")
+
+
+def mapped(s):
+    s(": ids out and back, and twice in a lookup")
+    top = 2**32 - 1
+    for mapping in ((0, 0, 0), (1000, 2000, 500), (2000, 1000, 1500), (0, 1, top - 1), (1, 0, top - 1), (top - 10, 5, 10), (5, top - 10, 10), (7, 7, 7), (9, 4, 0)):
+        fresh(s, 8, mapping=mapping)
+        internal, external, count = mapping
+        ids = sorted({max(0, min(top, v + d)) for v in (0, internal, external, internal + count, external + count, top) for d in (-1, 0, 1)})
+        for i in ids:
+            s("ids", i, top - i, 1)
+            s("ids", i, top - i, 0)
+        for i in ids:
+            mount(s, '"/a', 1, 1, 1, i, top - i, i)
+            s("lookup", 1, '"a')
+        s("lookup", 1, '".')
+        s("look", 1, '"a')
+
+
+def full_table(s, removes):
+    s(f": a full table of 255, from every counter; removal {removes}")
+    n = 1024
+    fresh(s, n, watch=False, views=False)
+    if removes:
+        s("remove")
+    mount(s, '"/', 1000, 77)
+    s("fold")
+    s("loop", "=a", 2, 254)
+    mount(s, '"/m$a', "a", "a")
+    s("end")
+    s("plain")
+    s("views", 1)
+    mount(s, '"/one/more')
+    s("keep", size(n))
+    s("views", 0)
+    rng = random.Random(17 + removes)
+    block = [block_line(rng) for _ in range(150)]
+    s("seed", 99 + removes)
+    for first, turns, folded in ((0, 2, False), (254, 2, False), (0, 256, True)):
+        s("loop", "=a", first, turns)
+        s("back", size(n))
+        s("poke1", 81, "a")
+        if folded:
+            s("fold")
+        mount(s, '"/one/more')
+        mount(s, '"/m9')
+        mount(s, '"nine')
+        s("poke1", 81, "a")
+        for verb, words in block:
+            s("random", "=b", 300)
+            s("random", "=c", 255)
+            s("add", "=c", 1)
+            s(verb, *words)
+        s("views", 1)
+        s("laid")
+        s("views", 0)
+        if folded:
+            s("plain")
+        s("end")
+
+
+def block_line(rng):
+    """A line with the variables b, a node below 300, and c, an index."""
+    what = rng.randrange(100)
+    path = rng.choice(['"/m$b'] * 12 + ['"/', '"/m$b/in', '"/m$b/../m$c', '"/new$b/..', '"/m$c/./'])
+    if what < 34:
+        root = rng.choice([0, 1, 5, TOP - 1, TOP, "b"])
+        largest = rng.choice([TOP - 1] * 8 + [TOP])
+        bad = rng.choice([None] * 12 + ['"m$b', '"', '"/%ff', '"/m$b/%e2%82'])
+        return "mount", (bad or path, "b", root, largest, "b", "c", PLAIN_MODE)
+    if what < 48:
+        root = rng.choice([0, 1, TOP - 1, TOP, "c"])
+        k = rng.choice(["c"] * 9 + [0])
+        return "mountat", (path, k, "c", root, rng.choice([5] * 8 + [TOP]), "c", "b", 1)
+    if what < 72:
+        return "umount", (path,)
+    if what < 80:
+        return "root", (path,)
+    if what < 88:
+        return "lookup", (rng.choice([1, 1, "b"]), rng.choice(['"m$b', '".', '"..', '"in']))
+    if what < 94:
+        return "walk", (path,)
+    return "route", (rng.choice([1, "b"]),)
+
+
+def no_room(s):
+    s(": a full tree of 1,024 nodes")
+    fresh(s, 1024, watch=False, views=False)
+    s("loop", "=a", 0, 340)
+    mount(s, '"/p$a/q/r')
+    s("umount", '"/p$a/q/r')
+    s("end")
+    s("watch", size(1024) + 64)
+    s("views", 1)
+    for p in ("/a/b/c/d", "/a/b/c/../../b/d", "/a/b/c", "/a/b/d", "/a/b", "/p3/q/r", "/p3/q/s", "/", "/zz/..", "zz"):
+        mount(s, text(p))
+        mount_at(s, 77, text(p))
+    s("remove")
+    s("umount", '"/a/b')
+    mount(s, '"/a/b/d')
+    mount(s, '"/a/b')
+    mount(s, '"/a/b/d')
+
+
+# ---- sessions at random
+
+def sessions(s):
+    rng = random.Random(20240)
+    for n, count, removes in ((2, 60, 0), (4, 150, 1), (12, 300, 0), (24, 400, 1)):
+        s(f": a session at random, N {n}, removal {removes}")
+        s("scatter", 0, size(n), n)
+        fresh(s, n, mapping=(rng.randrange(20), rng.randrange(20), rng.randrange(40)))
+        names = ["a", "b", "c", "de", "longer-name", ".", "..", "n" * 40]
+        for turn in range(count):
+            if removes and turn == count // 3:
+                s("remove")
+            path = "/" + "/".join(rng.choice(names) for _ in range(rng.randrange(4)))
+            if rng.randrange(30) == 0:
+                path = path[1:]
+            node = rng.randrange(n + 4)
+            name = rng.choice(names)
+            what = rng.randrange(16)
+            root = rng.choice([0, 1, 9, 9, TOP - 1, TOP])
+            ids = (rng.randrange(50), rng.randrange(50), rng.randrange(2**32))
+            if what < 5:
+                mount(s, text(path), rng.randrange(2**32), root, rng.choice([9] * 9 + [TOP]), *ids)
+            elif what < 7:
+                mount_at(s, rng.randrange(6), text(path), rng.randrange(2**32), root, rng.choice([9] * 9 + [TOP]), *ids)
+            elif what < 10:
+                s("umount", text(path))
+            elif what == 10:
+                s("walk", text(path))
+            elif what == 11:
+                s("root", text(path))
+            elif what == 12:
+                s("lookup", node, text(name))
+            elif what == 13:
+                s("look", node, text(name))
+            elif what == 14:
+                s("list", node, rng.choice([0, 50, 100, 4096]), rng.randrange(4), rng.choice([40, 90, 4096]))
+            else:
+                s("route", rng.choice([1, rng.randrange(8) * TOP + rng.randrange(3)]))
+
+
+def bad_lines(s):
+    s(": lines that are none of a script's")
+    for line in ("bogus", "mount", 'walk', 'walk 3', 'walk "/ 3', "route", "route x", "route 18446744073709551616", "route  1", "route -1",
+                 "end", "plain", "loop =a 0 0", "set =i 1", "set a b c", 'walk "%zz', 'walk "%2', 'walk "$', 'walk "$i', "random =a 0", "save", "restore", "Laid"):
+        s(line)
+
+
+PARTS = [session, edges, creation, settings, tree, listings, header_bytes, random_bytes, odd_tables, order, numbers, tags, removal, kept_numbers, mapped,
+         lambda s: full_table(s, 0), lambda s: full_table(s, 1), no_room, sessions, bad_lines]
 
 
 def main():
@@ -92,4 +833,5 @@ def main():
         f.write(script.Run().run(source))
 
 
-main()
+if __name__ == "__main__":
+    main()

@@ -2,11 +2,14 @@
 
 docs/TESTS.md has the language. This is the second reading of it; the first is the program's.
 """
+import re
 import zlib
 
 from model import layout, rules
 
 ROOM = 1114112
+TEXT = re.compile(rb"(?s:[^%$]|%[0-9a-f]{2}|\$[a-h])*")
+MARKED = re.compile(rb"%[0-9a-f]{2}|\$[a-h]")
 WRITES = {"create", "remove", "mount", "mountat", "umount"}
 SHAPES = {
     "loop": (3, 0), "end": (0, 0), "set": (2, 0), "add": (2, 0), "random": (2, 0), "seed": (1, 0), "text": (0, 1),
@@ -80,18 +83,14 @@ class Run:
         return numbers, texts
 
     def decoded(self, w):
-        b, i = bytearray(), 0
-        while i < len(w):
-            if w[i:i + 1] == b"%":
-                b.append(int(w[i + 1:i + 3], 16))
-                i += 3
-            elif w[i:i + 1] == b"$":
-                b += str(self.variables[w[i + 1] - 97]).encode()
-                i += 2
-            else:
-                b.append(w[i])
-                i += 1
-        return bytes(b)
+        def one(m):
+            if m[0][:1] == b"%":
+                return bytes([int(m[0][1:], 16)])
+            return str(self.variables[m[0][1] - 97]).encode()
+
+        if TEXT.fullmatch(w) is None:
+            raise BadLine
+        return MARKED.sub(one, w)
 
     # ---- output
 
@@ -178,7 +177,7 @@ class Run:
         if not self.folding:
             raise BadLine
         self.folding = False
-        self.say(f"folded {self.calls} {self.sum}")
+        self.say(f"plain {self.calls} {self.sum}")
 
     def do_watch(self, n):
         self.watch = n
@@ -221,7 +220,7 @@ class Run:
 
     def do_same(self, at, n):
         """Scripts ask this only of bytes that no call may change."""
-        self.say("same =")
+        self.say("same 0")
 
     # ---- calls
 

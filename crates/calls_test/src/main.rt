@@ -10,6 +10,7 @@ mod memory;
 mod mounts;
 mod regs;
 mod sink;
+mod steering;
 mod sums;
 mod text;
 mod verbs;
@@ -33,7 +34,7 @@ fn script(input: &[u8]) {
     let mut kept = large();
     let mut text = [0u8; 8192];
     let mut out = io::large_buffer();
-    let mut regs = [0u64; 64];
+    let mut regs = [0u64; regs::CELLS];
     run(
         input,
         &mut storage,
@@ -52,16 +53,16 @@ fn run(
     kept: &mut [u8],
     text: &mut [u8],
     out: &mut [u8],
-    regs: &mut [u64],
+    regs: &mut [u64; regs::CELLS],
 ) {
     let mut turns = u64::MAX;
     while 0 < turns {
-        let at = regs::cell(regs, regs::PLACE) as usize;
+        let at = regs[regs::PLACE] as usize;
         if input.len() <= at {
             return;
         }
         let end = text::line_end(input, at);
-        regs::put(regs, regs::PLACE, end as u64 + 1);
+        regs[regs::PLACE] = end as u64 + 1;
         lines::line(&input[at..end], storage, kept, text, out, regs);
         turns -= 1;
     }

@@ -1,6 +1,8 @@
 // The lent bytes as a script sets them, and the copy that is kept of them.
+use crate::calls::Answer;
+use crate::calls::short;
+use crate::calls::silent;
 use crate::regs;
-use crate::regs::arg;
 use crate::sink;
 use crate::sums::byte_at;
 use crate::verbs;
@@ -112,34 +114,38 @@ pub fn mark(a: &[u8], b: &[u8], len: u64) -> u8 {
     b'c'
 }
 
-fn set(verb: u8, s: &mut [u8], regs: &[u64]) {
+fn set(verb: u64, s: &mut [u8], a: u64, b: u64, c: u64) {
     match verb {
-        verbs::FILL => fill(s, arg(regs, 0), arg(regs, 1), regs::low8(arg(regs, 2))),
-        verbs::SCATTER => scatter(s, arg(regs, 0), arg(regs, 1), arg(regs, 2)),
-        verbs::POKE1 => poke(s, arg(regs, 0), 1, arg(regs, 1)),
-        verbs::POKE4 => poke(s, arg(regs, 0), 4, arg(regs, 1)),
-        verbs::POKE8 => poke(s, arg(regs, 0), 8, arg(regs, 1)),
+        verbs::FILL => fill(s, a, b, regs::low8(c)),
+        verbs::SCATTER => scatter(s, a, b, c),
+        verbs::POKE1 => poke(s, a, 1, b),
+        verbs::POKE4 => poke(s, a, 4, b),
+        verbs::POKE8 => poke(s, a, 8, b),
         _ => {}
     }
 }
 
-fn sign(same: bool) -> u8 {
-    if same { b'=' } else { b'*' }
-}
-
-fn compare(s: &[u8], kept: &[u8], out: &mut [u8], regs: &mut [u64]) {
-    let b = sign(same(s, kept, arg(regs, 0), PART, arg(regs, 1)));
-    sink::bytes(out, regs, b"same ");
-    sink::byte(out, regs, b);
-    sink::line_end(out, regs);
-}
-
-// A verb that sets, keeps or compares bytes.
-pub fn verb(verb: u8, s: &mut [u8], kept: &mut [u8], out: &mut [u8], regs: &mut [u64]) {
-    match verb {
-        verbs::KEEP => copy(kept, PART, s, 0, arg(regs, 0)),
-        verbs::BACK => copy(s, 0, kept, PART, arg(regs, 0)),
-        verbs::SAME => compare(s, kept, out, regs),
-        _ => set(verb, s, regs),
+// Whether bytes are as the script kept them: 0, or 1 where they differ.
+fn compared(s: &[u8], kept: &[u8], from: u64, len: u64) -> Answer {
+    if same(s, kept, from, PART, len) {
+        return short(0, 0, 0);
     }
+    short(1, 0, 0)
+}
+
+fn moved(verb: u64, s: &mut [u8], kept: &mut [u8], a: u64, b: u64, c: u64) {
+    match verb {
+        verbs::KEEP => copy(kept, PART, s, 0, a),
+        verbs::BACK => copy(s, 0, kept, PART, a),
+        _ => set(verb, s, a, b, c),
+    }
+}
+
+// A verb that sets, keeps or compares bytes, with its numbers.
+pub fn verb(verb: u64, s: &mut [u8], kept: &mut [u8], a: u64, b: u64, c: u64) -> Answer {
+    if verb == verbs::SAME {
+        return compared(s, kept, a, b);
+    }
+    moved(verb, s, kept, a, b, c);
+    silent()
 }

@@ -1,10 +1,12 @@
 // Calls on the mount tables, and what they answer as numbers.
 ghost use Prim.Native.Nat.{_≤_};
 use crate::calls::Answer;
+use crate::calls::CALL;
 use crate::calls::looked;
 use crate::calls::refused;
 use crate::calls::values;
-use crate::regs::arg;
+use crate::regs::ARGS;
+use crate::regs::CELLS;
 use crate::regs::low8;
 use crate::regs::low32;
 use crate::verbs;
@@ -20,17 +22,17 @@ use vfs_query::Remapped;
 use vfs_query::Rootfs;
 use vfs_query::Routed;
 
-// Tag, root, largest number, uid, gid and mode, from a place in the line's numbers on.
-fn backend(r: &[u64], k: u8) -> Backend
-    requires { ⌜ k ≤ 1 ⌝ }
+// Tag, root, largest number, uid, gid and mode, from a cell on.
+fn backend(r: &[u64; CELLS], k: usize) -> Backend
+    requires { ⌜ k ≤ 41 ⌝ }
 {
     Backend {
-        tag: low32(arg(r, k)),
-        root: BackendNumber(arg(r, k + 1)),
-        max: arg(r, k + 2),
-        uid: low32(arg(r, k + 3)),
-        gid: low32(arg(r, k + 4)),
-        mode: low32(arg(r, k + 5)),
+        tag: low32(r[k]),
+        root: BackendNumber(r[k + 1]),
+        max: r[k + 2],
+        uid: low32(r[k + 3]),
+        gid: low32(r[k + 4]),
+        mode: low32(r[k + 5]),
     }
 }
 
@@ -51,6 +53,7 @@ fn tag_of(t: Tag) -> u64 {
 // A refusal of a mount: its number, and its count.
 fn counted(code: u64, count: u32) -> Answer {
     Answer {
+        way: CALL,
         code,
         n: 4,
         a: 0,
@@ -63,8 +66,8 @@ fn counted(code: u64, count: u32) -> Answer {
 }
 
 // Index, count, whether a tag was replaced, and that tag.
-fn mount(s: &mut [u8], path: &[u8], r: &[u64]) -> Answer {
-    match vfs::mounting::mount(s, path, backend(r, 0)) {
+fn mount(s: &mut [u8], path: &[u8], r: &[u64; CELLS]) -> Answer {
+    match vfs::mounting::mount(s, path, backend(r, ARGS)) {
         Mounted::Done {
             fs_idx,
             count,
@@ -86,8 +89,8 @@ fn mount(s: &mut [u8], path: &[u8], r: &[u64]) -> Answer {
 }
 
 // Whether a tag was replaced, that tag, whether one was displaced, and that tag.
-fn mount_at(s: &mut [u8], path: &[u8], r: &[u64]) -> Answer {
-    match vfs::restoring::restore_mount(s, low8(arg(r, 0)), path, backend(r, 1)) {
+fn mount_at(s: &mut [u8], path: &[u8], r: &[u64; CELLS]) -> Answer {
+    match vfs::restoring::restore_mount(s, low8(r[ARGS]), path, backend(r, ARGS + 1)) {
         Restored::Done {
             replaced,
             displaced,
@@ -142,15 +145,15 @@ fn root(s: &[u8], path: &[u8]) -> Answer {
     }
 }
 
-fn ids(s: &[u8], r: &[u64]) -> Answer {
-    match vfs_query::remap_attr_id(s, low32(arg(r, 0)), low32(arg(r, 1)), arg(r, 2) != 0) {
+fn ids(s: &[u8], r: &[u64; CELLS]) -> Answer {
+    match vfs_query::remap_attr_id(s, low32(r[ARGS]), low32(r[ARGS + 1]), r[ARGS + 2] != 0) {
         Remapped::Ids { uid, gid } => values(2, uid as u64, gid as u64, 0, 0),
         Remapped::Small => refused(12, 2),
     }
 }
 
 // Mount, restored mount or unmount.
-pub fn of_mounts(verb: u8, s: &mut [u8], text: &[u8], r: &[u64]) -> Answer {
+pub fn of_mounts(verb: u64, s: &mut [u8], text: &[u8], r: &[u64; CELLS]) -> Answer {
     match verb {
         verbs::MOUNT => mount(s, text, r),
         verbs::MOUNT_AT => mount_at(s, text, r),
@@ -159,11 +162,11 @@ pub fn of_mounts(verb: u8, s: &mut [u8], text: &[u8], r: &[u64]) -> Answer {
 }
 
 // A query of the mount tables.
-pub fn of_queries(verb: u8, s: &[u8], text: &[u8], r: &[u64]) -> Answer {
+pub fn of_queries(verb: u64, s: &[u8], text: &[u8], r: &[u64; CELLS]) -> Answer {
     match verb {
-        verbs::ROUTE => route(s, arg(r, 0)),
+        verbs::ROUTE => route(s, r[ARGS]),
         verbs::ROOT => root(s, text),
-        verbs::LOOKUP => looked(vfs_query::lookup(s, NodeNumber(arg(r, 0)), text)),
+        verbs::LOOKUP => looked(vfs_query::lookup(s, NodeNumber(r[ARGS]), text)),
         _ => ids(s, r),
     }
 }

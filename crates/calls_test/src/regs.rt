@@ -1,7 +1,7 @@
 // The registers of a run: the script's variables, what it has set, and the numbers of the line at hand.
 
 // The variables a to h stand in cells 0 to 7.
-pub const VARIABLES: usize = 8;
+pub const VARIABLES: u64 = 8;
 
 // The generator of numbers.
 pub const SEED: usize = 8;
@@ -42,23 +42,22 @@ pub const ARGS: usize = 40;
 
 pub const MOST_ARGS: u64 = 8;
 
-// The cell, or 0 past the end.
-pub fn cell(r: &[u64], i: usize) -> u64 {
-    if i < r.len() {
-        return r[i];
+// How many cells there are.
+pub const CELLS: usize = 64;
+
+// A variable, or 0 where there is none.
+pub fn variable(r: &[u64; CELLS], v: u64) -> u64 {
+    if v < 8 {
+        return r[v as usize];
     }
     0
 }
 
-pub fn put(r: &mut [u64], i: usize, v: u64) {
-    if i < r.len() {
-        r[i] = v;
+// A variable becomes a number, if there is one.
+pub fn assign(r: &mut [u64; CELLS], v: u64, n: u64) {
+    if v < 8 {
+        r[v as usize] = n;
     }
-}
-
-// A number of the line at hand.
-pub fn arg(r: &[u64], k: u8) -> u64 {
-    cell(r, ARGS + k as usize)
 }
 
 pub fn low32(x: u64) -> u32 {

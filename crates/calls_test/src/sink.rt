@@ -1,5 +1,6 @@
 // What a run writes: bytes into a buffer that is written where it is full, or into a sum of answers.
 use crate::regs;
+use crate::regs::CELLS;
 use libc::STDOUT_FILENO;
 ghost use Prim.Native.Nat.{_≤_, _<_};
 ghost use lib.ListN.{length};
@@ -19,8 +20,8 @@ pub fn upto(n: u64, s: &[u8]) -> usize
     n as usize
 }
 
-pub fn flush(out: &[u8], regs: &[u64]) {
-    let n = upto(regs::cell(regs, regs::USED), out);
+pub fn flush(out: &[u8], regs: &[u64; CELLS]) {
+    let n = upto(regs[regs::USED], out);
     io::write_all(STDOUT_FILENO, &out[0..n]);
 }
 
@@ -42,18 +43,18 @@ fn store(out: &mut [u8], at: usize, b: u8) {
     }
 }
 
-pub fn byte(out: &mut [u8], regs: &mut [u64], b: u8) {
-    if regs::cell(regs, regs::FOLDING) != 0 {
-        let sum = crate::sums::with(regs::cell(regs, regs::SUM), b);
-        regs::put(regs, regs::SUM, sum);
+pub fn byte(out: &mut [u8], regs: &mut [u64; CELLS], b: u8) {
+    if regs[regs::FOLDING] != 0 {
+        let sum = crate::sums::with(regs[regs::SUM], b);
+        regs[regs::SUM] = sum;
         return;
     }
-    let at = room(out, regs::cell(regs, regs::USED));
+    let at = room(out, regs[regs::USED]);
     store(out, at, b);
-    regs::put(regs, regs::USED, at as u64 + 1);
+    regs[regs::USED] = at as u64 + 1;
 }
 
-pub fn bytes(out: &mut [u8], regs: &mut [u64], s: &[u8]) {
+pub fn bytes(out: &mut [u8], regs: &mut [u64; CELLS], s: &[u8]) {
     let mut i = 0;
     while i < s.len() {
         byte(out, regs, s[i]);
@@ -62,20 +63,13 @@ pub fn bytes(out: &mut [u8], regs: &mut [u64], s: &[u8]) {
 }
 
 // A space and the number.
-pub fn number(out: &mut [u8], regs: &mut [u64], n: u64) {
+pub fn number(out: &mut [u8], regs: &mut [u64; CELLS], n: u64) {
     let mut digits = [0u8; 20];
     let k = io::decimal(n, &mut digits);
     byte(out, regs, SPACE);
     bytes(out, regs, &digits[..k]);
 }
 
-pub fn line_end(out: &mut [u8], regs: &mut [u64]) {
+pub fn line_end(out: &mut [u8], regs: &mut [u64; CELLS]) {
     byte(out, regs, LINE_END);
-}
-
-// A line that the script should not have.
-pub fn bad(out: &mut [u8], regs: &mut [u64], line: &[u8]) {
-    bytes(out, regs, b"! ");
-    bytes(out, regs, line);
-    line_end(out, regs);
 }

@@ -1,5 +1,6 @@
 // The words of a line: numbers, variables and one text.
 use crate::regs;
+use crate::regs::CELLS;
 ghost use Prim.Native.Nat.{_≤_};
 ghost use lib.ListN.{length};
 
@@ -43,9 +44,9 @@ pub fn word_end(s: &[u8], at: usize) -> usize
 }
 
 // The words from a place on: false where one is none of a line's words.
-pub fn words(line: &[u8], from: usize, text: &mut [u8], regs: &mut [u64]) -> bool {
-    regs::put(regs, regs::NUMBERS, 0);
-    regs::put(regs, regs::TEXTS, 0);
+pub fn words(line: &[u8], from: usize, text: &mut [u8], regs: &mut [u64; CELLS]) -> bool {
+    regs[regs::NUMBERS] = 0;
+    regs[regs::TEXTS] = 0;
     let mut at = from;
     while at < line.len() {
         let end = word_end(line, at);
@@ -57,7 +58,7 @@ pub fn words(line: &[u8], from: usize, text: &mut [u8], regs: &mut [u64]) -> boo
     true
 }
 
-fn word(w: &[u8], text: &mut [u8], regs: &mut [u64]) -> bool {
+fn word(w: &[u8], text: &mut [u8], regs: &mut [u64; CELLS]) -> bool {
     if w.len() == 0 {
         return false;
     }
@@ -65,7 +66,7 @@ fn word(w: &[u8], text: &mut [u8], regs: &mut [u64]) -> bool {
         return decode(w, text, regs);
     }
     if w[0] == b'@' {
-        regs::put(regs, regs::TEXTS, 1);
+        regs[regs::TEXTS] = 1;
         return w.len() == 1;
     }
     match value(w, regs) {
@@ -74,33 +75,33 @@ fn word(w: &[u8], text: &mut [u8], regs: &mut [u64]) -> bool {
     }
 }
 
-fn push(regs: &mut [u64], v: u64) -> bool {
-    let k = regs::cell(regs, regs::NUMBERS);
+fn push(regs: &mut [u64; CELLS], v: u64) -> bool {
+    let k = regs[regs::NUMBERS];
     if regs::MOST_ARGS <= k {
         return false;
     }
-    regs::put(regs, regs::ARGS + k as usize, v);
-    regs::put(regs, regs::NUMBERS, k + 1);
+    regs[regs::ARGS + k as usize] = v;
+    regs[regs::NUMBERS] = k + 1;
     true
 }
 
 // The cell of a variable's letter, or one past them.
-fn variable(b: u8) -> usize {
+fn variable(b: u8) -> u64 {
     if b < b'a' {
         return regs::VARIABLES;
     }
     if b'h' < b {
         return regs::VARIABLES;
     }
-    (b - b'a') as usize
+    (b - b'a') as u64
 }
 
 // A variable's value, a variable's cell behind `=`, or a decimal.
-fn value(w: &[u8], regs: &[u64]) -> Number {
+fn value(w: &[u8], regs: &[u64; CELLS]) -> Number {
     if w.len() == 1 {
         let v = variable(w[0]);
         if v < regs::VARIABLES {
-            return Number::Value(regs::cell(regs, v));
+            return Number::Value(regs::variable(regs, v));
         }
     }
     if w.len() == 2 {
@@ -114,7 +115,7 @@ fn value(w: &[u8], regs: &[u64]) -> Number {
 fn name(b: u8) -> Number {
     let v = variable(b);
     if v < regs::VARIABLES {
-        return Number::Value(v as u64);
+        return Number::Value(v);
     }
     Number::Bad
 }
@@ -162,9 +163,9 @@ const FAULT: u64 = 3;
 const HALF: u64 = 16;
 
 // The text behind a word's first byte: `%` with two hex digits is a byte, `$` with a letter the decimal of a variable.
-fn decode(w: &[u8], text: &mut [u8], regs: &mut [u64]) -> bool {
-    regs::put(regs, regs::TEXTS, 1);
-    regs::put(regs, regs::TEXT_LEN, 0);
+fn decode(w: &[u8], text: &mut [u8], regs: &mut [u64; CELLS]) -> bool {
+    regs[regs::TEXTS] = 1;
+    regs[regs::TEXT_LEN] = 0;
     let mut mode = PLAIN;
     let mut i = 1;
     while i < w.len() {
@@ -174,7 +175,7 @@ fn decode(w: &[u8], text: &mut [u8], regs: &mut [u64]) -> bool {
     mode == PLAIN
 }
 
-fn one_byte(text: &mut [u8], regs: &mut [u64], mode: u64, b: u8) -> u64 {
+fn one_byte(text: &mut [u8], regs: &mut [u64; CELLS], mode: u64, b: u8) -> u64 {
     if mode == PLAIN {
         return plain(text, regs, b);
     }
@@ -190,7 +191,7 @@ fn one_byte(text: &mut [u8], regs: &mut [u64], mode: u64, b: u8) -> u64 {
     whole(text, regs, mode % 16, digit(b))
 }
 
-fn plain(text: &mut [u8], regs: &mut [u64], b: u8) -> u64 {
+fn plain(text: &mut [u8], regs: &mut [u64; CELLS], b: u8) -> u64 {
     if b == b'%' {
         return HEX;
     }
@@ -207,7 +208,7 @@ fn half(d: u64) -> u64 {
     FAULT
 }
 
-fn whole(text: &mut [u8], regs: &mut [u64], high: u64, low: u64) -> u64 {
+fn whole(text: &mut [u8], regs: &mut [u64; CELLS], high: u64, low: u64) -> u64 {
     if low < 16 {
         return append(text, regs, regs::low8(high % 16 * 16 + low));
     }
@@ -232,28 +233,28 @@ fn digit(b: u8) -> u64 {
 }
 
 // One byte more behind the text, if there is room.
-pub fn append(text: &mut [u8], regs: &mut [u64], b: u8) -> u64 {
-    let n = regs::cell(regs, regs::TEXT_LEN);
+pub fn append(text: &mut [u8], regs: &mut [u64; CELLS], b: u8) -> u64 {
+    let n = regs[regs::TEXT_LEN];
     if (text.len() as u64) <= n {
         return FAULT;
     }
     text[n as usize] = b;
-    regs::put(regs, regs::TEXT_LEN, n + 1);
+    regs[regs::TEXT_LEN] = n + 1;
     PLAIN
 }
 
 // The decimal of a variable behind the text.
-fn spelt(text: &mut [u8], regs: &mut [u64], b: u8) -> u64 {
+fn spelt(text: &mut [u8], regs: &mut [u64; CELLS], b: u8) -> u64 {
     let v = variable(b);
     if regs::VARIABLES <= v {
         return FAULT;
     }
     let mut digits = [0u8; 20];
-    let k = io::decimal(regs::cell(regs, v), &mut digits);
+    let k = io::decimal(regs::variable(regs, v), &mut digits);
     append_all(text, regs, &digits[..k])
 }
 
-fn append_all(text: &mut [u8], regs: &mut [u64], s: &[u8]) -> u64 {
+fn append_all(text: &mut [u8], regs: &mut [u64; CELLS], s: &[u8]) -> u64 {
     let mut mode = PLAIN;
     let mut i = 0;
     while i < s.len() {
@@ -264,7 +265,7 @@ fn append_all(text: &mut [u8], regs: &mut [u64], s: &[u8]) -> u64 {
 }
 
 // One byte, so many times behind the text: false where there is no room for all.
-pub fn append_many(text: &mut [u8], regs: &mut [u64], count: u64, b: u8) -> bool {
+pub fn append_many(text: &mut [u8], regs: &mut [u64; CELLS], count: u64, b: u8) -> bool {
     let mut left = count;
     while 0 < left {
         if append(text, regs, b) != PLAIN {

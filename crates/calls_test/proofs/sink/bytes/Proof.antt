@@ -9,44 +9,40 @@ use Rattle.calls_test.proofs.sink.bytes.Lts as lts
 use Rattle.calls_test.proofs.sink.byte.Reads as byte-reads
 
 abbrev Inv-loop : tie.InvT-loop
-Inv-loop out₀ regs₀ s i₀ out regs i = (i ≤ length s) × (length out ≡ length out₀) × (length regs ≡ length regs₀)
+Inv-loop out₀ regs₀ s i₀ out regs i = (i ≤ length s) × (length out ≡ length out₀)
 
 abbrev μ-loop : tie.MeasureT-loop
 μ-loop out₀ regs₀ s i₀ out regs i = length s - i
 
--- src/sink.rt:58:5
+-- src/sink.rt:59:5
 loop-holds : tie.Need-loop-holds Inv-loop μ-loop
 loop-holds c = search needs
 
--- src/sink.rt:59:25
+-- src/sink.rt:60:25
 shared-slice-read-byte : tie.Need-shared-slice-read-byte Inv-loop μ-loop
 shared-slice-read-byte c = search needs
 
--- src/sink.rt:59:9
+-- src/sink.rt:60:9
 byte-requires : tie.Need-byte-requires Inv-loop μ-loop
 byte-requires c κs = search needs
 
--- src/sink.rt:60:9
+-- src/sink.rt:61:9
 add-i : tie.Need-add-i Inv-loop μ-loop
 add-i c = search needs
 
--- src/sink.rt:58:5
+-- src/sink.rt:59:5
 loop-less : tie.Need-loop-less Inv-loop μ-loop
 loop-less c = search needs
 
--- src/sink.rt:58:5
+-- src/sink.rt:59:5
 loop-again : tie.Need-loop-again Inv-loop μ-loop
 loop-again c = search needs
 
--- src/sink.rt:56:1
+-- src/sink.rt:57:1
 same-length : tie.Need-same-length Inv-loop μ-loop
 same-length c = search needs
 
--- src/sink.rt:56:1
-same-length-2 : tie.Need-same-length-2 Inv-loop μ-loop
-same-length-2 c = search needs
-
--- src/sink.rt:56:1
+-- src/sink.rt:57:1
 returns : tie.Need-returns Inv-loop μ-loop
 returns c = search needs
 
@@ -63,5 +59,4 @@ bytes-spec =
     loop-less
     loop-again
     same-length
-    same-length-2
     returns)

@@ -6,81 +6,72 @@ use Rattle.calls_test.proofs.text.words.Statement.{statement}
 use Rattle.calls_test.proofs.text.words.Tie as tie
 use Rattle.calls_test.proofs.text.words.Reads as reads
 use Rattle.calls_test.proofs.text.words.Lts as lts
-use Rattle.calls_test.proofs.regs.put.Reads as put-reads
 use Rattle.calls_test.proofs.text.word.Reads as word-reads
 use Rattle.calls_test.proofs.text.word_end.Reads as word-end-reads
 
 abbrev Inv-loop : tie.InvT-loop
-Inv-loop line from text₀ regs₀ at₀ text regs at = (length text ≡ length text₀) × (length regs ≡ length regs₀)
+Inv-loop line from text₀ regs₀ at₀ text regs at = (length text ≡ length text₀)
 
 abbrev μ-loop : tie.MeasureT-loop
 μ-loop line from text₀ regs₀ at₀ text regs at = length line - at
 
--- src/text.rt:47:5
-put-requires : tie.Need-put-requires Inv-loop μ-loop
-put-requires c κs = search needs
-
 -- src/text.rt:48:5
-put-requires-2 : tie.Need-put-requires-2 Inv-loop μ-loop
-put-requires-2 c κs = search needs
+element-write-regs : tie.Need-element-write-regs Inv-loop μ-loop
+element-write-regs c = search needs
 
--- src/text.rt:50:5
+-- src/text.rt:49:5
+element-write-regs-2 : tie.Need-element-write-regs-2 Inv-loop μ-loop
+element-write-regs-2 c = search needs
+
+-- src/text.rt:51:5
 loop-holds : tie.Need-loop-holds Inv-loop μ-loop
 loop-holds c = search needs
 
--- src/text.rt:51:13
+-- src/text.rt:52:13
 word-end-requires : tie.Need-word-end-requires Inv-loop μ-loop
 word-end-requires c κs = search needs
 
--- src/text.rt:52:18
+-- src/text.rt:53:18
 sub-word : tie.Need-sub-word Inv-loop μ-loop
 sub-word c = search needs
 
--- src/text.rt:52:18
+-- src/text.rt:53:18
 part-word-start : tie.Need-part-word-start Inv-loop μ-loop
 part-word-start c = search needs
 
--- src/text.rt:52:18
+-- src/text.rt:53:18
 part-word-end : tie.Need-part-word-end Inv-loop μ-loop
 part-word-end c = search needs
 
--- src/text.rt:52:13
+-- src/text.rt:53:13
 word-requires : tie.Need-word-requires Inv-loop μ-loop
 word-requires c κs = search needs
 
--- src/text.rt:53:13
+-- src/text.rt:54:13
 same-length : tie.Need-same-length Inv-loop μ-loop
 same-length c = search needs
 
--- src/text.rt:53:13
-same-length-2 : tie.Need-same-length-2 Inv-loop μ-loop
-same-length-2 c = search needs
-
--- src/text.rt:53:13
+-- src/text.rt:54:13
 returns : tie.Need-returns Inv-loop μ-loop
 returns c = search needs
 
--- src/text.rt:55:14
+-- src/text.rt:56:14
 add-at : tie.Need-add-at Inv-loop μ-loop
 add-at c = search needs
 
--- src/text.rt:50:5
+-- src/text.rt:51:5
 loop-less : tie.Need-loop-less Inv-loop μ-loop
 loop-less c = search needs
 
--- src/text.rt:50:5
+-- src/text.rt:51:5
 loop-again : tie.Need-loop-again Inv-loop μ-loop
 loop-again c = search needs
 
--- src/text.rt:46:1
-same-length-3 : tie.Need-same-length-3 Inv-loop μ-loop
-same-length-3 c = search needs
+-- src/text.rt:47:1
+same-length-2 : tie.Need-same-length-2 Inv-loop μ-loop
+same-length-2 c = search needs
 
--- src/text.rt:46:1
-same-length-4 : tie.Need-same-length-4 Inv-loop μ-loop
-same-length-4 c = search needs
-
--- src/text.rt:46:1
+-- src/text.rt:47:1
 returns-2 : tie.Need-returns-2 Inv-loop μ-loop
 returns-2 c = search needs
 
@@ -90,8 +81,8 @@ words-spec =
     (tie.spec
     Inv-loop
     μ-loop
-    put-requires
-    put-requires-2
+    element-write-regs
+    element-write-regs-2
     loop-holds
     word-end-requires
     sub-word
@@ -99,11 +90,9 @@ words-spec =
     part-word-end
     word-requires
     same-length
-    same-length-2
     returns
     add-at
     loop-less
     loop-again
-    same-length-3
-    same-length-4
+    same-length-2
     returns-2)
