@@ -78,6 +78,11 @@ pub const IDS: u64 = 0x696473;
 // The longest verb.
 const LONGEST: usize = 8;
 
+// The number with one letter more.
+fn with_letter(x: u64, b: u8) -> u64 {
+    x % 72057594037927936 * 256 + b as u64
+}
+
 // The number that the letters of a word make; 0 for a longer word than any verb.
 pub fn verb(w: &[u8]) -> u64 {
     if LONGEST < w.len() {
@@ -86,7 +91,7 @@ pub fn verb(w: &[u8]) -> u64 {
     let mut x: u64 = 0;
     let mut i = 0;
     while i < w.len() {
-        x = x % 72057594037927936 * 256 + w[i] as u64;
+        x = with_letter(x, w[i]);
         i += 1;
     }
     x

@@ -6,6 +6,7 @@ use Rattle.calls_test.proofs.verbs.verb.Statement.{statement}
 use Rattle.calls_test.proofs.verbs.verb.Tie as tie
 use Rattle.calls_test.proofs.verbs.verb.Reads as reads
 use Rattle.calls_test.proofs.verbs.verb.Lts as lts
+use Rattle.calls_test.proofs.verbs.with_letter.Reads as with-letter-reads
 
 abbrev Inv-loop : tie.InvT-loop
 Inv-loop w x₀ i₀ x i = i ≤ length w
@@ -13,43 +14,35 @@ Inv-loop w x₀ i₀ x i = i ≤ length w
 abbrev μ-loop : tie.MeasureT-loop
 μ-loop w x₀ i₀ x i = length w - i
 
--- src/verbs.rt:84:9
+-- src/verbs.rt:89:9
 returns : tie.Need-returns Inv-loop μ-loop
 returns c = search needs
 
--- src/verbs.rt:88:5
+-- src/verbs.rt:93:5
 loop-holds : tie.Need-loop-holds Inv-loop μ-loop
 loop-holds c = search needs
 
--- src/verbs.rt:89:13
-mul-x : tie.Need-mul-x Inv-loop μ-loop
-mul-x c = search needs
+-- src/verbs.rt:94:28
+shared-slice-read-with-letter : tie.Need-shared-slice-read-with-letter Inv-loop μ-loop
+shared-slice-read-with-letter c = search needs
 
--- src/verbs.rt:89:43
-shared-slice-read-x : tie.Need-shared-slice-read-x Inv-loop μ-loop
-shared-slice-read-x c = search needs
+-- src/verbs.rt:94:9
+with-letter-requires : tie.Need-with-letter-requires Inv-loop μ-loop
+with-letter-requires c κs = search needs
 
--- src/verbs.rt:89:43
-cast-x : tie.Need-cast-x Inv-loop μ-loop
-cast-x c = search needs
-
--- src/verbs.rt:89:13
-add-x : tie.Need-add-x Inv-loop μ-loop
-add-x c = search needs
-
--- src/verbs.rt:90:9
+-- src/verbs.rt:95:9
 add-i : tie.Need-add-i Inv-loop μ-loop
 add-i c = search needs
 
--- src/verbs.rt:88:5
+-- src/verbs.rt:93:5
 loop-less : tie.Need-loop-less Inv-loop μ-loop
 loop-less c = search needs
 
--- src/verbs.rt:88:5
+-- src/verbs.rt:93:5
 loop-again : tie.Need-loop-again Inv-loop μ-loop
 loop-again c = search needs
 
--- src/verbs.rt:82:1
+-- src/verbs.rt:87:1
 returns-2 : tie.Need-returns-2 Inv-loop μ-loop
 returns-2 c = search needs
 
@@ -61,10 +54,8 @@ verb-spec =
     μ-loop
     returns
     loop-holds
-    mul-x
-    shared-slice-read-x
-    cast-x
-    add-x
+    shared-slice-read-with-letter
+    with-letter-requires
     add-i
     loop-less
     loop-again
