@@ -2,7 +2,7 @@
 use mathlib.Core.Path.{_≡_, refl, sym, ap, ap₂, _∙_}
 use mathlib.Core.Bool.{true}
 use mathlib.Core.List.{List, [], _∷_, _++_, append-assoc, append-nil}
-use Prim.Native.Nat.{ℕ, _+_, _-_, _*_, _^_, _≤_, _<_}
+use Prim.Native.Nat.{ℕ, _+_, _-_, _^_, _≤_, _<_}
 use native.Mathlib.Omega.{arith}
 use lib.ListN.{length, length-append}
 use Rattle.le.specs.Mem.{read, value, bytesOf, get}
@@ -18,7 +18,7 @@ use Rattle.tables.specs.Rule.{laidBy, laid, Laid}
 use Rattle.tables.specs.Write.{fromPlace, putHeader, setCount, setNext, appendNode}
 use Rattle.tables.proofs.Table.{length-putRow}
 use Rattle.tables.proofs.Refine.{head-put, view-header, whole, view-append}
-use Rattle.tables.proofs.Keeps.{Ruled, ruled, is-ruled, laid-is, open-laid, keeps-append}
+use Rattle.tables.proofs.Keeps.{ruled, is-ruled, laid-is, open-laid, keeps-append}
 use Rattle.tables.proofs.Places.{nodes-count}
 use Rattle.persist.specs.Restoring.{Loads, loadNode, loadNodes}
 use Rattle.persist.proofs.Records.{AllLoad}

@@ -1,12 +1,12 @@
 -- The header of a restored state: what its writes come to, what the bytes then stand for, and that they keep the layout rule. Assumes nothing.
-use mathlib.Core.Path.{_≡_, refl, sym, ap, ap₂, _∙_}
+use mathlib.Core.Path.{_≡_, refl, ap, ap₂, _∙_}
 use mathlib.Core.Bool.{Bool, true, false, not}
 use mathlib.Core.List.{List, [], _∷_, _++_}
-use Prim.Native.Nat.{ℕ, _+_, _-_, _*_, _^_, _≤_, _<_}
+use Prim.Native.Nat.{ℕ, _+_, _-_, _^_, _≤_, _<_}
 use native.Mathlib.Omega.{arith}
 use lib.ListN.{length}
 use lib.Dec.{eqb}
-use Rattle.le.specs.Mem.{read, write, value, bytesOf, get, put}
+use Rattle.le.specs.Mem.{read, write, value, bytesOf, put}
 use Rattle.rules.specs.Instance.{Options, Instance}
 use Rattle.rules.specs.Create.{unknown}
 use Rattle.rules.specs.RoundTrip.{OptionsFit}
@@ -18,7 +18,7 @@ use Rattle.tables.specs.Rule.{laidBy, laid}
 use Rattle.tables.specs.Write.{fromPlace, putHeader, setNext, heldByte}
 use Rattle.tables.proofs.Table.{length-putRow}
 use Rattle.tables.proofs.Refine.{head-put, view-header, whole}
-use Rattle.tables.proofs.Keeps.{Ruled, ruled, is-ruled, open-laid}
+use Rattle.tables.proofs.Keeps.{ruled, is-ruled, open-laid}
 use Rattle.persist.specs.Restoring.{hasBits, optionCells, setOptions, setState}
 
 -- ---- what the writes come to

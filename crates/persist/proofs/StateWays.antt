@@ -1,9 +1,9 @@
 -- What each way through a state restore gives. Assumes nothing.
 use mathlib.Core.Path.{_≡_, refl, sym, ap, _∙_}
-use mathlib.Core.Bool.{Bool, true, false, not, _&&_, true≢false, false≢true}
+use mathlib.Core.Bool.{Bool, true, false, not, false≢true}
 use mathlib.Core.List.{List, [], _∷_, _++_}
 use mathlib.Core.Option.{Option, none, some}
-use Prim.Native.Nat.{ℕ, _+_, _^_, _≤_, _<_}
+use Prim.Native.Nat.{ℕ, _+_, _≤_, _<_}
 use native.Mathlib.Omega.{arith}
 use lib.ListN.{length}
 use lib.Dec.{eqb, ltb}
@@ -21,9 +21,9 @@ use Rattle.rules.proofs.Tests.{and-both}
 use Rattle.rules.proofs.RoundTrip.{fits}
 use Rattle.tables.specs.Table.{row}
 use Rattle.tables.specs.Layout.{capacityOf, countOf}
-use Rattle.tables.specs.View.{nodesOf, view}
+use Rattle.tables.specs.View.{view}
 use Rattle.tables.specs.Rule.{laid, Laid}
-use Rattle.tables.specs.Call.{Told, toldBy, Does}
+use Rattle.tables.specs.Call.{toldBy, Does}
 use Rattle.tables.proofs.Keeps.{laid-is}
 use Rattle.tables.proofs.Places.{nodes-count}
 use Rattle.storage.proofs.Answers.{long}
