@@ -1,0 +1,25 @@
+-- `decimal::inner::put` meets its contract: no number of 64 bits has over 20 digits.
+use borrow.Author.Needs.{needs}
+use native.Mathlib.Omega.{arith}
+use Rattle.decimal.proofs.Texts.{length-decimal}
+use Rattle.decimal.proofs.inner.put.Statement.{statement}
+use Rattle.decimal.proofs.inner.put.Tie as tie
+use Rattle.decimal.proofs.inner.put.Reads as reads
+use Rattle.decimal.proofs.inner.put.Lts as lts
+use Rattle.decimal.proofs.inner.digits.Reads as digits-reads
+
+digits-requires : tie.Need-digits-requires
+digits-requires c κs = omega (arith, length-decimal (c .before .before .args .n))
+
+same-length : tie.Need-same-length
+same-length c = search needs
+
+returns : tie.Need-returns
+returns c = record {
+  end = c .before .before .digits .ensures .0;
+  within = omega (arith, c .before .before .digits .ensures .0, length-decimal (c .before .before .before .before .before .args .n));
+  bytes = c .before .before .digits .ensures .1;
+}
+
+pub put-spec : {M : Type 1} → statement M
+put-spec = tie.close (tie.spec digits-requires same-length returns)
