@@ -46,7 +46,7 @@ module _ (i : Instance) where
   pub notfound-still : Still i (refused NOTFOUND i)
   notfound-still = still-refused NOTFOUND (λ e. omega arith)
 
-  walk-still : (path : List ℕ) → Still i (walkRule i path)
+  pub walk-still : (path : List ℕ) → Still i (walkRule i path)
   unfolding walkRule
   walk-still path = each-of (Still i) _ _ (inval-still, still-says _)
 
@@ -74,7 +74,7 @@ module _ (i : Instance) where
   route-tree x none = still-says _
   route-tree x (some m) = either (Still i) (eqb x rootNumber) (λ e. route-tag (m .index) (m .root) (tagOf i (m .index))) (λ e. still-says _)
 
-  route-still : (x : ℕ) → Still i (routeRule i x)
+  pub route-still : (x : ℕ) → Still i (routeRule i x)
   unfolding routeRule
   route-still x =
       either (Still i) (eqb (indexOf x) 0) (λ e. route-tree (numberOf x) (i .tree .root)) (λ e. route-tag (indexOf x) (numberOf x) (tagOf i (indexOf x)))
@@ -95,7 +95,7 @@ module _ (i : Instance) where
       each-of (Still i) _ _
       (noent-still, (inval-still, (entry-at mounts (some x), (entry-at mounts (some (parentIn (i .tree .nodes) x)), entry-at mounts (childIn (i .tree .nodes) x p)))))
 
-  lookup-still : (x : ℕ) (p : List ℕ) → Still i (lookupRule i x p)
+  pub lookup-still : (x : ℕ) (p : List ℕ) → Still i (lookupRule i x p)
   unfolding lookupRule
   lookup-still x p = lookup-by-still (mountOf (i .tree)) x p
 

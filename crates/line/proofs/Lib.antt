@@ -1,0 +1,8 @@
+-- What is proved of a line.
+pub mod Writes
+pub mod Fields
+pub mod Cutting
+pub mod Verbs
+pub mod Lines
+pub mod Replying
+pub mod Claims

@@ -1,0 +1,62 @@
+-- A line cut into its fields, by the places of its spaces.
+use Prim.Native.Nat.{ℕ, _+_, _-_, _≤_, _<_}
+use mathlib.Core.Bool.{cond}
+use mathlib.Core.List.{List, [], _∷_}
+use mathlib.Core.Option.{Option, none, some}
+use mathlib.Core.Path.{_≡_}
+use lib.ListN.{length, take, drop}
+use Rattle.rules.specs.Session.{Line, words, anyEmpty, lineOf, parsed}
+use Rattle.line.specs.declared.Cut.{Cut}
+use Rattle.line.specs.declared.Cut.the-variants.{Two, Three, Five, Other}
+use Rattle.line.specs.declared.forms.Request.{Request}
+use Rattle.line.specs.declared.forms.Request.the-variants.{Numbers, Bad}
+
+abbrev pub firstLength : List (List ℕ) → ℕ
+firstLength [] = 0
+firstLength (w ∷ ws) = length w
+
+-- how many bytes stand before the next space
+unfoldable pub fieldLength : List ℕ → ℕ
+fieldLength s = firstLength (words s)
+
+-- where the field that stands at a place ends
+unfoldable pub fieldEnd : List ℕ → ℕ → ℕ
+fieldEnd s at = at + fieldLength (drop at s)
+
+-- a field's end is behind its start and within the line
+pub record Ends (s : List ℕ) (at r : ℕ) : Type 0 where
+  pub end : r ≡ fieldEnd s at
+  pub from : at ≤ r
+  pub within : r ≤ length s
+
+-- the bytes of s from one place to another
+abbrev pub between : List ℕ → ℕ → ℕ → List ℕ
+between s at end = take (end - at) (drop at s)
+
+-- a line of these fields (R138 to R141, R145, R146)
+unfoldable pub formed : List (List ℕ) → Option Line
+formed ws = cond (anyEmpty ws) none (lineOf ws)
+
+-- by the places of its spaces
+unfoldable pub twoAt : List ℕ → ℕ → Option Line
+twoAt s a = formed (between s 0 a ∷ between s (a + 1) (length s) ∷ [])
+
+unfoldable pub threeAt : List ℕ → ℕ → ℕ → Option Line
+threeAt s a b = formed (between s 0 a ∷ between s (a + 1) b ∷ between s (b + 1) (length s) ∷ [])
+
+unfoldable pub fiveAt : List ℕ → ℕ → ℕ → ℕ → ℕ → Option Line
+fiveAt s a b c d = formed (between s 0 a ∷ between s (a + 1) b ∷ between s (b + 1) c ∷ between s (c + 1) d ∷ between s (d + 1) (length s) ∷ [])
+
+-- what a cut says of the line: where its spaces stand, or that it has no form
+unfoldable pub Cuts : List ℕ → Cut → Type 0
+Cuts s (Two a) = (a < length s) × (parsed s ≡ twoAt s a)
+Cuts s (Three a b) = (a < b) × ((b < length s) × (parsed s ≡ threeAt s a b))
+Cuts s (Five a b c d) = (a < b) × ((b < c) × ((c < d) × ((d < length s) × (parsed s ≡ fiveAt s a b c d))))
+Cuts s Other = parsed s ≡ none
+
+-- three numbers, where each is one (R138, R149)
+unfoldable pub requestFrom : Option ℕ → Option ℕ → Option ℕ → Request
+requestFrom none root largest = Bad
+requestFrom (some t) none largest = Bad
+requestFrom (some t) (some r) none = Bad
+requestFrom (some t) (some r) (some m) = Numbers t r m

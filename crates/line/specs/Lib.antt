@@ -1,0 +1,5 @@
+-- What a line of a session answers on an instance in bytes.
+pub mod Reply
+pub mod Fields
+pub mod Texts
+pub mod Claims
