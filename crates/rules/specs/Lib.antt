@@ -18,6 +18,7 @@ pub mod Saved
 pub mod Restore
 pub mod Calls
 pub mod Session
+pub mod Whole
 pub mod Worked
 pub mod Allocation
 pub mod Trace

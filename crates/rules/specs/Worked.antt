@@ -2,13 +2,14 @@
 use Prim.Native.Nat.{ℕ}
 use Prim.Native.String.{String}
 use mathlib.Core.Path.{_≡_}
-use mathlib.Core.List.{List, [], _∷_}
+use mathlib.Core.List.{List, [], _∷_, _++_}
 use lib.ListN.{replicate, set}
 use Rattle.rules.specs.Numbers.{indexes}
 use Rattle.rules.specs.Bytes.{ascii}
 use Rattle.rules.specs.Instance.{Slot, Instance, withIndexes, emptySlot, heldBy, counterOf}
 use Rattle.rules.specs.Create.{newInstance}
 use Rattle.rules.specs.Session.{replyTo}
+use Rattle.rules.specs.Whole.{lineEnd, session}
 
 -- an instance of n nodes: no option bits, no mapping, nodes kept (R137)
 abbrev pub plain : ℕ → Instance
@@ -102,3 +103,29 @@ expected (c ∷ cs) = record { answers = wanted (c .said) []; counter = c .count
 -- every line is answered as the table says, and the counter ends where it says (R166)
 abbrev pub Worked : Type 0
 Worked = results cases ≡ expected cases
+
+-- ---- the same lines of each case as one input
+
+-- the lines, each with its end
+unfoldable pub input : List Said → List ℕ
+input [] = []
+input (s ∷ ss) = ascii (s .line) ++ (lineEnd ∷ input ss)
+
+-- the answers, each with its end
+unfoldable pub output : List Said → List ℕ
+output [] = []
+output (s ∷ ss) = ascii (s .answer) ++ (lineEnd ∷ output ss)
+
+-- of every case, what a session writes
+unfoldable pub writes : List Case → List (List ℕ)
+writes [] = []
+writes (c ∷ cs) = session (c .from) (input (c .said)) .text ∷ writes cs
+
+-- and what the table says
+unfoldable pub outputs : List Case → List (List ℕ)
+outputs [] = []
+outputs (c ∷ cs) = output (c .said) ∷ outputs cs
+
+-- every case, read as one input, writes what the table says (R137, R151, R166)
+abbrev pub WorkedWhole : Type 0
+WorkedWhole = writes cases ≡ outputs cases
