@@ -1,0 +1,7 @@
+-- What is proved of the stream.
+pub mod Carry
+pub mod Bytes
+pub mod Going
+pub mod Lines
+pub mod Begun
+pub mod Runs

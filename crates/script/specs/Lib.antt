@@ -1,0 +1,4 @@
+-- What a piece of a session's input answers, and what a whole input does in any pieces.
+pub mod Step
+pub mod Feed
+pub mod Runs

@@ -1,0 +1,67 @@
+-- A whole input in any pieces: the calls that read it, each as its contract allows it, and what is claimed of all that they write.
+use Prim.Native.Nat.{ℕ}
+use mathlib.Core.Bool.{true}
+use mathlib.Core.List.{List, [], _∷_, _++_}
+use mathlib.Core.Path.{_≡_}
+use lib.ListN.{take, drop}
+use Rattle.rules.specs.Whole.{session}
+use Rattle.tables.specs.View.{view}
+use Rattle.tables.specs.Rule.{laid}
+use Rattle.script.specs.Feed.{Feeds, Finishes}
+use Rattle.script.specs.declared.Fed.{Fed}
+use Rattle.script.specs.declared.Fed.the-variants.{Went, Refused}
+use Rattle.script.specs.declared.Finished.{Finished}
+use Rattle.script.specs.declared.Finished.the-variants.{Done, Refused as NotDone}
+
+-- the numbers of an answer; a refusal uses nothing, writes nothing, and keeps what was kept
+unfoldable pub usedIn : Fed → ℕ
+usedIn (Went u w k) = u
+usedIn Refused = 0
+
+unfoldable pub wroteIn : Fed → ℕ
+wroteIn (Went u w k) = w
+wroteIn Refused = 0
+
+unfoldable pub keptIn : ℕ → Fed → ℕ
+keptIn kept (Went u w k) = k
+keptIn kept Refused = kept
+
+-- a feed: the piece, the input behind it, the lent output before and after, the answer, and the bytes and the carry after
+pub record Feed : Type 0 where
+  pub piece : List ℕ
+  pub more : List ℕ
+  pub out : List ℕ
+  pub answer : Fed
+  pub after : List ℕ
+  pub carried : List ℕ
+  pub left : List ℕ
+
+-- the finish, with the number that it answers
+pub record Finish : Type 0 where
+  pub out : List ℕ
+  pub wrote : ℕ
+  pub after : List ℕ
+  pub left : List ℕ
+
+-- feeds from some bytes and a begun line on, then the finish: each piece is the front of the input that no feed has used yet, and the finish comes when there is none left
+unfoldable pub Run : List ℕ → List ℕ → List ℕ → ℕ → List Feed → Finish → Type 0
+Run input mem carry kept [] f = (input ≡ []) × Finishes mem carry kept (f .out) (Done (f .wrote)) (f .after) (f .left)
+Run input mem carry kept (s ∷ ss) f =
+    (input ≡ s .piece ++ s .more)
+    × (Feeds mem carry kept (s .piece) (s .out) (s .answer) (s .after) (s .carried) (s .left)
+    × Run (drop (usedIn (s .answer)) (s .piece) ++ s .more) (s .after) (s .carried) (keptIn kept (s .answer)) ss f)
+
+-- all that they write, one after another
+unfoldable pub written : List Feed → Finish → List ℕ
+written [] f = take (f .wrote) (f .left)
+written (s ∷ ss) f = take (wroteIn (s .answer)) (s .left) ++ written ss f
+
+-- from bytes that keep the layout rule, and with nothing begun: all that is written is what the rules write for the whole input, and the bytes after stand for what the
+-- rules leave (R137, R150, R151)
+pub record WholeOf (input mem : List ℕ) (ss : List Feed) (f : Finish) : Type 0 where
+  pub text : written ss f ≡ session (view mem) input .text
+  pub stands : view (f .after) ≡ session (view mem) input .instance
+  pub keeps : laid (f .after) ≡ true
+
+abbrev pub EveryCutting : Type 0
+EveryCutting = (input mem carry : List ℕ) (ss : List Feed) (f : Finish) → laid mem ≡ true → Run input mem carry 0 ss f → WholeOf input mem ss f
