@@ -1,0 +1,25 @@
+-- The numbers of each case of the answer. Assumes nothing.
+use Rattle.storage.specs.Answers.{initializedTold}
+use borrow.Author.Needs.{needs}
+use Rattle.flat.proofs.initialized.Statement.{statement}
+use Rattle.flat.proofs.initialized.Tie as tie
+
+enum-known-a : tie.Need-enum-known-a
+enum-known-a c = search needs
+
+number-of-requires : tie.Need-number-of-requires
+number-of-requires c κs = search needs
+
+enum-told : tie.Need-enum-told
+enum-told c = search needs
+
+returns : tie.Need-returns
+unfolding initializedTold
+returns c = rw (c .before .before .a .given .1, c .number-of .ensures)
+
+returns-2 : tie.Need-returns-2
+unfolding initializedTold
+returns-2 c = rw (c .enum-told .given .1)
+
+pub initialized-spec : {M : Type 1} → statement M
+initialized-spec = tie.close (tie.spec enum-known-a number-of-requires enum-told returns returns-2)

@@ -1,0 +1,58 @@
+-- The numbers of each case of the answer. Assumes nothing.
+use Rattle.vfs_query.specs.Told.{routedTold}
+use borrow.Author.Needs.{needs}
+use Rattle.flat.proofs.routed.Statement.{statement}
+use Rattle.flat.proofs.routed.Tie as tie
+
+enum-known-a : tie.Need-enum-known-a
+enum-known-a c = search needs
+
+enum-known-a-2 : tie.Need-enum-known-a-2
+enum-known-a-2 c = search needs
+
+cast-t7 : tie.Need-cast-t7
+cast-t7 c = search needs
+
+enum-told : tie.Need-enum-told
+enum-told c = search needs
+
+no-route-requires : tie.Need-no-route-requires
+no-route-requires c κs = search needs
+
+enum-told-2 : tie.Need-enum-told-2
+enum-told-2 c = search needs
+
+no-route-requires-2 : tie.Need-no-route-requires-2
+no-route-requires-2 c κs = search needs
+
+returns : tie.Need-returns
+unfolding routedTold
+returns c = rw (c .before .a .given .1)
+
+returns-2 : tie.Need-returns-2
+unfolding routedTold
+returns-2 c = rw (c .before .a2 .given .1, c .known-told2 .given .1)
+
+returns-3 : tie.Need-returns-3
+unfolding routedTold
+returns-3 c = rw (c .before .enum-told .given .1, c .no-route .ensures)
+
+returns-4 : tie.Need-returns-4
+unfolding routedTold
+returns-4 c = rw (c .before .enum-told2 .given .1, c .no-route2 .ensures)
+
+pub routed-spec : {M : Type 1} → statement M
+routed-spec =
+    tie.close
+    (tie.spec
+    enum-known-a
+    enum-known-a-2
+    cast-t7
+    enum-told
+    no-route-requires
+    enum-told-2
+    no-route-requires-2
+    returns
+    returns-2
+    returns-3
+    returns-4)

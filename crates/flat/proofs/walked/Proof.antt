@@ -1,0 +1,58 @@
+-- The numbers of each case of the answer. Assumes nothing.
+use Rattle.pseudo_fs.specs.Told.{pathWalkTold}
+use borrow.Author.Needs.{needs}
+use Rattle.flat.proofs.walked.Statement.{statement}
+use Rattle.flat.proofs.walked.Tie as tie
+
+enum-known-a : tie.Need-enum-known-a
+enum-known-a c = search needs
+
+enum-told : tie.Need-enum-told
+enum-told c = search needs
+
+no-walk-requires : tie.Need-no-walk-requires
+no-walk-requires c κs = search needs
+
+enum-told-2 : tie.Need-enum-told-2
+enum-told-2 c = search needs
+
+no-walk-requires-2 : tie.Need-no-walk-requires-2
+no-walk-requires-2 c κs = search needs
+
+enum-told-3 : tie.Need-enum-told-3
+enum-told-3 c = search needs
+
+no-walk-requires-3 : tie.Need-no-walk-requires-3
+no-walk-requires-3 c κs = search needs
+
+returns : tie.Need-returns
+unfolding pathWalkTold
+returns c = rw (c .before .a .given .1)
+
+returns-2 : tie.Need-returns-2
+unfolding pathWalkTold
+returns-2 c = rw (c .before .enum-told .given .1, c .no-walk .ensures)
+
+returns-3 : tie.Need-returns-3
+unfolding pathWalkTold
+returns-3 c = rw (c .before .enum-told2 .given .1, c .no-walk2 .ensures)
+
+returns-4 : tie.Need-returns-4
+unfolding pathWalkTold
+returns-4 c = rw (c .before .enum-told3 .given .1, c .no-walk3 .ensures)
+
+pub walked-spec : {M : Type 1} → statement M
+walked-spec =
+    tie.close
+    (tie.spec
+    enum-known-a
+    enum-told
+    no-walk-requires
+    enum-told-2
+    no-walk-requires-2
+    enum-told-3
+    no-walk-requires-3
+    returns
+    returns-2
+    returns-3
+    returns-4)

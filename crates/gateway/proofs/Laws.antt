@@ -1,0 +1,52 @@
+-- What an export answers and leaves, from what the call answers and leaves that it wraps. Assumes nothing.
+use Prim.Native.Nat.{ℕ}
+use mathlib.Core.Path.{_≡_, sym}
+use mathlib.Core.Bool.{cond}
+use mathlib.Core.List.{List}
+use lib.Dec.{ltb}
+use Rattle.le.specs.Mem.{write}
+use Rattle.rules.specs.Numbers.{maxIno, convert, INODE, DONE}
+use Rattle.rules.specs.Instance.{Instance}
+use Rattle.rules.specs.Outcome.{Outcome}
+use Rattle.rules.specs.Create.{Creation}
+use Rattle.tables.specs.Call.{Told, answeredBy, writtenBy, Does}
+use Rattle.inode.specs.Converted.{codeOf, fullOf, Converts}
+use Rattle.inode.specs.declared.Converted.{Converted}
+use Rattle.storage.specs.Creation.{createdCode, Creates}
+use Rattle.storage.specs.declared.Created.{Created}
+use Rattle.flat.specs.Flat.{codeNumber, wroteNumbers, inodeNumbers}
+use Rattle.flat.specs.declared.CodeAnswer.{CodeAnswer}
+use Rattle.flat.specs.declared.WroteAnswer.{WroteAnswer}
+use Rattle.flat.specs.declared.InodeAnswer.{InodeAnswer}
+use Rattle.gateway.specs.Calls.{CreatesBy, DoesBy, WritesBy}
+
+-- the numbers of what is told are the numbers of what the rule tells
+pub by-told : {A B : Type 0} (numbers : B → A) (r : A) (t u : B) → r ≡ numbers t → t ≡ u → r ≡ numbers u
+by-told numbers r t u e f = cc
+
+pub does-by : {A : Type 0} (numbers : Told → A) (mem : List ℕ) (f : Instance → Outcome) (t : Told) (r : A) (after exact : List ℕ)
+    → r ≡ numbers t → Does mem f t after exact → DoesBy numbers mem f r after exact
+does-by numbers mem f t r after exact e d =
+    record { answer = by-told numbers r t (answeredBy mem f) e (d .answer); bytes = d .bytes; stands = d .stands; keeps = d .keeps }
+
+pub writes-by : (mem : List ℕ) (f : Instance → Outcome) (d : List ℕ) (t : Told) (r : WroteAnswer) (e : List ℕ)
+    → r ≡ wroteNumbers t → t ≡ answeredBy mem f → e ≡ write d 0 (writtenBy mem f) → WritesBy mem f d r e
+writes-by mem f d t r e h told bytes = record { answer = by-told wroteNumbers r t (answeredBy mem f) h told; bytes = bytes }
+
+pub creates-by : (mem : List ℕ) (q : Creation) (a : Created) (r : CodeAnswer) (after : List ℕ) → r ≡ codeNumber (createdCode a) → Creates mem q a after → CreatesBy mem q r after
+creates-by mem q a r after e d =
+    record {
+      answer = by-told codeNumber r (createdCode a) _ e (d .answer);
+      bytes = d .bytes;
+      keeps = λ h. d .keeps (done h);
+      stands = λ h. d .stands (done h);
+      slots = λ h. d .slots (done h);
+      counter = λ h. d .counter (done h);
+    }
+  where
+    done : r .code ≡ DONE → createdCode a ≡ DONE
+    done h = rw e at h
+
+pub converts-by : (index number : ℕ) (a : Converted) (r : InodeAnswer) → r ≡ inodeNumbers (codeOf a) (fullOf a) → Converts index number a
+    → r ≡ inodeNumbers (cond (ltb maxIno number) INODE DONE) (convert index number)
+converts-by index number a r e d = rw (sym (d .code), sym (d .full)) e

@@ -1,0 +1,2 @@
+-- What the exports answer and leave.
+pub mod Calls

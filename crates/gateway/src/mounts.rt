@@ -1,0 +1,95 @@
+// The mount tables: mount, restored mount, unmount, the root query and routing.
+ghost use mathlib.Core.Path.{_≡_};
+ghost use Rattle.rules.specs.Instance.{Instance};
+ghost use Rattle.rules.specs.Mount.{mountRule, restoreMountRule};
+ghost use Rattle.rules.specs.Unmount.{unmountRule, rootRule};
+ghost use Rattle.rules.specs.Lookup.{routeRule};
+ghost use Rattle.tables.specs.Call.{answeredBy};
+ghost use Rattle.vfs.specs.Mounting.{mountMem};
+ghost use Rattle.vfs.specs.Restoring.{restoreMem};
+ghost use Rattle.vfs.specs.Unmounting.{unmountMem};
+ghost use Rattle.flat.specs.Flat.{mountNumbers, restoreMountNumbers, umountNumbers, rootfsNumbers, routeNumbers};
+ghost use Rattle.gateway.specs.Calls.{requestBy, DoesBy};
+use flat::MountAnswer;
+use flat::RestoreMountAnswer;
+use flat::RootfsAnswer;
+use flat::RouteAnswer;
+use flat::UmountAnswer;
+use inode::BackendNumber;
+use inode::VfsInode;
+use vfs::backend::Backend;
+
+// The first of the rows of a mount that applies, or the mount (R68 to R79).
+#[no_mangle]
+pub extern "C" fn galdovar_mount(
+    storage: &mut [u8],
+    path: &[u8],
+    tag: u32,
+    root: u64,
+    max: u64,
+    uid: u32,
+    gid: u32,
+    mode: u32,
+) -> MountAnswer
+    ensures { λ r. ⌜ DoesBy mountNumbers (now (storage .entry)) (λ (i : Instance). mountRule i (requestBy (now (path .entry)) tag root max uid gid mode)) r (now (storage .exit)) (mountMem (requestBy (now (path .entry)) tag root max uid gid mode) (now (storage .entry))) ⌝ }
+{
+    let b = Backend {
+        tag,
+        root: BackendNumber(root),
+        max,
+        uid,
+        gid,
+        mode,
+    };
+    flat::mounted(vfs::mounting::mount(storage, path, b))
+}
+
+// The first of the rows of a restored mount that applies, or the mount at the index given (R91 to R95).
+#[no_mangle]
+pub extern "C" fn galdovar_restore_mount(
+    storage: &mut [u8],
+    fs_idx: u8,
+    path: &[u8],
+    tag: u32,
+    root: u64,
+    max: u64,
+    uid: u32,
+    gid: u32,
+    mode: u32,
+) -> RestoreMountAnswer
+    ensures { λ r. ⌜ DoesBy restoreMountNumbers (now (storage .entry)) (λ (i : Instance). restoreMountRule i «fs_idx» (requestBy (now (path .entry)) tag root max uid gid mode)) r (now (storage .exit)) (restoreMem «fs_idx» (requestBy (now (path .entry)) tag root max uid gid mode) (now (storage .entry))) ⌝ }
+{
+    let b = Backend {
+        tag,
+        root: BackendNumber(root),
+        max,
+        uid,
+        gid,
+        mode,
+    };
+    flat::restored_mount(vfs::restoring::restore_mount(storage, fs_idx, path, b))
+}
+
+// Takes the mount off the node that the path leads to, and frees its index (R96 to R100).
+#[no_mangle]
+pub extern "C" fn galdovar_umount(storage: &mut [u8], path: &[u8]) -> UmountAnswer
+    ensures { λ r. ⌜ DoesBy umountNumbers (now (storage .entry)) (λ (i : Instance). unmountRule i (now (path .entry))) r (now (storage .exit)) (unmountMem (now (path .entry)) (now (storage .entry))) ⌝ }
+{
+    flat::unmounted(vfs::unmounting::umount(storage, path))
+}
+
+// The backend mounted where a path leads, none for no path or no mount, or NOTFOUND where its slot is empty (R103, R104).
+#[no_mangle]
+pub extern "C" fn galdovar_get_rootfs(storage: &[u8], path: &[u8]) -> RootfsAnswer
+    ensures { λ r. ⌜ r ≡ rootfsNumbers (answeredBy (now (storage .entry)) (λ (i : Instance). rootRule i (now (path .entry)))) ⌝ }
+{
+    flat::rootfs(vfs_query::get_rootfs(storage, path))
+}
+
+// Where a full number goes: to the tree, to a backend, or NOENT (R105 to R107).
+#[no_mangle]
+pub extern "C" fn galdovar_route(storage: &[u8], inode: u64) -> RouteAnswer
+    ensures { λ r. ⌜ r ≡ routeNumbers (answeredBy (now (storage .entry)) (λ (i : Instance). routeRule i inode)) ⌝ }
+{
+    flat::routed(vfs_query::route(storage, VfsInode(inode)))
+}

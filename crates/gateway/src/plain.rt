@@ -1,0 +1,68 @@
+// Calls without an instance: conversion, ids by a given mapping, the component check, and the allocator's step (R24).
+ghost use mathlib.Core.Path.{_≡_};
+ghost use mathlib.Core.Bool.{cond};
+ghost use lib.Dec.{ltb};
+ghost use Rattle.rules.specs.Numbers.{maxIno, convert, INODE, DONE};
+ghost use Rattle.rules.specs.Ids.{wrapped, unwrapped};
+ghost use Rattle.path.specs.Checks.{checkCode};
+ghost use Rattle.index.specs.Take.{Steps};
+ghost use Rattle.flat.specs.Flat.{codeNumber, inodeNumbers};
+ghost use Rattle.gateway.specs.Calls.{mappingBy};
+use flat::CodeAnswer;
+use flat::InodeAnswer;
+use id_map::IdMapping;
+use index::FsIndexes;
+use index::Step;
+use inode::BackendNumber;
+
+// The full number of a backend's number under its index, or INODE (R7).
+#[no_mangle]
+pub extern "C" fn galdovar_convert_inode(fs_idx: u8, number: u64) -> InodeAnswer
+    ensures { λ r. ⌜ r ≡ inodeNumbers (cond (ltb maxIno number) INODE DONE) (convert «fs_idx» number) ⌝ }
+{
+    flat::converted(inode::convert_inode(fs_idx, BackendNumber(number)))
+}
+
+// Out by a given mapping: an id in the internal range moves to the external one, any other stays (R113, R115, R117).
+#[no_mangle]
+pub extern "C" fn galdovar_map_out(internal: u32, external: u32, range: u32, id: u32) -> u32
+    ensures { λ r. ⌜ r ≡ wrapped (mappingBy internal external range) id ⌝ }
+{
+    let m = IdMapping {
+        internal,
+        external,
+        range,
+    };
+    id_map::map_out(m, id)
+}
+
+// Back by a given mapping: the same the other way round (R114, R115, R117).
+#[no_mangle]
+pub extern "C" fn galdovar_map_back(internal: u32, external: u32, range: u32, id: u32) -> u32
+    ensures { λ r. ⌜ r ≡ unwrapped (mappingBy internal external range) id ⌝ }
+{
+    let m = IdMapping {
+        internal,
+        external,
+        range,
+    };
+    id_map::map_back(m, id)
+}
+
+// The check of one component: `.`, `..`, a slash or a byte 0 is INVAL (R61, R62).
+#[no_mangle]
+pub extern "C" fn galdovar_validate_path_component(name: &[u8]) -> CodeAnswer
+    ensures { λ r. ⌜ r ≡ codeNumber (checkCode (now (name .entry))) ⌝ }
+{
+    flat::checked(path::names::validate_path_component(name))
+}
+
+// The allocator's step: the slots and the counter are lent together, and both are changed in place (R90).
+#[no_mangle]
+pub extern "C" fn galdovar_allocate_in(t: &mut FsIndexes, tag: u32) -> Step
+    ensures { λ r. ⌜ Steps (now (t .entry)) tag r (now (t .exit)) ⌝ }
+{
+    let a = index::take(*t, tag);
+    *t = a.table;
+    a.step
+}
