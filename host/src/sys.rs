@@ -1,0 +1,369 @@
+//! The functions of the static library, declared and made safe. All `unsafe` of the crate stands in this file.
+//!
+//! Every call takes pointers with lengths that come from Rust slices, so they are valid; a `&mut` slice overlaps no
+//! other slice of its call; and the library keeps no address after it has returned.
+use crate::options::{IdMapping, VfsOptions};
+use crate::Backend;
+
+#[repr(C)]
+pub struct CodeAnswer {
+    pub code: u32,
+}
+
+#[repr(C)]
+pub struct InitializedAnswer {
+    pub code: u32,
+    pub initialized: u32,
+}
+
+#[repr(C)]
+pub struct OptionsAnswer {
+    pub code: u32,
+    pub flags: u32,
+    pub in_opts: u64,
+    pub out_opts: u64,
+    pub internal: u32,
+    pub external: u32,
+    pub range: u32,
+}
+
+#[repr(C)]
+pub struct MountAnswer {
+    pub code: u32,
+    pub fs_idx: u32,
+    pub count: u32,
+    pub has_replaced: u32,
+    pub replaced: u32,
+}
+
+#[repr(C)]
+pub struct RestoreMountAnswer {
+    pub code: u32,
+    pub has_replaced: u32,
+    pub replaced: u32,
+    pub has_displaced: u32,
+    pub displaced: u32,
+}
+
+#[repr(C)]
+pub struct UmountAnswer {
+    pub code: u32,
+    pub has_released: u32,
+    pub node: u64,
+    pub parent: u64,
+    pub released: u32,
+}
+
+#[repr(C)]
+pub struct RootfsAnswer {
+    pub code: u32,
+    pub has_backend: u32,
+    pub tag: u32,
+    pub fs_idx: u32,
+}
+
+#[repr(C)]
+pub struct WalkAnswer {
+    pub code: u32,
+    pub has_node: u32,
+    pub node: u64,
+}
+
+#[repr(C)]
+pub struct RouteAnswer {
+    pub code: u32,
+    pub to_backend: u32,
+    pub tag: u32,
+    pub fs_idx: u32,
+    pub number: u64,
+}
+
+#[repr(C)]
+pub struct LookupAnswer {
+    pub code: u32,
+    pub mode: u32,
+    pub inode: u64,
+    pub uid: u32,
+    pub gid: u32,
+    pub blksize: u32,
+}
+
+#[repr(C)]
+pub struct WroteAnswer {
+    pub code: u32,
+    pub written: u64,
+}
+
+#[repr(C)]
+pub struct IdsAnswer {
+    pub code: u32,
+    pub uid: u32,
+    pub gid: u32,
+}
+
+#[repr(C)]
+pub struct InodeAnswer {
+    pub code: u32,
+    pub inode: u64,
+}
+
+/// The allocator that a host lends: a slot is held where its byte of `used` is not 0.
+#[repr(C)]
+#[derive(Clone)]
+pub struct FsIndexes {
+    pub used: [u8; 256],
+    pub tags: [u32; 256],
+    pub next_super: u8,
+}
+
+#[repr(C)]
+pub struct Step {
+    pub code: u32,
+    pub index: u32,
+    pub count: u32,
+}
+
+extern "C" {
+    fn galdovar_create(
+        storage: *mut u8,
+        storage_len: usize,
+        n: usize,
+        known: u64,
+        in_opts: u64,
+        out_opts: u64,
+        flags: u8,
+        internal: u32,
+        external: u32,
+        range: u32,
+    ) -> CodeAnswer;
+    fn galdovar_set_remove_pseudo_root(storage: *mut u8, storage_len: usize) -> CodeAnswer;
+    fn galdovar_initialized(storage: *const u8, storage_len: usize) -> InitializedAnswer;
+    fn galdovar_options(storage: *const u8, storage_len: usize) -> OptionsAnswer;
+    fn galdovar_remap_attr_id(
+        storage: *const u8,
+        storage_len: usize,
+        uid: u32,
+        gid: u32,
+        outward: u32,
+    ) -> IdsAnswer;
+    fn galdovar_mount(
+        storage: *mut u8,
+        storage_len: usize,
+        path: *const u8,
+        path_len: usize,
+        tag: u32,
+        root: u64,
+        max: u64,
+        uid: u32,
+        gid: u32,
+        mode: u32,
+    ) -> MountAnswer;
+    fn galdovar_restore_mount(
+        storage: *mut u8,
+        storage_len: usize,
+        fs_idx: u8,
+        path: *const u8,
+        path_len: usize,
+        tag: u32,
+        root: u64,
+        max: u64,
+        uid: u32,
+        gid: u32,
+        mode: u32,
+    ) -> RestoreMountAnswer;
+    fn galdovar_umount(
+        storage: *mut u8,
+        storage_len: usize,
+        path: *const u8,
+        path_len: usize,
+    ) -> UmountAnswer;
+    fn galdovar_get_rootfs(
+        storage: *const u8,
+        storage_len: usize,
+        path: *const u8,
+        path_len: usize,
+    ) -> RootfsAnswer;
+    fn galdovar_route(storage: *const u8, storage_len: usize, inode: u64) -> RouteAnswer;
+    fn galdovar_path_walk(
+        storage: *const u8,
+        storage_len: usize,
+        path: *const u8,
+        path_len: usize,
+    ) -> WalkAnswer;
+    fn galdovar_lookup(
+        storage: *const u8,
+        storage_len: usize,
+        parent: u64,
+        name: *const u8,
+        name_len: usize,
+    ) -> LookupAnswer;
+    fn galdovar_readdir(
+        storage: *const u8,
+        storage_len: usize,
+        node: u64,
+        size: u32,
+        offset: u64,
+        out: *mut u8,
+        out_len: usize,
+    ) -> WroteAnswer;
+    fn galdovar_save_to_bytes(
+        storage: *const u8,
+        storage_len: usize,
+        out: *mut u8,
+        out_len: usize,
+    ) -> WroteAnswer;
+    fn galdovar_restore_from_bytes(
+        storage: *mut u8,
+        storage_len: usize,
+        bytes: *const u8,
+        bytes_len: usize,
+    ) -> CodeAnswer;
+    fn galdovar_convert_inode(fs_idx: u8, number: u64) -> InodeAnswer;
+    fn galdovar_map_out(internal: u32, external: u32, range: u32, id: u32) -> u32;
+    fn galdovar_map_back(internal: u32, external: u32, range: u32, id: u32) -> u32;
+    fn galdovar_validate_path_component(name: *const u8, name_len: usize) -> CodeAnswer;
+    fn galdovar_allocate_in(t: *mut FsIndexes, tag: u32) -> Step;
+}
+
+pub fn create(storage: &mut [u8], n: usize, known: u64, o: &VfsOptions) -> CodeAnswer {
+    let m = o.id_mapping;
+    unsafe {
+        galdovar_create(
+            storage.as_mut_ptr(),
+            storage.len(),
+            n,
+            known,
+            o.in_opts,
+            o.out_opts,
+            o.flags(),
+            m.internal,
+            m.external,
+            m.range,
+        )
+    }
+}
+
+pub fn set_remove_pseudo_root(storage: &mut [u8]) -> CodeAnswer {
+    unsafe { galdovar_set_remove_pseudo_root(storage.as_mut_ptr(), storage.len()) }
+}
+
+pub fn initialized(storage: &[u8]) -> InitializedAnswer {
+    unsafe { galdovar_initialized(storage.as_ptr(), storage.len()) }
+}
+
+pub fn options(storage: &[u8]) -> OptionsAnswer {
+    unsafe { galdovar_options(storage.as_ptr(), storage.len()) }
+}
+
+pub fn remap_attr_id(storage: &[u8], outward: bool, uid: u32, gid: u32) -> IdsAnswer {
+    unsafe { galdovar_remap_attr_id(storage.as_ptr(), storage.len(), uid, gid, u32::from(outward)) }
+}
+
+pub fn mount(storage: &mut [u8], path: &[u8], b: &Backend) -> MountAnswer {
+    unsafe {
+        galdovar_mount(
+            storage.as_mut_ptr(),
+            storage.len(),
+            path.as_ptr(),
+            path.len(),
+            b.tag.0,
+            b.root.0,
+            b.max,
+            b.uid,
+            b.gid,
+            b.mode,
+        )
+    }
+}
+
+pub fn restore_mount(
+    storage: &mut [u8],
+    fs_idx: u8,
+    path: &[u8],
+    b: &Backend,
+) -> RestoreMountAnswer {
+    unsafe {
+        galdovar_restore_mount(
+            storage.as_mut_ptr(),
+            storage.len(),
+            fs_idx,
+            path.as_ptr(),
+            path.len(),
+            b.tag.0,
+            b.root.0,
+            b.max,
+            b.uid,
+            b.gid,
+            b.mode,
+        )
+    }
+}
+
+pub fn umount(storage: &mut [u8], path: &[u8]) -> UmountAnswer {
+    unsafe { galdovar_umount(storage.as_mut_ptr(), storage.len(), path.as_ptr(), path.len()) }
+}
+
+pub fn get_rootfs(storage: &[u8], path: &[u8]) -> RootfsAnswer {
+    unsafe { galdovar_get_rootfs(storage.as_ptr(), storage.len(), path.as_ptr(), path.len()) }
+}
+
+pub fn route(storage: &[u8], inode: u64) -> RouteAnswer {
+    unsafe { galdovar_route(storage.as_ptr(), storage.len(), inode) }
+}
+
+pub fn path_walk(storage: &[u8], path: &[u8]) -> WalkAnswer {
+    unsafe { galdovar_path_walk(storage.as_ptr(), storage.len(), path.as_ptr(), path.len()) }
+}
+
+pub fn lookup(storage: &[u8], parent: u64, name: &[u8]) -> LookupAnswer {
+    unsafe { galdovar_lookup(storage.as_ptr(), storage.len(), parent, name.as_ptr(), name.len()) }
+}
+
+pub fn readdir(storage: &[u8], node: u64, size: u32, offset: u64, out: &mut [u8]) -> WroteAnswer {
+    unsafe {
+        galdovar_readdir(
+            storage.as_ptr(),
+            storage.len(),
+            node,
+            size,
+            offset,
+            out.as_mut_ptr(),
+            out.len(),
+        )
+    }
+}
+
+pub fn save_to_bytes(storage: &[u8], out: &mut [u8]) -> WroteAnswer {
+    unsafe { galdovar_save_to_bytes(storage.as_ptr(), storage.len(), out.as_mut_ptr(), out.len()) }
+}
+
+pub fn restore_from_bytes(storage: &mut [u8], bytes: &[u8]) -> CodeAnswer {
+    unsafe {
+        galdovar_restore_from_bytes(
+            storage.as_mut_ptr(),
+            storage.len(),
+            bytes.as_ptr(),
+            bytes.len(),
+        )
+    }
+}
+
+pub fn convert_inode(fs_idx: u8, number: u64) -> InodeAnswer {
+    unsafe { galdovar_convert_inode(fs_idx, number) }
+}
+
+pub fn map_out(m: IdMapping, id: u32) -> u32 {
+    unsafe { galdovar_map_out(m.internal, m.external, m.range, id) }
+}
+
+pub fn map_back(m: IdMapping, id: u32) -> u32 {
+    unsafe { galdovar_map_back(m.internal, m.external, m.range, id) }
+}
+
+pub fn validate_path_component(name: &[u8]) -> CodeAnswer {
+    unsafe { galdovar_validate_path_component(name.as_ptr(), name.len()) }
+}
+
+pub fn allocate_in(t: &mut FsIndexes, tag: u32) -> Step {
+    unsafe { galdovar_allocate_in(t, tag) }
+}
