@@ -432,8 +432,10 @@ fn an_allocator_by_itself() {
 
 #[test]
 fn storage_that_is_too_short_is_small_everywhere() {
-    for mut vfs in [Vfs::from_bytes(Vec::new()), Vfs::from_bytes(fresh(2).into_bytes()[1..].into())]
-    {
+    let mut cut = fresh(2).into_bytes();
+    cut.pop();
+    for bytes in [Vec::new(), vec![0; storage_for(2)], cut] {
+        let mut vfs = Vfs::from_bytes(bytes);
         let small = VfsError::Small;
         let before = vfs.as_bytes().to_vec();
         assert_eq!(vfs.set_remove_pseudo_root(), Err(small));
