@@ -1,15 +1,15 @@
 -- What is written is read back.
-use Prim.Native.Nat.{ℕ, zero, suc, _+_, _-_, _*_, _/_, _%_, _^_, _≤_, _<_}
+use Prim.Native.Nat.{ℕ, zero, suc, _+_, _-_, _*_, _/_, _%_, _^_, _<_}
 use native.Mathlib.Omega.{arith}
 use native.Mathlib.Nat.{div-lt-iff-lt-mul, pow-suc}
 use mathlib.Core.Path.{_≡_, refl, sym, ap, _∙_}
 use mathlib.Core.Bool.{Bool, true, false, _&&_}
 use mathlib.Core.List.{List, [], _∷_, _++_}
-use lib.Dec.{ltb, leb}
+use lib.Dec.{ltb}
 use lib.ListN.{length, length-append}
 use borrow.Author.Tests.{le-leb, ltb-true, ltb-false}
 use Rattle.rules.specs.Session.{isDigit, allDigits, spelt, digits, decimal}
-use Rattle.decimal.specs.Read.{numberTo, readFrom}
+use Rattle.decimal.specs.Read.{readFrom}
 use Rattle.decimal.specs.RoundTrip.{ReadBack}
 use Rattle.decimal.proofs.Steps.{from-start}
 use Rattle.decimal.proofs.Texts.{small, large}

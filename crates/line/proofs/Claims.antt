@@ -6,10 +6,7 @@ use mathlib.Core.Bool.{Bool, true, false, cond, _||_, true≢false}
 use mathlib.Core.List.{List, [], _∷_, _++_}
 use mathlib.Core.Option.{Option, none, some}
 use lib.Dec.{eqb, ltb}
-use lib.ListN.{length}
-use lib.Seq.{sets}
 use borrow.Author.Tests.{ltb-true, ltb-false, ne-eqb}
-use Rattle.rules.specs.Numbers.{SMALL}
 use Rattle.rules.specs.Bytes.{holds, ascii}
 use Rattle.rules.specs.Instance.{Instance}
 use Rattle.rules.specs.Outcome.{Answer, nothing, mounted, restored, unmounted, walked, rootfs, toTree, toBackend, entry, ids, wrote, settings, truth, Outcome}
@@ -19,7 +16,7 @@ use Rattle.tables.specs.Rule.{laid}
 use Rattle.vfs.specs.Mounting.{mountMem}
 use Rattle.vfs.specs.Unmounting.{unmountMem}
 use Rattle.decimal.proofs.Texts.{small, large}
-use Rattle.line.specs.Reply.{smallText, lineMem, replyText, replyMem, Replies}
+use Rattle.line.specs.Reply.{smallText, lineMem, replyText, replyMem}
 use Rattle.line.specs.Claims.{QuestionStill, QuestionStillBytes, NoFormQuestion, OneLine, SmallStill, OneReply}
 
 -- ---- bytes that stand in no text but `?`: no digit, no space, no `r`

@@ -4,5 +4,6 @@ pub mod Fields
 pub mod Cutting
 pub mod Verbs
 pub mod Lines
+pub mod Formed
 pub mod Replying
 pub mod Claims

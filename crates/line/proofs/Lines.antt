@@ -1,21 +1,19 @@
 -- What each form of a line answers and leaves, by the call's contract.
-use Prim.Native.Nat.{ℕ, _+_, _≤_}
+use Prim.Native.Nat.{ℕ, _≤_}
 use native.Mathlib.Omega.{arith}
 use mathlib.Core.Path.{_≡_, refl, sym, ap, _∙_}
 use mathlib.Core.Bool.{Bool, true, false, cond}
-use mathlib.Core.List.{List, [], _∷_, _++_}
-use mathlib.Core.Option.{Option, none, some}
+use mathlib.Core.List.{List, [], _∷_}
+use mathlib.Core.Option.{some}
 use lib.Dec.{lit≤}
 use Rattle.rules.specs.Numbers.{SMALL}
-use Rattle.rules.specs.Bytes.{ascii}
 use Rattle.rules.specs.Instance.{Instance}
-use Rattle.rules.specs.Outcome.{Answer, nothing, mounted, restored, unmounted, walked, rootfs, toTree, toBackend, entry, ids, wrote, settings, truth, Outcome, count}
+use Rattle.rules.specs.Outcome.{Answer, toTree, toBackend, Outcome}
 use Rattle.rules.specs.Mount.{mountRule}
 use Rattle.rules.specs.Unmount.{walkRule, unmountRule}
 use Rattle.rules.specs.Lookup.{routeRule, lookupRule}
 use Rattle.rules.specs.Calls.{rule}
-use Rattle.rules.specs.Session.{Line, mount, umount, walk, look, textOf, values, shown, requestOf, routed, says, answers}
-use Rattle.rules.proofs.Still.{walk-still, route-still, lookup-still}
+use Rattle.rules.specs.Session.{mount, umount, walk, look, textOf, values, shown, requestOf, routed, says, answers}
 use Rattle.tables.specs.View.{view}
 use Rattle.tables.specs.Rule.{laid}
 use Rattle.tables.specs.Call.{Told, toldBy, toldSmall, answeredBy, Does}

@@ -1,10 +1,10 @@
 -- Laws of the words of a line, and of its numbers.
-use Prim.Native.Nat.{ℕ, suc, _+_, _-_, _^_, _≤_, _<_}
+use Prim.Native.Nat.{ℕ, suc, _+_, _-_, _≤_, _<_}
 use native.Mathlib.Omega.{arith}
 use mathlib.Core.Path.{_≡_, refl, sym, ap, _∙_}
 use mathlib.Core.Bool.{Bool, true, false, cond, not, _&&_}
 use mathlib.Core.List.{List, [], _∷_}
-use mathlib.Core.Option.{Option, none, some}
+use mathlib.Core.Option.{none, some}
 use lib.ListN.{length, getD, drop, drop-of-length-le}
 use lib.Dec.{eqb, leb}
 use borrow.Author.Tests.{eq-eqb, ne-eqb, leb-true}
@@ -15,7 +15,6 @@ use Rattle.decimal.specs.Read.{valueIn, numberTo}
 use Rattle.decimal.specs.declared.Number.{Number}
 use Rattle.decimal.specs.declared.Number.the-variants.{Value, Bad}
 use Rattle.decimal.proofs.Steps.{of-width}
-use Rattle.line.specs.declared.forms.Request.{Request}
 use Rattle.line.specs.declared.forms.Request.the-variants.{Numbers, Bad as BadRequest}
 use Rattle.line.specs.Fields.{requestFrom}
 

@@ -1,13 +1,11 @@
 -- The text of each answer, by the pieces that are laid down.
-use Prim.Native.Nat.{ℕ, _+_, _≤_}
-use native.Mathlib.Omega.{arith}
-use mathlib.Core.Path.{_≡_, refl, sym, ap, _∙_, subst}
+use Prim.Native.Nat.{ℕ, _+_}
+use mathlib.Core.Path.{_≡_, ap, _∙_, subst}
 use mathlib.Core.List.{List, [], _∷_, _++_, append-assoc}
-use lib.Dec.{lit≤}
 use Rattle.rules.specs.Bytes.{ascii}
 use Rattle.rules.specs.Session.{decimal, numbers, joined, textOf, values, shown}
 use Rattle.decimal.specs.Wrote.{Wrote}
-use Rattle.decimal.proofs.Texts.{wrote-more, wrote-wider}
+use Rattle.decimal.proofs.Texts.{wrote-more}
 use Rattle.inode.specs.declared.NodeNumber.{NodeNumber}
 use Rattle.tables.specs.declared.slots.Tag.{Tag}
 use Rattle.pseudo_fs.specs.Told.{pathWalkTold, entryAnswer, lookedTold}

@@ -5,3 +5,4 @@ pub mod Going
 pub mod Lines
 pub mod Begun
 pub mod Runs
+pub mod Onward

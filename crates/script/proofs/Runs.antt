@@ -40,7 +40,7 @@ module _ (mem carry : List ℕ) (kept : ℕ) (piece out : List ℕ) (r : Fed) (a
   abbrev G : Going (List ℕ)
   G = goes (List ℕ) byBytes mem carry kept piece (length out)
 
-  used-by : (t : Bool) → accepts carry kept ≡ t → usedIn r ≡ G .used
+  pub used-by : (t : Bool) → accepts carry kept ≡ t → usedIn r ≡ G .used
   unfolding usedIn goes went start
   used-by true e = ap usedIn (f .answer) ∙ rw e
   used-by false e = ap usedIn (f .answer) ∙ rw e

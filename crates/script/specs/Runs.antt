@@ -1,13 +1,13 @@
 -- A whole input in any pieces: the calls that read it, each as its contract allows it, and what is claimed of all that they write.
-use Prim.Native.Nat.{ℕ}
+use Prim.Native.Nat.{ℕ, _≤_}
 use mathlib.Core.Bool.{true}
 use mathlib.Core.List.{List, [], _∷_, _++_}
 use mathlib.Core.Path.{_≡_}
-use lib.ListN.{take, drop}
+use lib.ListN.{length, take, drop}
 use Rattle.rules.specs.Whole.{session}
 use Rattle.tables.specs.View.{view}
 use Rattle.tables.specs.Rule.{laid}
-use Rattle.script.specs.Feed.{Feeds, Finishes}
+use Rattle.script.specs.Feed.{accepts, Feeds, Finishes}
 use Rattle.script.specs.declared.Fed.{Fed}
 use Rattle.script.specs.declared.Fed.the-variants.{Went, Refused}
 use Rattle.script.specs.declared.Finished.{Finished}
@@ -65,3 +65,12 @@ pub record WholeOf (input mem : List ℕ) (ss : List Feed) (f : Finish) : Type 0
 
 abbrev pub EveryCutting : Type 0
 EveryCutting = (input mem carry : List ℕ) (ss : List Feed) (f : Finish) → laid mem ≡ true → Run input mem carry 0 ss f → WholeOf input mem ss f
+
+-- a feed uses no more than the piece has; an accepted one, of a byte or more and with 64 bytes of output or more, uses at least one
+pub record Onward (carry : List ℕ) (kept : ℕ) (piece out : List ℕ) (r : Fed) : Type 0 where
+  pub most : usedIn r ≤ length piece
+  pub least : accepts carry kept ≡ true → 1 ≤ length piece → 64 ≤ length out → 1 ≤ usedIn r
+
+abbrev pub EveryFeed : Type 0
+EveryFeed = (mem carry : List ℕ) (kept : ℕ) (piece out : List ℕ) (r : Fed) (after carried left : List ℕ)
+    → Feeds mem carry kept piece out r after carried left → Onward carry kept piece out r

@@ -1,8 +1,8 @@
 -- `decimal::inner::digits` meets its contract: the last digit stands behind the others. The number falls.
-use Prim.Native.Nat.{ℕ, _/_, _^_, _<_}
+use Prim.Native.Nat.{ℕ, _^_, _<_}
 use native.Mathlib.Omega.{arith}
 use borrow.Author.Needs.{needs}
-use Rattle.decimal.proofs.Texts.{length-step, length-decimal, length-one, put-first, put-next}
+use Rattle.decimal.proofs.Texts.{length-step, length-one, put-first, put-next}
 use borrow.Fn.Kinds.{In}
 use borrow.Fn.PlainCycle.{Measures, is, falls, and}
 use Rattle.decimal.proofs.inner.digits.Reads as digits

@@ -1,0 +1,64 @@
+-- Every feed with room goes on. Assumes nothing.
+use Prim.Native.Nat.{ℕ, suc, _+_, _-_, _≤_}
+use native.Mathlib.Omega.{arith}
+use mathlib.Core.Path.{_≡_, refl, sym, ap, _∙_}
+use mathlib.Core.Bool.{Bool, true, false, cond}
+use mathlib.Core.List.{List, [], _∷_}
+use lib.ListN.{length}
+use lib.Dec.{ltb}
+use borrow.Author.Tests.{le-ltb}
+use Rattle.script.specs.Step.{Answers, byBytes}
+use Rattle.script.specs.Feed.{Going, start, step, fed, accepts, goes, Feeds}
+use Rattle.script.specs.Runs.{usedIn, Onward, EveryFeed}
+use Rattle.script.specs.declared.Fed.{Fed}
+use Rattle.script.proofs.Runs.{used-by}
+
+module _ (S : Type 0) (a : Answers S) (room : ℕ) where
+  step-used : (b : ℕ) (g : Going S) → step S a b g .used ≡ g .used + 1
+  unfolding step
+  step-used b g = refl
+
+  either : (t : Bool) (x y : Going S) (low high : ℕ) → (low ≤ x .used) × (x .used ≤ high) → (low ≤ y .used) × (y .used ≤ high) → (low ≤ cond t x y .used) × (cond t x y .used ≤ high)
+  either true x y low high p q = p
+  either false x y low high p q = q
+
+  -- from what was used up to all of the bytes
+  used-range : (bs : List ℕ) (g : Going S) → (g .used ≤ fed S a room bs g .used) × (fed S a room bs g .used ≤ g .used + length bs)
+  unfolding fed
+  used-range [] g = (omega arith, omega arith)
+  used-range (b ∷ bs) g =
+      let r : (step S a b g .used ≤ fed S a room bs (step S a b g) .used) × (fed S a room bs (step S a b g) .used ≤ step S a b g .used + length bs) =
+      used-range bs (step S a b g) in
+      let n : step S a b g .used ≡ g .used + 1 = step-used b g in
+      either (ltb (room - length (g .text)) 64) g (fed S a room bs (step S a b g)) (g .used) (g .used + suc (length bs)) (omega arith, omega arith) (omega arith, omega arith)
+
+  -- the first byte is used where there is room
+  used-first : (bs : List ℕ) (g : Going S) → 1 ≤ length bs → g .text ≡ [] → 64 ≤ room → g .used + 1 ≤ fed S a room bs g .used
+  unfolding fed
+  used-first [] g h e r = absurd (let z : ⊥ = omega arith in z)
+  used-first (b ∷ bs) g h e r =
+      let k : 64 ≤ room - length (g .text) = omega (arith, ap length e) in
+      let m : step S a b g .used ≤ fed S a room bs (step S a b g) .used = used-range bs (step S a b g) .0 in
+      let n : step S a b g .used ≡ g .used + 1 = step-used b g in
+      rw (le-ltb (room - length (g .text)) 64 k) (omega arith)
+
+module _ (mem carry : List ℕ) (kept : ℕ) (piece : List ℕ) (room : ℕ) where
+  most-by : (t : Bool) → accepts carry kept ≡ t → goes (List ℕ) byBytes mem carry kept piece room .used ≤ length piece
+  unfolding goes start
+  most-by true e =
+      let r : fed (List ℕ) byBytes room piece (start (List ℕ) mem carry kept) .used ≤ 0 + length piece = used-range (List ℕ) byBytes room piece (start (List ℕ) mem carry kept) .1 in
+      rw e (omega arith)
+  most-by false e = rw e (omega arith)
+
+  least-by : accepts carry kept ≡ true → 1 ≤ length piece → 64 ≤ room → 1 ≤ goes (List ℕ) byBytes mem carry kept piece room .used
+  unfolding goes start
+  least-by e h r = rw e (used-first (List ℕ) byBytes room piece (start (List ℕ) mem carry kept) h refl r)
+
+-- the theorem
+pub onward : EveryFeed
+onward mem carry kept piece out r after carried left f =
+    let u : usedIn r ≡ goes (List ℕ) byBytes mem carry kept piece (length out) .used = used-by mem carry kept piece out r after carried left f _ refl in
+    record {
+      most = omega (arith, most-by mem carry kept piece (length out) _ refl);
+      least = λ e h g. omega (arith, least-by mem carry kept piece (length out) e h g);
+    }
