@@ -1,0 +1,136 @@
+-- The same of the calls on the instance as a whole, on saved state, and without an instance. Assumes nothing.
+use mathlib.Core.Path.{_≡_, refl}
+use mathlib.Core.Bool.{true, false}
+use lib.Dec.{eqb}
+use Rattle.inode.specs.Converted.{codeOf, fullOf}
+use Rattle.inode.specs.declared.Converted.{Converted}
+use Rattle.inode.specs.declared.Converted.the-variants.{Full as ConvertedFull, Inode as ConvertedInode}
+use Rattle.path.specs.Checks.{code}
+use Rattle.path.specs.declared.names.Checked.{Checked}
+use Rattle.path.specs.declared.names.Checked.the-variants.{Done as CheckedDone, Inval as CheckedInval}
+use Rattle.storage.specs.Creation.{createdCode}
+use Rattle.storage.specs.Answers.{removalTold, initializedTold, optionsTold}
+use Rattle.storage.specs.declared.Created.{Created}
+use Rattle.storage.specs.declared.Created.the-variants.{Done as CreatedDone, Small as CreatedSmall, BadOpt, BadMap}
+use Rattle.storage.specs.declared.Removal.{Removal}
+use Rattle.storage.specs.declared.Removal.the-variants.{Done as RemovalDone, Small as RemovalSmall}
+use Rattle.storage.specs.declared.IsInitialized.{IsInitialized}
+use Rattle.storage.specs.declared.IsInitialized.the-variants.{Is, Small as InitializedSmall}
+use Rattle.storage.specs.declared.OptionsOf.{OptionsOf}
+use Rattle.storage.specs.declared.OptionsOf.the-variants.{Options, Small as OptionsSmall}
+use Rattle.persist.specs.Saving.{savedTold}
+use Rattle.persist.specs.Restoring.{stateTold}
+use Rattle.persist.specs.declared.saving.Saved.{Saved}
+use Rattle.persist.specs.declared.saving.Saved.the-variants.{Wrote as SavedWrote, Small as SavedSmall}
+use Rattle.persist.specs.declared.restoring.StateRestored.{StateRestored}
+use Rattle.persist.specs.declared.restoring.StateRestored.the-variants.{Done as StateDone, NotFresh, BadSave, BadOpt as StateBadOpt, NoRoom as StateNoRoom, Small as StateSmall}
+use Rattle.flat.specs.Flat.{codeNumber, codeNumbers, initializedNumbers, optionsNumbers, wroteNumbers, inodeNumbers}
+use Rattle.flat.specs.declared.CodeAnswer.{CodeAnswer}
+use Rattle.flat.specs.declared.InitializedAnswer.{InitializedAnswer}
+use Rattle.flat.specs.declared.OptionsAnswer.{OptionsAnswer}
+use Rattle.flat.specs.declared.WroteAnswer.{WroteAnswer}
+use Rattle.flat.specs.declared.InodeAnswer.{InodeAnswer}
+use Rattle.flat.proofs.Apart.{apart, at}
+
+-- ---- the instance
+
+abbrev createdBack : CodeAnswer → Created
+createdBack r = at 0 (r .code) CreatedDone (at 13 (r .code) BadOpt (at 9 (r .code) BadMap CreatedSmall))
+
+created-back : (a : Created) → createdBack (codeNumber (createdCode a)) ≡ a
+unfolding createdCode
+created-back CreatedDone = refl
+created-back CreatedSmall = refl
+created-back BadOpt = refl
+created-back BadMap = refl
+
+pub created-apart : (a b : Created) → codeNumber (createdCode a) ≡ codeNumber (createdCode b) → a ≡ b
+created-apart = apart (λ (a : Created). codeNumber (createdCode a)) createdBack created-back
+
+abbrev removalBack : CodeAnswer → Removal
+removalBack r = at 0 (r .code) RemovalDone RemovalSmall
+
+removal-back : (a : Removal) → removalBack (codeNumbers (removalTold a)) ≡ a
+unfolding removalTold
+removal-back RemovalDone = refl
+removal-back RemovalSmall = refl
+
+pub removal-apart : (a b : Removal) → codeNumbers (removalTold a) ≡ codeNumbers (removalTold b) → a ≡ b
+removal-apart = apart (λ (a : Removal). codeNumbers (removalTold a)) removalBack removal-back
+
+abbrev initializedBack : InitializedAnswer → IsInitialized
+initializedBack r = at 0 (r .code) (Is (eqb (r .initialized) 1)) InitializedSmall
+
+initialized-back : (a : IsInitialized) → initializedBack (initializedNumbers (initializedTold a)) ≡ a
+unfolding initializedTold
+initialized-back (Is true) = refl
+initialized-back (Is false) = refl
+initialized-back InitializedSmall = refl
+
+pub initialized-apart : (a b : IsInitialized) → initializedNumbers (initializedTold a) ≡ initializedNumbers (initializedTold b) → a ≡ b
+initialized-apart = apart (λ (a : IsInitialized). initializedNumbers (initializedTold a)) initializedBack initialized-back
+
+abbrev optionsBack : OptionsAnswer → OptionsOf
+optionsBack r =
+    at 0 (r .code)
+    (Options (record { «in_opts» = r .«in_opts»; «out_opts» = r .«out_opts»; mapping = record { internal = r .internal; external = r .external; range = r .range }; flags = r .flags }))
+    OptionsSmall
+
+options-back : (a : OptionsOf) → optionsBack (optionsNumbers (optionsTold a)) ≡ a
+unfolding optionsTold
+options-back (Options o) = refl
+options-back OptionsSmall = refl
+
+pub options-apart : (a b : OptionsOf) → optionsNumbers (optionsTold a) ≡ optionsNumbers (optionsTold b) → a ≡ b
+options-apart = apart (λ (a : OptionsOf). optionsNumbers (optionsTold a)) optionsBack options-back
+
+-- ---- saved state
+
+abbrev savedBack : WroteAnswer → Saved
+savedBack r = at 0 (r .code) (SavedWrote (r .written)) SavedSmall
+
+saved-back : (a : Saved) → savedBack (wroteNumbers (savedTold a)) ≡ a
+unfolding savedTold
+saved-back (SavedWrote n) = refl
+saved-back SavedSmall = refl
+
+pub saved-apart : (a b : Saved) → wroteNumbers (savedTold a) ≡ wroteNumbers (savedTold b) → a ≡ b
+saved-apart = apart (λ (a : Saved). wroteNumbers (savedTold a)) savedBack saved-back
+
+abbrev stateBack : CodeAnswer → StateRestored
+stateBack r = at 0 (r .code) StateDone (at 11 (r .code) NotFresh (at 10 (r .code) BadSave (at 13 (r .code) StateBadOpt (at 6 (r .code) StateNoRoom StateSmall))))
+
+state-back : (a : StateRestored) → stateBack (codeNumbers (stateTold a)) ≡ a
+unfolding stateTold
+state-back StateDone = refl
+state-back NotFresh = refl
+state-back BadSave = refl
+state-back StateBadOpt = refl
+state-back StateNoRoom = refl
+state-back StateSmall = refl
+
+pub state-apart : (a b : StateRestored) → codeNumbers (stateTold a) ≡ codeNumbers (stateTold b) → a ≡ b
+state-apart = apart (λ (a : StateRestored). codeNumbers (stateTold a)) stateBack state-back
+
+-- ---- without an instance
+
+abbrev convertedBack : InodeAnswer → Converted
+convertedBack r = at 0 (r .code) (ConvertedFull (record { 0 = r .inode })) ConvertedInode
+
+converted-back : (a : Converted) → convertedBack (inodeNumbers (codeOf a) (fullOf a)) ≡ a
+unfolding codeOf fullOf
+converted-back (ConvertedFull x) = refl
+converted-back ConvertedInode = refl
+
+pub converted-apart : (a b : Converted) → inodeNumbers (codeOf a) (fullOf a) ≡ inodeNumbers (codeOf b) (fullOf b) → a ≡ b
+converted-apart = apart (λ (a : Converted). inodeNumbers (codeOf a) (fullOf a)) convertedBack converted-back
+
+abbrev checkedBack : CodeAnswer → Checked
+checkedBack r = at 0 (r .code) CheckedDone CheckedInval
+
+checked-back : (a : Checked) → checkedBack (codeNumber (code a)) ≡ a
+checked-back CheckedDone = refl
+checked-back CheckedInval = refl
+
+pub checked-apart : (a b : Checked) → codeNumber (code a) ≡ codeNumber (code b) → a ≡ b
+checked-apart = apart (λ (a : Checked). codeNumber (code a)) checkedBack checked-back
