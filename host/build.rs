@@ -2,7 +2,7 @@
 use std::env;
 use std::fs;
 use std::path::{Path, PathBuf};
-use std::process::Command;
+use std::process::{exit, Command};
 use std::time::Instant;
 
 const LIBRARY: &str = "libgateway.a";
@@ -23,7 +23,7 @@ fn given(dir: &Path) -> PathBuf {
     let library = dir.join(LIBRARY);
     println!("cargo:rerun-if-changed={}", library.display());
     if !library.is_file() {
-        panic!("GALDOVAR_LIB_DIR is set, but there is no file {}", library.display());
+        fail(format!("GALDOVAR_LIB_DIR is set, but there is no file {}", library.display()));
     }
     fs::canonicalize(dir).expect("the directory of GALDOVAR_LIB_DIR can be read")
 }
@@ -37,31 +37,39 @@ fn proved() -> PathBuf {
     let start = Instant::now();
     let run = Command::new("rt").args(["staticlib", "gateway"]).current_dir(&root).output();
     let run = run.unwrap_or_else(|e| {
-        panic!(
-            "GALDOVAR_LIB_DIR is not set, so `rt staticlib gateway` has to build {}, and `rt` does not start ({}). \
-             Put the Rattle kit on the PATH, or set GALDOVAR_LIB_DIR to the directory of a {} built elsewhere",
+        fail(format!(
+            "GALDOVAR_LIB_DIR is not set, so `rt staticlib gateway` has to build {}, and `rt` does not start ({}).\n\
+             Put the Rattle kit on the PATH, or set GALDOVAR_LIB_DIR to the directory of a {} built elsewhere.",
             LIBRARY, e, LIBRARY
-        )
+        ))
     });
     if !run.status.success() {
-        panic!(
-            "`rt staticlib gateway` failed ({})\n{}{}",
-            run.status,
-            String::from_utf8_lossy(&run.stdout),
-            String::from_utf8_lossy(&run.stderr)
-        );
+        let (out, err) =
+            (String::from_utf8_lossy(&run.stdout), String::from_utf8_lossy(&run.stderr));
+        fail(format!("{}{}`rt staticlib gateway` failed ({})", out, err, run.status));
     }
     println!(
-        "cargo:warning=GALDOVAR_LIB_DIR is not set, so `rt staticlib gateway` proved and built the library, in {} s. \
-         That takes several minutes where nothing is proved yet, and seconds where nothing has changed",
+        "cargo:warning={} was proved and built by `rt staticlib gateway`, in {} s, since GALDOVAR_LIB_DIR is not set. \
+         From nothing that takes several minutes. It is done again when a file under crates/ changes",
+        LIBRARY,
         start.elapsed().as_secs()
     );
     let out = PathBuf::from(env::var_os("OUT_DIR").expect("cargo sets it"));
     let made = root.join("target").join("staticlib").join(LIBRARY);
     if let Err(e) = fs::copy(&made, out.join(LIBRARY)) {
-        panic!("`rt staticlib gateway` succeeded, but {} cannot be copied ({})", made.display(), e);
+        fail(format!(
+            "`rt staticlib gateway` is done, but {} cannot be copied ({})",
+            made.display(),
+            e
+        ));
     }
     out
+}
+
+/// Ends the build with a message alone.
+fn fail(message: String) -> ! {
+    eprintln!("{}", message);
+    exit(1);
 }
 
 /// The library holds machine code for x86-64 Linux; a linker's own message about that is hard to read.
