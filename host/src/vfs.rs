@@ -266,6 +266,20 @@ impl Vfs {
     }
 
     /// Whether a state with option bits was restored: false for a new instance.
+    ///
+    /// ```
+    /// use galdovar::{Vfs, VfsOptions};
+    ///
+    /// # fn main() -> Result<(), galdovar::VfsError> {
+    /// let opts = VfsOptions { in_opts: 1, ..VfsOptions::new() };
+    /// let old = Vfs::new(64, 1, &opts)?;
+    /// let mut new = Vfs::new(64, 1, &opts)?;
+    /// assert!(!new.initialized()?);
+    /// new.restore_from_bytes(&old.save_to_bytes()?)?;
+    /// assert!(new.initialized()?);
+    /// # Ok(())
+    /// # }
+    /// ```
     pub fn initialized(&self) -> Result<bool, VfsError> {
         let a = sys::initialized(&self.storage);
         VfsError::done(a.code)?;
@@ -404,6 +418,18 @@ impl Vfs {
     /// What is mounted where a path leads; none where it leads nowhere or nothing is mounted.
     ///
     /// Refused: SMALL, INVAL for the path, NOTFOUND where the slot of the mount is empty.
+    ///
+    /// ```
+    /// use galdovar::{Backend, Rootfs, Tag, Vfs, VfsOptions};
+    ///
+    /// # fn main() -> Result<(), galdovar::VfsError> {
+    /// let mut vfs = Vfs::new(64, 0, &VfsOptions::new())?;
+    /// vfs.mount(Backend::new(Tag(7)), "/a/b")?;
+    /// assert_eq!(vfs.get_rootfs("/a/b")?, Some(Rootfs { tag: Tag(7), fs_idx: 1 }));
+    /// assert_eq!(vfs.get_rootfs("/a")?, None);
+    /// # Ok(())
+    /// # }
+    /// ```
     pub fn get_rootfs(&self, path: impl AsRef<[u8]>) -> Result<Option<Rootfs>, VfsError> {
         let a = sys::get_rootfs(&self.storage, path.as_ref());
         VfsError::done(a.code)?;
