@@ -13,11 +13,11 @@ fn backend(tag: u32) -> Backend {
     Backend { tag, root: 1, max: 1000, uid: 0, gid: 0, mode: 16895 }
 }
 
-fn mount(path: &[u8], tag: u32) -> Call {
+pub fn mount(path: &[u8], tag: u32) -> Call {
     Call::Mount(path.to_vec(), backend(tag))
 }
 
-fn restore_mount(index: u8, path: &[u8], tag: u32) -> Call {
+pub fn restore_mount(index: u8, path: &[u8], tag: u32) -> Call {
     Call::RestoreMount(index, path.to_vec(), backend(tag))
 }
 
@@ -134,9 +134,14 @@ fn paths() -> Vec<Call> {
     calls
 }
 
+/// A new instance with a few nodes whose names are made of `a`, `b` and `.`.
+pub fn small_tree() -> Vec<Call> {
+    vec![new(64, (0, 0, 0)), mount(b"/a/b", 1), mount(b"/b/..a", 2), mount(b"/a/a/a", 3)]
+}
+
 /// Every walk along a path of up to four bytes over `/ . a b`, and of five that begins with a slash.
 fn short_paths() -> Vec<Call> {
-    let mut calls = vec![new(64, (0, 0, 0)), mount(b"/a/b", 1), mount(b"/b/..a", 2), mount(b"/a/a/a", 3)];
+    let mut calls = small_tree();
     let mut last: Vec<Vec<u8>> = vec![Vec::new()];
     for len in 0..=5 {
         for path in &last {

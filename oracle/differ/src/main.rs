@@ -1,14 +1,27 @@
 //! Asks the Rust, records its answers, and holds them against the port's.
 //!   differ record SEED CALLS FILE    writes the recorded list
+//!   differ differences               runs the inputs of docs/DIFFERENCES.md on the Rust
+//!   differ compare SEED CALLS        runs both sides
+//!   differ slips SEED CALLS          runs wrong ports, each up to the first difference
+//! The last two need the port linked in.
+
+#![cfg_attr(not(port), allow(dead_code))]
 
 mod chance;
+#[cfg(port)]
+mod compare;
 mod directed;
 mod house;
+#[cfg(port)]
+mod port_side;
 mod random;
 mod record;
 mod rust_side;
 mod side;
+#[cfg(port)]
+mod slips;
 mod text;
+mod witness;
 
 use std::fs::File;
 use std::io::BufWriter;
@@ -22,8 +35,37 @@ fn main() {
             let lines = record::record(seed, calls as usize, &mut out).expect("the file cannot be written");
             println!("seed {}: {} calls recorded in {}", seed, lines, file);
         }
+        (Some("differences"), None, None, None) => witness::show(),
+        #[cfg(port)]
+        (Some("compare"), Some(seed), Some(calls), None) => {
+            println!("seed {}", seed);
+            let mut c = compare::Compare::new(port_side::PortSide::new());
+            c.directed();
+            println!("directed: {} equal", c.equal);
+            c.searches(seed, 1000);
+            println!("and searches: {} equal", c.equal);
+            c.utf8();
+            println!("and UTF-8: {} equal", c.equal);
+            c.paths(9);
+            println!("and paths: {} equal", c.equal);
+            c.changed_states();
+            println!("and changed states: {} equal, {} explained", c.equal, c.explained);
+            c.random(seed, calls);
+            println!("{} answers equal, {} different", c.equal, c.different);
+            std::process::exit(if c.different == 0 { 0 } else { 1 });
+        }
+        #[cfg(port)]
+        (Some("slips"), Some(seed), Some(calls), None) => {
+            println!("seed {}", seed);
+            std::process::exit(if slips::run(seed, calls) { 0 } else { 1 });
+        }
+        #[cfg(not(port))]
+        (Some("compare"), ..) | (Some("slips"), ..) => {
+            eprintln!("the port is not linked in: set GALDOVAR_LIB_DIR to the folder of libgateway.a and build again");
+            std::process::exit(2);
+        }
         _ => {
-            eprintln!("usage: differ record SEED CALLS FILE");
+            eprintln!("usage: differ compare SEED CALLS | slips SEED CALLS | record SEED CALLS FILE | differences");
             std::process::exit(2);
         }
     }

@@ -59,7 +59,7 @@ pub fn record(seed: u64, calls: usize, out: &mut dyn Write) -> std::io::Result<u
 }
 
 /// Whether a call may change the tables, so that none after it can do without it.
-fn changes(call: &Call) -> bool {
+pub fn changes(call: &Call) -> bool {
     match call {
         Call::New(_) | Call::Remove | Call::Mount(..) | Call::RestoreMount(..) => true,
         Call::Umount(_) | Call::Restore(_) => true,

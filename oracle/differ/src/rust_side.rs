@@ -155,6 +155,10 @@ impl RustSide {
         (found, self.visited(before, found.is_none()))
     }
 
+    pub fn counter(&self) -> u8 {
+        self.vfs.probe_counter()
+    }
+
     /// How many indexes a search visited: the way of the counter, which is one round and one more where it found none.
     fn visited(&self, before: u8, full: bool) -> u64 {
         let way = self.vfs.probe_counter().wrapping_sub(before) as u64;

@@ -1,0 +1,230 @@
+//! Both sides on the same calls: every answer is held against the other's, and after every call the whole tables.
+
+use crate::chance::Chance;
+use crate::directed;
+use crate::house::State;
+use crate::port_side::PortSide;
+use crate::random::Random;
+use crate::record::{changes, learn};
+use crate::rust_side::RustSide;
+use crate::side::{Call, Creation, Node, Options, Side};
+use crate::text::line;
+
+pub struct Compare<P> {
+    rust: RustSide,
+    port: P,
+    /// The calls since the last new instance, without those before the last that can change nothing.
+    trail: Vec<Call>,
+    pub equal: u64,
+    pub different: u64,
+    /// Differences that docs/DIFFERENCES.md explains.
+    pub explained: u64,
+    /// Nothing is printed, and random calls end at the first difference.
+    pub quiet: bool,
+}
+
+impl<P: Side> Compare<P> {
+    pub fn new(port: P) -> Compare<P> {
+        Compare {
+            rust: RustSide::new(),
+            port,
+            trail: Vec::new(),
+            equal: 0,
+            different: 0,
+            explained: 0,
+            quiet: false,
+        }
+    }
+
+    fn differs(&mut self, what: &str, rust: String, port: String) {
+        self.different += 1;
+        if self.quiet || self.different > 3 {
+            return;
+        }
+        println!("different {} at the last of these calls:", what);
+        for call in &self.trail {
+            println!("  {}", crate::text::call_text(call));
+        }
+        println!("  the Rust: {}\n  the port: {}", rust, port);
+    }
+
+    fn follow(&mut self, call: &Call) {
+        match call {
+            Call::New(_) => self.trail.clear(),
+            _ if self.trail.last().map_or(false, |last| !changes(last)) => {
+                self.trail.pop();
+            }
+            _ => {}
+        }
+        self.trail.push(call.clone());
+    }
+
+    /// One call on both sides; its answers and the tables after it.
+    fn call(&mut self, call: &Call) -> crate::side::Answer {
+        self.follow(call);
+        let rust = self.rust.perform(call);
+        let port = self.port.perform(call);
+        let mut same = rust == port;
+        if !same {
+            self.differs("answer", line(call, &rust), line(call, &port));
+        }
+        let (r, p) = (self.rust.tables(), self.port.tables());
+        if r != p {
+            if same {
+                self.differs("tables", format!("{:?}", r), format!("{:?}", p));
+            }
+            same = false;
+        }
+        if same {
+            self.equal += 1;
+        }
+        rust
+    }
+
+    pub fn directed(&mut self) {
+        for list in directed::lists() {
+            for call in &list {
+                self.call(call);
+            }
+        }
+    }
+
+    /// Random calls, 300 on an instance, up to the number given.
+    pub fn random(&mut self, seed: u64, calls: u64) {
+        let mut chance = Chance::new(seed);
+        let mut done = 0;
+        while done < calls {
+            let capacity = *chance.random.pick(&[1, 2, 6, 16, 16, 32, 32, 64, 64, 1024]);
+            let mut call = chance.creation(capacity);
+            for _ in 0..300 {
+                let answer = self.call(&call);
+                if self.quiet && self.different > 0 {
+                    return;
+                }
+                learn(&mut chance, &call, &answer);
+                call = chance.call(&self.rust.tables());
+                done += 1;
+            }
+        }
+    }
+
+    /// The index search from random tables, each with every counter; from tables with one slot empty, and with none.
+    pub fn searches(&mut self, seed: u64, tables: u64) {
+        let mut random = Random::new(seed);
+        for k in 0..tables {
+            let empty_in = 1 + random.below(40);
+            let mut slots: Vec<Option<u32>> = match k {
+                0..=255 => vec![Some(7); 256],
+                _ => (0..256).map(|_| if random.below(40) < empty_in { None } else { Some(9) }).collect(),
+            };
+            if k < 256 {
+                slots[k as usize] = None;
+            }
+            for counter in 0..=255 {
+                self.rust.set_slots(&slots, counter);
+                let (found, count) = self.rust.allocate();
+                let rust = (found, count, self.rust.counter());
+                let port = PortSide::allocate(&slots, counter, 5);
+                if rust == port {
+                    self.equal += 1;
+                } else {
+                    self.differs("search", format!("{:?}", rust), format!("{:?}", port));
+                }
+            }
+        }
+    }
+
+    /// Every path of up to that many bytes over `/ . a b`: a walk and a root query on a small tree, and a mount on a new
+    /// instance.
+    pub fn paths(&mut self, longest: u32) {
+        for len in 0..=longest {
+            let tree = directed::small_tree();
+            for call in &tree {
+                self.call(call);
+            }
+            for k in 0..4_u64.pow(len) {
+                let path: Vec<u8> = (0..len).map(|at| b"/.ab"[(k >> (2 * at) & 3) as usize]).collect();
+                self.call(&Call::Walk(path.clone()));
+                self.call(&Call::Rootfs(path));
+            }
+            for k in 0..4_u64.pow(len) {
+                let path: Vec<u8> = (0..len).map(|at| b"/.ab"[(k >> (2 * at) & 3) as usize]).collect();
+                self.call(&directed::new(16, (0, 0, 0)));
+                self.call(&directed::mount(&path, 1));
+            }
+        }
+    }
+
+    /// Every two bytes behind a slash; every first byte with next bytes around each limit, up to five.
+    pub fn utf8(&mut self) {
+        let edges = [0x00, 0x2f, 0x61, 0x7f, 0x80, 0x8f, 0x90, 0x9f, 0xa0, 0xbf, 0xc0, 0xc2, 0xe0, 0xf0, 0xff];
+        self.call(&directed::new(16, (0, 0, 0)));
+        for first in 0..=255 {
+            self.call(&Call::Walk(vec![b'/', first]));
+            for second in 0..=255 {
+                self.call(&Call::Walk(vec![b'/', first, second]));
+            }
+            for second in edges.iter() {
+                for third in edges.iter() {
+                    self.call(&Call::Walk(vec![b'/', first, *second, *third]));
+                    for fourth in edges.iter() {
+                        self.call(&Call::Walk(vec![b'/', first, *second, *third, *fourth]));
+                        self.call(&Call::Lookup(1, vec![first.max(1), *second | 1, *third | 1, *fourth | 1]));
+                    }
+                }
+            }
+        }
+    }
+
+    /// Every change of one byte of some saved states, restored. Where the port says BADSAVE the Rust may accept, or may
+    /// judge the options first; wherever the port accepts, the Rust must too, with the same tables.
+    pub fn changed_states(&mut self) {
+        let node = |number, parent, name: &[u8]| Node { number, parent, name: name.to_vec() };
+        let options = Options { in_opts: 5, out_opts: 9, mapping: (1, 2, 3), flags: 9 };
+        let states = [
+            State { nodes: vec![], options, next: 2, counter: 7 },
+            State { nodes: vec![node(2, 1, b"a")], options, next: 3, counter: 0 },
+            State {
+                nodes: vec![node(2, 1, b"a"), node(4, 1, b"b"), node(5, 4, b"\xc3\xa9x"), node(300, 2, b"..a")],
+                options,
+                next: 70_000,
+                counter: 255,
+            },
+        ];
+        let new = Call::New(Creation {
+            capacity: 16,
+            known: 0xffff,
+            in_opts: 0,
+            out_opts: 0,
+            flags: 0,
+            mapping: (0, 0, 0),
+        });
+        for state in states.iter() {
+            let bytes = state.to_house();
+            for at in 0..bytes.len() {
+                for change in 0..=255 {
+                    let mut bytes = bytes.clone();
+                    bytes[at] ^= change;
+                    self.call(&new);
+                    self.restore(&Call::Restore(bytes));
+                }
+            }
+        }
+    }
+
+    fn restore(&mut self, call: &Call) {
+        self.follow(call);
+        let rust = self.rust.perform(call);
+        let port = self.port.perform(call);
+        if port.code() == 10 && rust.code() != 10 {
+            self.explained += 1;
+        } else if rust != port {
+            self.differs("answer", line(call, &rust), line(call, &port));
+        } else if port.code() == 0 && self.rust.tables() != self.port.tables() {
+            let (r, p) = (self.rust.tables(), self.port.tables());
+            self.differs("tables", format!("{:?}", r), format!("{:?}", p));
+        } else {
+            self.equal += 1;
+        }
+    }
+}
