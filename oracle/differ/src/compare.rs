@@ -7,7 +7,7 @@ use crate::port_side::PortSide;
 use crate::random::Random;
 use crate::record::{changes, learn};
 use crate::rust_side::RustSide;
-use crate::side::{Call, Creation, Node, Options, Side};
+use crate::side::{Answer, Call, Creation, Node, Options, Side, Tables};
 use crate::text::line;
 
 pub struct Compare<P> {
@@ -59,8 +59,8 @@ impl<P: Side> Compare<P> {
         self.trail.push(call.clone());
     }
 
-    /// One call on both sides; its answers and the tables after it.
-    fn call(&mut self, call: &Call) -> crate::side::Answer {
+    /// One call on both sides; the Rust's answer, and its tables after it.
+    fn call(&mut self, call: &Call) -> (Answer, Tables) {
         self.follow(call);
         let rust = self.rust.perform(call);
         let port = self.port.perform(call);
@@ -78,7 +78,7 @@ impl<P: Side> Compare<P> {
         if same {
             self.equal += 1;
         }
-        rust
+        (rust, r)
     }
 
     pub fn directed(&mut self) {
@@ -94,15 +94,18 @@ impl<P: Side> Compare<P> {
         let mut chance = Chance::new(seed);
         let mut done = 0;
         while done < calls {
+            if !self.quiet && done % 500_000 < 300 {
+                println!("after {} random calls: {} equal, {} different", done, self.equal, self.different);
+            }
             let capacity = *chance.random.pick(&[1, 2, 6, 16, 16, 32, 32, 64, 64, 1024]);
             let mut call = chance.creation(capacity);
             for _ in 0..300 {
-                let answer = self.call(&call);
+                let (answer, tables) = self.call(&call);
                 if self.quiet && self.different > 0 {
                     return;
                 }
                 learn(&mut chance, &call, &answer);
-                call = chance.call(&self.rust.tables());
+                call = chance.call(&tables);
                 done += 1;
             }
         }
@@ -120,10 +123,9 @@ impl<P: Side> Compare<P> {
             if k < 256 {
                 slots[k as usize] = None;
             }
+            self.rust.set_slots(&slots);
             for counter in 0..=255 {
-                self.rust.set_slots(&slots, counter);
-                let (found, count) = self.rust.allocate();
-                let rust = (found, count, self.rust.counter());
+                let rust = self.rust.allocate(counter);
                 let port = PortSide::allocate(&slots, counter, 5);
                 if rust == port {
                     self.equal += 1;
@@ -176,8 +178,8 @@ impl<P: Side> Compare<P> {
         }
     }
 
-    /// Every change of one byte of some saved states, restored. Where the port says BADSAVE the Rust may accept, or may
-    /// judge the options first; wherever the port accepts, the Rust must too, with the same tables.
+    /// Every change of one byte of some saved states, restored. Where one of R129 (g) to (k) holds and the port says
+    /// BADSAVE, the Rust may accept, or may refuse the options first: that is explained. In all else the two must agree.
     pub fn changed_states(&mut self) {
         let node = |number, parent, name: &[u8]| Node { number, parent, name: name.to_vec() };
         let options = Options { in_opts: 5, out_opts: 9, mapping: (1, 2, 3), flags: 9 };
@@ -206,17 +208,19 @@ impl<P: Side> Compare<P> {
                     let mut bytes = bytes.clone();
                     bytes[at] ^= change;
                     self.call(&new);
-                    self.restore(&Call::Restore(bytes));
+                    self.restore(bytes);
                 }
             }
         }
     }
 
-    fn restore(&mut self, call: &Call) {
+    fn restore(&mut self, state: Vec<u8>) {
+        let faulty = State::from_house(&state).map_or(false, |s| s.is_faulty());
+        let call = &Call::Restore(state);
         self.follow(call);
         let rust = self.rust.perform(call);
         let port = self.port.perform(call);
-        if port.code() == 10 && rust.code() != 10 {
+        if faulty && port.code() == 10 && rust.code() != 10 {
             self.explained += 1;
         } else if rust != port {
             self.differs("answer", line(call, &rust), line(call, &port));

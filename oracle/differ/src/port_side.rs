@@ -186,6 +186,8 @@ mod calls {
             out_len: usize,
         ) -> Wrote;
         pub fn galdovar_convert_inode(fs_idx: u8, number: u64) -> Inode;
+        pub fn galdovar_map_out(internal: u32, external: u32, range: u32, id: u32) -> u32;
+        pub fn galdovar_map_back(internal: u32, external: u32, range: u32, id: u32) -> u32;
         pub fn galdovar_validate_path_component(name: *const u8, len: usize) -> Code;
         pub fn galdovar_save_to_bytes(storage: *const u8, len: usize, out: *mut u8, out_len: usize) -> Wrote;
         pub fn galdovar_restore_from_bytes(
@@ -210,6 +212,8 @@ const LONGEST_STATE: usize = 279_335;
 pub struct PortSide {
     /// The bytes of the instance, and the pattern behind them.
     pub bytes: Vec<u8>,
+    /// The mapping that it was made with.
+    mapping: (u32, u32, u32),
 }
 
 fn number(bytes: &[u8], at: usize, width: usize) -> u64 {
@@ -225,7 +229,7 @@ fn written(out: &[u8], len: u64) -> Vec<u8> {
 
 impl PortSide {
     pub fn new() -> PortSide {
-        PortSide { bytes: Vec::new() }
+        PortSide { bytes: Vec::new(), mapping: (0, 0, 0) }
     }
 
     fn lent(&mut self) -> (*mut u8, usize) {
@@ -293,6 +297,7 @@ impl Side for PortSide {
         self.bytes.clear();
         self.bytes.resize(len + BEHIND, PATTERN);
         let (at, len) = self.lent();
+        self.mapping = c.mapping;
         let (internal, external, range) = c.mapping;
         // SAFETY: here and below, each slice is lent with its own length, and none overlaps another.
         let a = unsafe {
@@ -396,6 +401,12 @@ impl Side for PortSide {
     fn remap_attr_id(&mut self, outward: bool, uid: u32, gid: u32) -> Answer {
         let (at, len) = self.lent();
         let a = unsafe { calls::galdovar_remap_attr_id(at, len, uid, gid, outward as u32) };
+        let (internal, external, range) = self.mapping;
+        let given = match outward {
+            true => unsafe { calls::galdovar_map_out(internal, external, range, uid) },
+            false => unsafe { calls::galdovar_map_back(internal, external, range, uid) },
+        };
+        assert_eq!(given, a.uid, "an id by a given mapping, and by the same mapping in force");
         Answer::of(&[a.code as u64, a.uid as u64, a.gid as u64])
     }
 

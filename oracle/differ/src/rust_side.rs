@@ -135,8 +135,8 @@ impl RustSide {
         assert_eq!(dropped, told, "the backends dropped are not those told");
     }
 
-    /// Puts tags into slots and sets the counter, for searches from any tables.
-    pub fn set_slots(&mut self, slots: &[Option<u32>], counter: u8) {
+    /// Puts tags into the slots, for searches from any tables.
+    pub fn set_slots(&mut self, slots: &[Option<u32>]) {
         let slots = slots
             .iter()
             .map(|tag| {
@@ -145,18 +145,15 @@ impl RustSide {
                 })
             })
             .collect();
-        self.vfs.probe_set(slots, counter);
+        self.vfs.probe_set_slots(slots);
     }
 
-    /// The index found and the count of indexes visited; FULL is no index. Nothing is put into the slot.
-    pub fn allocate(&mut self) -> (Option<u8>, u64) {
-        let before = self.vfs.probe_counter();
+    /// A search from a counter: the index found or none, the count of indexes visited, and the counter after. Nothing is
+    /// put into the slot.
+    pub fn allocate(&mut self, counter: u8) -> (Option<u8>, u64, u8) {
+        self.vfs.probe_set_counter(counter);
         let found = self.vfs.probe_allocate().ok();
-        (found, self.visited(before, found.is_none()))
-    }
-
-    pub fn counter(&self) -> u8 {
-        self.vfs.probe_counter()
+        (found, self.visited(counter, found.is_none()), self.vfs.probe_counter())
     }
 
     /// How many indexes a search visited: the way of the counter, which is one round and one more where it found none.
@@ -421,12 +418,14 @@ impl Side for RustSide {
             })
             .collect();
         mounts.sort_by_key(|m| m.node);
+        let mut slots = vec![None; 256];
+        self.vfs.probe_slots(&mut |k, fs| slots[k] = Some(tag_of(fs)));
         Tables {
             nodes,
             children,
             next,
             counter: self.vfs.probe_counter(),
-            slots: self.vfs.probe_slots().iter().map(|s| s.as_ref().map(|fs| tag_of(fs))).collect(),
+            slots,
             mounts,
             options: options_of(&self.vfs.options()),
             initialized: self.vfs.initialized(),

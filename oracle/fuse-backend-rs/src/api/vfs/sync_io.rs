@@ -9,8 +9,13 @@ impl Vfs {
         self.next_super.load(Ordering::SeqCst)
     }
 
-    pub fn probe_slots(&self) -> Vec<Option<ArcBackFs>> {
-        self.superblocks.load().deref().deref().clone()
+    /// Shows each slot that is held, with its index.
+    pub fn probe_slots(&self, show: &mut dyn FnMut(usize, &BackFileSystem)) {
+        for (k, slot) in self.superblocks.load().iter().enumerate() {
+            if let Some(fs) = slot {
+                show(k, fs);
+            }
+        }
     }
 
     pub fn probe_slot(&self, fs_idx: VfsIndex) -> Option<ArcBackFs> {
@@ -44,9 +49,12 @@ impl Vfs {
         self.root.save_to_bytes().unwrap()
     }
 
-    /// Puts slots and counter as given, for searches from any tables.
-    pub fn probe_set(&self, slots: Vec<Option<ArcBackFs>>, counter: u8) {
+    /// Puts the slots as given, for searches from any tables.
+    pub fn probe_set_slots(&self, slots: Vec<Option<ArcBackFs>>) {
         self.superblocks.store(Arc::new(slots));
+    }
+
+    pub fn probe_set_counter(&self, counter: u8) {
         self.next_super.store(counter, Ordering::SeqCst);
     }
 
