@@ -48,14 +48,7 @@ pub struct Chance {
 
 impl Chance {
     pub fn new(seed: u64) -> Chance {
-        Chance {
-            random: Random::new(seed),
-            kept: vec![1],
-            states: Vec::new(),
-            capacity: 64,
-            known: u64::MAX,
-            tags: 0,
-        }
+        Chance { random: Random::new(seed), kept: vec![1], states: Vec::new(), capacity: 64, known: u64::MAX, tags: 0 }
     }
 
     /// Keeps what an answer gave, for later calls.
@@ -352,12 +345,15 @@ impl Chance {
                 let room = if self.random.one_in(2) { 4096 } else { self.random.below(200) as usize };
                 Call::List { node, size, offset, room }
             }
-            88 => Call::Convert(self.random.next() as u8, match self.random.below(4) {
-                0 => self.random.next(),
-                1 => MAX_INO + self.random.below(2),
-                2 => 0,
-                _ => self.random.below(1 << 56),
-            }),
+            88 => Call::Convert(
+                self.random.next() as u8,
+                match self.random.below(4) {
+                    0 => self.random.next(),
+                    1 => MAX_INO + self.random.below(2),
+                    2 => 0,
+                    _ => self.random.below(1 << 56),
+                },
+            ),
             89..=91 => Call::Out(self.id(t.options.mapping), self.id(t.options.mapping)),
             92..=94 => Call::Back(self.id(t.options.mapping), self.id(t.options.mapping)),
             95 => Call::Component(self.lookup_name(t, 1)),

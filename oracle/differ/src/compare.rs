@@ -25,15 +25,7 @@ pub struct Compare<P> {
 
 impl<P: Side> Compare<P> {
     pub fn new(port: P) -> Compare<P> {
-        Compare {
-            rust: RustSide::new(),
-            port,
-            trail: Vec::new(),
-            equal: 0,
-            different: 0,
-            explained: 0,
-            quiet: false,
-        }
+        Compare { rust: RustSide::new(), port, trail: Vec::new(), equal: 0, different: 0, explained: 0, quiet: false }
     }
 
     fn differs(&mut self, what: &str, rust: String, port: String) {
@@ -111,7 +103,8 @@ impl<P: Side> Compare<P> {
         }
     }
 
-    /// The index search from random tables, each with every counter; from tables with one slot empty, and with none.
+    /// The index search from tables with one slot empty, then from random ones, each with every counter. In every tenth
+    /// of them a mount makes the same search on both sides' own tables.
     pub fn searches(&mut self, seed: u64, tables: u64) {
         let mut random = Random::new(seed);
         for k in 0..tables {
@@ -123,7 +116,15 @@ impl<P: Side> Compare<P> {
             if k < 256 {
                 slots[k as usize] = None;
             }
-            self.rust.set_slots(&slots);
+            for counter in 0..=255 {
+                if k % 10 == 0 {
+                    self.call(&directed::new(1, (0, 0, 0)));
+                    self.rust.set_slots(&slots, counter);
+                    self.port.set_slots(&slots, counter);
+                    self.call(&directed::mount(b"/", 3));
+                }
+            }
+            self.rust.set_slots(&slots, 0);
             for counter in 0..=255 {
                 let rust = self.rust.allocate(counter);
                 let port = PortSide::allocate(&slots, counter, 5);
@@ -193,14 +194,8 @@ impl<P: Side> Compare<P> {
                 counter: 255,
             },
         ];
-        let new = Call::New(Creation {
-            capacity: 16,
-            known: 0xffff,
-            in_opts: 0,
-            out_opts: 0,
-            flags: 0,
-            mapping: (0, 0, 0),
-        });
+        let new =
+            Call::New(Creation { capacity: 16, known: 0xffff, in_opts: 0, out_opts: 0, flags: 0, mapping: (0, 0, 0) });
         for state in states.iter() {
             let bytes = state.to_house();
             for at in 0..bytes.len() {

@@ -112,10 +112,48 @@ fn paths() -> Vec<Call> {
     let deep = b"/p/..".iter().cycle().take(4095).cloned().chain(*b"/").collect::<Vec<u8>>();
     let mut calls = vec![new(64, (0, 0, 0)), mount(b"/a/b/c", 1), mount(b"/a", 2)];
     let mut forms: Vec<&[u8]> = vec![
-        b"/", b"//", b"/.", b"/..", b"/../..", b"/./.", b"/a", b"/a/", b"//a", b"/a//b", b"/a/./b", b"/a/b/..",
-        b"/a/b/../b", b"/a/b/c/../../..", b"/x", b"/x/..", b"/x/../a", b"/x/../x/y", b"/...", b"/a/...", b"/.a",
-        b"/a.", b"/a/..b", b"", b".", b"..", b"a", b"./a", b"../a", b"\0", b"/\0", b"/a\0b", b"/ ", b"/a/ b",
-        b"/\n", b"/a/b/c/", b"/a/b/c/d", b"/A", b"\xff/", b"/a/\x80", b"/a\xcc", "/\u{e9}/\u{20ac}".as_bytes(),
+        b"/",
+        b"//",
+        b"/.",
+        b"/..",
+        b"/../..",
+        b"/./.",
+        b"/a",
+        b"/a/",
+        b"//a",
+        b"/a//b",
+        b"/a/./b",
+        b"/a/b/..",
+        b"/a/b/../b",
+        b"/a/b/c/../../..",
+        b"/x",
+        b"/x/..",
+        b"/x/../a",
+        b"/x/../x/y",
+        b"/...",
+        b"/a/...",
+        b"/.a",
+        b"/a.",
+        b"/a/..b",
+        b"",
+        b".",
+        b"..",
+        b"a",
+        b"./a",
+        b"../a",
+        b"\0",
+        b"/\0",
+        b"/a\0b",
+        b"/ ",
+        b"/a/ b",
+        b"/\n",
+        b"/a/b/c/",
+        b"/a/b/c/d",
+        b"/A",
+        b"\xff/",
+        b"/a/\x80",
+        b"/a\xcc",
+        "/\u{e9}/\u{20ac}".as_bytes(),
     ];
     forms.push(&long);
     forms.push(&deep);
@@ -149,9 +187,7 @@ fn short_paths() -> Vec<Call> {
                 calls.push(walk(path));
             }
         }
-        let longer = |path: &Vec<u8>| {
-            b"/.ab".iter().map(|b| [&path[..], &[*b][..]].concat()).collect::<Vec<Vec<u8>>>()
-        };
+        let longer = |path: &Vec<u8>| b"/.ab".iter().map(|b| [&path[..], &[*b][..]].concat()).collect::<Vec<Vec<u8>>>();
         last = last.iter().flat_map(longer).collect();
     }
     calls
@@ -186,7 +222,9 @@ fn utf8() -> Vec<Call> {
 /// Listings at every size and offset around the records' ends, with room of every size.
 fn listings() -> Vec<Call> {
     let mut calls = vec![new(64, (0, 0, 0))];
-    for (k, name) in [&b"/a"[..], b"/12345678", b"/123456789", b"/a/b", b"/\xc3\xa9", b"/16-letters-long"].iter().enumerate() {
+    for (k, name) in
+        [&b"/a"[..], b"/12345678", b"/123456789", b"/a/b", b"/\xc3\xa9", b"/16-letters-long"].iter().enumerate()
+    {
         calls.push(mount(name, k as u32));
     }
     let list = |node, size, offset, room| Call::List { node, size, offset, room };
@@ -226,7 +264,22 @@ fn lookups() -> Vec<Call> {
         restore_mount(77, b"/\xc3\xa9", 10),
     ];
     let names: [&[u8]; 16] = [
-        b"a", b"b", b"c", b"d", b"e", b"f", b"x", b"", b".", b"..", b"...", b"a/b", b"/", b"\xc3\xa9", b"\xc3", b"\xff",
+        b"a",
+        b"b",
+        b"c",
+        b"d",
+        b"e",
+        b"f",
+        b"x",
+        b"",
+        b".",
+        b"..",
+        b"...",
+        b"a/b",
+        b"/",
+        b"\xc3\xa9",
+        b"\xc3",
+        b"\xff",
     ];
     for round in 0..3 {
         for node in (0..10).chain([MAX_INO].iter().cloned()) {
@@ -343,8 +396,23 @@ fn pure() -> Vec<Call> {
         }
     }
     let names: [&[u8]; 17] = [
-        b"", b".", b"..", b"...", b"a", b"/", b"a/", b"/a", b"a/b", b".a", b"..a", b"a.", b"./", b"../", b"\xff",
-        b".\xff", &[b'x'; 300],
+        b"",
+        b".",
+        b"..",
+        b"...",
+        b"a",
+        b"/",
+        b"a/",
+        b"/a",
+        b"a/b",
+        b".a",
+        b"..a",
+        b"a.",
+        b"./",
+        b"../",
+        b"\xff",
+        b".\xff",
+        &[b'x'; 300],
     ];
     calls.extend(names.iter().map(|n| Call::Component(n.to_vec())));
     calls

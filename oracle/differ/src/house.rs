@@ -98,16 +98,19 @@ impl State {
         let from_two = self.nodes.first().map_or(true, |n| n.number >= 2);
         let above = self.nodes.iter().all(|n| n.number < self.next);
         let next = above && self.next >= 2 && self.next <= 1 << 56;
-        let parents = self.nodes.iter().enumerate().all(|(k, n)| {
-            n.parent == 1 || self.nodes[..k].iter().any(|earlier| earlier.number == n.parent)
-        });
+        let parents = self
+            .nodes
+            .iter()
+            .enumerate()
+            .all(|(k, n)| n.parent == 1 || self.nodes[..k].iter().any(|earlier| earlier.number == n.parent));
         let names = self.nodes.iter().all(|n| {
             let name = &n.name[..];
             !name.is_empty() && name.len() <= 255 && !name.contains(&b'/') && name != b"." && name != b".."
         });
-        let twins = self.nodes.iter().enumerate().any(|(k, n)| {
-            self.nodes[..k].iter().any(|earlier| earlier.parent == n.parent && earlier.name == n.name)
-        });
+        let twins =
+            self.nodes.iter().enumerate().any(|(k, n)| {
+                self.nodes[..k].iter().any(|earlier| earlier.parent == n.parent && earlier.name == n.name)
+            });
         !rising || !from_two || !next || !parents || !names || twins
     }
 

@@ -169,13 +169,8 @@ mod calls {
         pub fn galdovar_get_rootfs(storage: *const u8, len: usize, path: *const u8, path_len: usize) -> Rootfs;
         pub fn galdovar_path_walk(storage: *const u8, len: usize, path: *const u8, path_len: usize) -> Walk;
         pub fn galdovar_route(storage: *const u8, len: usize, inode: u64) -> Route;
-        pub fn galdovar_lookup(
-            storage: *const u8,
-            len: usize,
-            parent: u64,
-            name: *const u8,
-            name_len: usize,
-        ) -> Lookup;
+        pub fn galdovar_lookup(storage: *const u8, len: usize, parent: u64, name: *const u8, name_len: usize)
+            -> Lookup;
         pub fn galdovar_readdir(
             storage: *const u8,
             len: usize,
@@ -190,12 +185,7 @@ mod calls {
         pub fn galdovar_map_back(internal: u32, external: u32, range: u32, id: u32) -> u32;
         pub fn galdovar_validate_path_component(name: *const u8, len: usize) -> Code;
         pub fn galdovar_save_to_bytes(storage: *const u8, len: usize, out: *mut u8, out_len: usize) -> Wrote;
-        pub fn galdovar_restore_from_bytes(
-            storage: *mut u8,
-            len: usize,
-            bytes: *const u8,
-            bytes_len: usize,
-        ) -> Code;
+        pub fn galdovar_restore_from_bytes(storage: *mut u8, len: usize, bytes: *const u8, bytes_len: usize) -> Code;
         pub fn galdovar_allocate_in(t: *mut FsIndexes, tag: u32) -> Step;
     }
 }
@@ -480,6 +470,15 @@ impl Side for PortSide {
             },
             initialized: b[83] != 0,
             removes: b[82] != 0,
+        }
+    }
+
+    fn set_slots(&mut self, slots: &[Option<u32>], counter: u8) {
+        self.bytes[81] = counter;
+        for (k, tag) in slots.iter().enumerate() {
+            let at = 512 + 4 * k;
+            self.bytes[256 + k] = tag.is_some() as u8;
+            self.bytes[at..at + 4].copy_from_slice(&tag.unwrap_or(0).to_le_bytes());
         }
     }
 }

@@ -135,19 +135,6 @@ impl RustSide {
         assert_eq!(dropped, told, "the backends dropped are not those told");
     }
 
-    /// Puts tags into the slots, for searches from any tables.
-    pub fn set_slots(&mut self, slots: &[Option<u32>]) {
-        let slots = slots
-            .iter()
-            .map(|tag| {
-                tag.map(|tag| {
-                    Arc::new(self.backend(Backend { tag, root: 1, max: 1, uid: 0, gid: 0, mode: 0 }))
-                })
-            })
-            .collect();
-        self.vfs.probe_set_slots(slots);
-    }
-
     /// A search from a counter: the index found or none, the count of indexes visited, and the counter after. Nothing is
     /// put into the slot.
     pub fn allocate(&mut self, counter: u8) -> (Option<u8>, u64, u8) {
@@ -285,9 +272,7 @@ impl Side for RustSide {
     fn route(&mut self, full: u64) -> Answer {
         match self.vfs.probe_route(full) {
             Ok(RoutedTo::Tree(node)) => Answer::of(&[0, 0, 0, 0, node]),
-            Ok(RoutedTo::Backend(fs, index, number)) => {
-                Answer::of(&[0, 1, tag_of(&fs) as u64, index as u64, number])
-            }
+            Ok(RoutedTo::Backend(fs, index, number)) => Answer::of(&[0, 1, tag_of(&fs) as u64, index as u64, number]),
             Err(e) => Answer::refused(code_of(&e), 5),
         }
     }
@@ -431,5 +416,12 @@ impl Side for RustSide {
             initialized: self.vfs.initialized(),
             removes: self.vfs.probe_removes(),
         }
+    }
+
+    fn set_slots(&mut self, slots: &[Option<u32>], counter: u8) {
+        let request = |tag| Backend { tag, root: 1, max: 1, uid: 0, gid: 0, mode: 0 };
+        let slots = slots.iter().map(|tag| tag.map(|tag| Arc::new(self.backend(request(tag))))).collect();
+        self.vfs.probe_set_slots(slots);
+        self.vfs.probe_set_counter(counter);
     }
 }

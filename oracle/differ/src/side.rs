@@ -165,6 +165,9 @@ pub trait Side {
 
     fn tables(&self) -> Tables;
 
+    /// No call: puts tags into the slots, and the counter, so that a call finds any tables.
+    fn set_slots(&mut self, slots: &[Option<u32>], counter: u8);
+
     fn perform(&mut self, call: &Call) -> Answer {
         match call {
             Call::New(c) => self.create(c),

@@ -188,6 +188,10 @@ impl Side for Slipped {
     fn tables(&self) -> Tables {
         self.port.tables()
     }
+
+    fn set_slots(&mut self, slots: &[Option<u32>], counter: u8) {
+        self.port.set_slots(slots, counter)
+    }
 }
 
 /// Runs random calls on each wrong port up to the first difference; whether each was found.

@@ -28,9 +28,8 @@ fn look(name: &[u8]) -> Call {
 /// Each difference that a run can show: its number in docs/DIFFERENCES.md, and the calls.
 fn inputs() -> Vec<(u32, Vec<Call>)> {
     let fresh = || new(64, (0, 0, 0));
-    let masked = |known| {
-        Call::New(Creation { capacity: 64, known, in_opts: 0, out_opts: 0, flags: 0, mapping: (0, 0, 0) })
-    };
+    let masked =
+        |known| Call::New(Creation { capacity: 64, known, in_opts: 0, out_opts: 0, flags: 0, mapping: (0, 0, 0) });
     let unknown = State {
         nodes: vec![node(2, 9, b"a")],
         options: Options { in_opts: 2, ..Options::default() },
@@ -47,12 +46,7 @@ fn inputs() -> Vec<(u32, Vec<Call>)> {
         (5, vec![new(64, (u32::MAX, 0, 1)), Call::Out(u32::MAX, 0)]),
         (6, vec![fresh(), mount(b"/a", 1), restore(vec![], 2), walk(b"/a")]),
         (9, vec![masked(1), Call::Restore(unknown.to_house()), Call::Settings]),
-        (10, vec![
-            fresh(),
-            restore(vec![node(2, 1, b"a"), node(3, 9, b"b")], 4),
-            root(b"/a"),
-            mount(b"/c", 1),
-        ]),
+        (10, vec![fresh(), restore(vec![node(2, 1, b"a"), node(3, 9, b"b")], 4), root(b"/a"), mount(b"/c", 1)]),
         (11, vec![fresh(), restore(vec![node(3, 1, b"a"), node(2, 1, b"b")], 4), walk(b"/a"), walk(b"/b")]),
         (12, vec![fresh(), restore(vec![node(0, 1, b"a")], 2), walk(b"/a")]),
         (12, vec![fresh(), restore(vec![node(1, 1, b"a")], 2), walk(b"/a"), walk(b"/")]),

@@ -21,15 +21,11 @@ impl Snapshot {
     }
 
     pub fn save<W: Write, T: Versionize>(&mut self, to: &mut W, value: &T) -> Result<(), Error> {
-        value
-            .serialize(to, &self.map, self.version)
-            .map_err(Error::Versionize)
+        value.serialize(to, &self.map, self.version).map_err(Error::Versionize)
     }
 
     pub fn load<R: Read, T: Versionize>(from: &mut R, _len: usize, map: VersionMap) -> Result<(T, u16), Error> {
         let version = map.latest_version();
-        T::deserialize(from, &map, version)
-            .map(|value| (value, version))
-            .map_err(Error::Versionize)
+        T::deserialize(from, &map, version).map(|value| (value, version)).map_err(Error::Versionize)
     }
 }

@@ -63,8 +63,7 @@ macro_rules! number {
     ($t:ty, $width:expr) => {
         impl Versionize for $t {
             fn serialize<W: Write>(&self, to: &mut W, _: &VersionMap, _: u16) -> VersionizeResult<()> {
-                to.write_all(&self.to_le_bytes())
-                    .map_err(|e| VersionizeError::Serialize(e.to_string()))
+                to.write_all(&self.to_le_bytes()).map_err(|e| VersionizeError::Serialize(e.to_string()))
             }
 
             fn deserialize<R: Read>(from: &mut R, _: &VersionMap, _: u16) -> VersionizeResult<$t> {
@@ -101,8 +100,7 @@ impl Versionize for bool {
 impl Versionize for String {
     fn serialize<W: Write>(&self, to: &mut W, map: &VersionMap, version: u16) -> VersionizeResult<()> {
         (self.len() as u64).serialize(to, map, version)?;
-        to.write_all(self.as_bytes())
-            .map_err(|e| VersionizeError::Serialize(e.to_string()))
+        to.write_all(self.as_bytes()).map_err(|e| VersionizeError::Serialize(e.to_string()))
     }
 
     fn deserialize<R: Read>(from: &mut R, map: &VersionMap, version: u16) -> VersionizeResult<String> {

@@ -56,10 +56,8 @@ pub fn derive(input: TokenStream) -> TokenStream {
         .iter()
         .map(|f| format!("::versionize::Versionize::serialize(&self.{}, to, map, version)?;", f))
         .collect();
-    let reads: String = fields
-        .iter()
-        .map(|f| format!("{}: ::versionize::Versionize::deserialize(from, map, version)?,", f))
-        .collect();
+    let reads: String =
+        fields.iter().map(|f| format!("{}: ::versionize::Versionize::deserialize(from, map, version)?,", f)).collect();
     format!(
         "impl ::versionize::Versionize for {} {{
             fn serialize<W: ::std::io::Write>(&self, to: &mut W, map: &::versionize::VersionMap, version: u16) -> ::versionize::VersionizeResult<()> {{

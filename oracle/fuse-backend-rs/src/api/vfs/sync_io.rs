@@ -85,8 +85,7 @@ impl Vfs {
         offset: u64,
         add_entry: &mut dyn FnMut(DirEntry) -> Result<usize>,
     ) -> Result<()> {
-        self.root
-            .readdir(&Context::new(), node, 0, size, offset, add_entry)
+        self.root.readdir(&Context::new(), node, 0, size, offset, add_entry)
     }
 
     pub fn probe_convert(&self, fs_idx: VfsIndex, number: u64) -> Result<u64> {
