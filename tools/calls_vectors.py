@@ -32,18 +32,15 @@ class Script:
         self.lines.append(" ".join(map(str, words)))
 
     def source(self):
-        return ("\n".join(self.lines) + "\n").encode("latin-1")
+        return ("\n".join(self.lines) + "\n").encode()
 
 
 def text(b):
-    """A word that stands for bytes: they are written as they are, so they hold no space, line end or `$`."""
+    """A word that stands for bytes."""
     if isinstance(b, str):
         b = b.encode()
-    return '"' + b.decode("latin-1")
-
-
-def poke1(s, at, b):
-    s("fill", at, 1, b)
+    plain = set(b"abcdefghijklmnopqrstuvwxyzABCDEFGHIJKLMNOPQRSTUVWXYZ0123456789/._-+")
+    return '"' + "".join(chr(c) if c in plain else "%%%02x" % c for c in b)
 
 
 def create(s, n=64, known=0, in_opts=0, out_opts=0, flags=0, mapping=(0, 0, 0)):
@@ -84,16 +81,16 @@ def edges(s):
     s(": the five edges")
     fresh(s)
     s("fill", 256, 256, 1)
-    poke1(s, 257, 0)
-    poke1(s, 81, 255)
+    s("poke1", 257, 0)
+    s("poke1", 81, 255)
     mount(s, '"/x')
     fresh(s)
     s("fill", 257, 254, 1)
-    poke1(s, 81, 0)
+    s("poke1", 81, 0)
     mount(s, '"/x')
     fresh(s)
     s("fill", 257, 255, 9)
-    poke1(s, 81, 255)
+    s("poke1", 81, 255)
     mount(s, '"/x')
     fresh(s)
     mount(s, '"/x', root=TOP - 1)
@@ -155,11 +152,11 @@ def settings(s):
     s(": settings, initialized and the options on storage that is short or whole")
     fresh(s, 2, known=MAX64, in_opts=MAX64, out_opts=1, flags=21, mapping=(10, 20, 30))
     for v in (0, 1, 2, 128, 255):
-        poke1(s, 83, v)
+        s("poke1", 83, v)
         s("init")
         s("options")
     for v in (0, 1, 7):
-        poke1(s, 82, v)
+        s("poke1", 82, v)
         s("remove")
         s("remove")
     s("length", size(2) - 1)
@@ -184,7 +181,7 @@ def every_call(s):
 # ---- the tree
 
 PATHS = ["/", "//", "/.", "/..", "/../..", "/a", "/a/", "//a", "/./a/.", "/a/b", "/a/b/c", "/a/b/../b", "/a/../a/b", "/a/b/../../x", "/x/..",
-         "/missing", "/a/missing/..", "/missing/..", "/...", "/..a", "/a..", "/a/./b/", "/A", "/a+b", "/\u00e9", "/e\u0301", "a", "", ".", "..", "a/b",
+         "/missing", "/a/missing/..", "/missing/..", "/...", "/..a", "/a..", "/a/./b/", "/A", "/a b", "/\u00e9", "/e\u0301", "a", "", ".", "..", "a/b",
          b"/a\0b", b"/\0", b"/a/\xff", b"\xff", b"a\xff", b"/\xc3\xa9/..", b"/\xed\xa0\x80", b"/\xf4\x90\x80\x80", b"/\xc0\x80", b"/a\xe2\x82"]
 NAMES = ["a", "b", ".", "..", "...", "", "/", "a/", "/a", "a/b", "A", "x", "\u00e9", b"a\0", b"\0", b"\xff", b"a\xc3", b"\0\xff", "a" * 255, "a" * 256, "missing"]
 
@@ -192,7 +189,7 @@ NAMES = ["a", "b", ".", "..", "...", "", "/", "a/", "/a", "a/b", "A", "x", "\u00
 def tree(s):
     s(": walks and lookups in a tree")
     fresh(s, 64, mapping=(0, 100000, 65536))
-    for p in ("/a/b/c", "/a/x", "/e\u0301/\u00e9", "/a+b", "/" + "a" * 255, "/x/../y/./z//", "/..a/...", b"/a\0b"):
+    for p in ("/a/b/c", "/a/x", "/e\u0301/\u00e9", "/a b", "/" + "a" * 255, "/x/../y/./z//", "/..a/...", b"/a\0b"):
         mount(s, text(p), uid=1, gid=65536)
     for p in PATHS:
         s("walk", text(p))
@@ -250,7 +247,8 @@ def listings(s):
             for n in (0, 1, 32, 2**32 - 1):
                 s("list", node, n, offset, 64)
     s(": a directory with names of every length, and a full one")
-    fresh(s, 1024, watch=False, views=False)
+    fresh(s, 1024, watch=False)
+    s("views", 0)
     s("text", '"/d/')
     s("loop", "=a", 1, 255)
     s("more", 1, 120)
@@ -258,17 +256,22 @@ def listings(s):
     s("umount", "@")
     s("end")
     s("views", 1)
-    s("list", 2, 4096, 0, 4096)
+    s("list", 2, 65536, 0, 65536)
     s("views", 0)
-    s("loop", "=a", 0, 257)
-    s("list", 2, 4096, "a", 4096)
+    s("set", "=b", 0)
+    s("loop", "=a", 0, 30)
+    s("list", 2, 65536, "b", 40960)
+    s("add", "=b", 9)
+    s("end")
+    s("loop", "=a", 250, 8)
+    s("list", 2, 65536, "a", 4096)
     s("end")
     s("set", "=b", 0)
     s("fold")
-    s("loop", "=a", 0, 57)
-    s("list", 2, "b", 100, 4096)
-    s("list", 2, 65536, 200, "b")
-    s("add", "=b", 71)
+    s("loop", "=a", 0, 40)
+    s("list", 2, "b", 0, 40960)
+    s("list", 2, 65536, 0, "b")
+    s("add", "=b", 1027)
     s("end")
     s("plain")
     s("loop", "=a", 0, 767)
@@ -278,7 +281,7 @@ def listings(s):
     s("views", 1)
     mount(s, '"/d/more')
     for offset in (0, 1, 255, 1000, 1020, 1021, 1022, 1023):
-        s("list", 2, 65536, offset, 4096)
+        s("list", 2, 65536, offset, 65536)
 
 
 # ---- damaged storage
@@ -297,7 +300,7 @@ def header_bytes(s):
     s("set", "=b", 0)
     s("fold")
     s("loop", "=c", 0, 52)
-    poke1(s, "a", "b")
+    s("poke1", "a", "b")
     s("options")
     s("walk", '"/a')
     mount(s, '"/a', "b", "a")
@@ -312,7 +315,7 @@ def header_bytes(s):
     s("loop", "=a", 0, 108)
     for v in (0, 1, 255):
         s("back", size(2) + 64)
-        poke1(s, "a", v)
+        s("poke1", "a", v)
         every_call(s)
     s("end")
     s("plain")
@@ -322,15 +325,14 @@ def header_bytes(s):
                        (32, (0, 0xFF, 0x0F, 0xF0, MAX64)), (40, (0, 0xFF, 0x100)), (48, (0, 0xFF, 1 << 63))):
         for v in values:
             s("back", size(2) + 64)
-            s("poke", at, v)
+            s("poke8", at, v)
             s("laid")
             mount(s, '"/b')
     top = 2**32 - 1
-    for at, values in ((56, (top, top - 11, top - 10)), (60, (top, top - 11, top - 10)), (64, (0, top, top - 9, top - 8)), (68, (top,)), (72, (top,))):
+    for at, values in ((56, (top, top - 11, top - 10)), (60, (top, top - 11, top - 10)), (64, (0, top, top - 9, top - 8)), (68, (top,)), (76, (top,))):
         for v in values:
             s("back", size(2) + 64)
-            behind = {56: 9, 60: 11, 64: 7, 68: 9, 72: 11}[at]
-            s("poke", at, behind << 32 | v)
+            s("poke4", at, v)
             s("laid")
             s("options")
             s("ids", 7, v, 1)
@@ -356,12 +358,12 @@ def random_bytes(s):
         s("scatter", 0, size(n), "a")
         create(s, n, MAX64, 3, 5, 7, (0, 1000, 500))
         s("scatter", 84, size(n) - 84, "a")
-        s("poke", 16, n - 1)
+        s("poke8", 16, n - 1)
         s("random", "=b", 1000)
         s("add", "=b", 2)
-        s("poke", 24, "b")
+        s("poke8", 24, "b")
         s("random", "=b", 256)
-        poke1(s, 81, "b")
+        s("poke1", 81, "b")
         s("fold")
         for line in ('walk "/', 'walk "/..', 'look 1 ".', 'lookup 1 "..', 'lookup 1 "', 'root "/', 'route 1', "list 1 65536 0 4096",
                      "list 0 65536 0 4096", "init", "options"):
@@ -402,10 +404,10 @@ def odd_tables(s):
     s("fill", 8192, 512 * n, 0)
     create(s, n, 0, 0, 0, 0, (0, 7, 3))
     s("random", "=b", n)
-    s("poke", 16, "b")
+    s("poke8", 16, "b")
     s("random", "=b", 10)
     s("add", "=b", 2)
-    s("poke", 24, "b")
+    s("poke8", 24, "b")
     s("set", "=e", 8192)
     s("set", "=f", 8192 + 8 * n)
     s("set", "=g", 8192 + 16 * n)
@@ -413,28 +415,28 @@ def odd_tables(s):
     s("loop", "=c", 0, n - 1)
     for v in ("e", "f"):
         s("random", "=d", 12)
-        s("poke", v, "d")
+        s("poke8", v, "d")
         s("add", "=" + v, 7)
         s("random", "=d", 3)
-        poke1(s, v, "d")
+        s("poke1", v, "d")
         s("add", "=" + v, 1)
     s("random", "=d", 9)
-    s("poke", "g", "d")
+    s("poke8", "g", "d")
     s("add", "=g", 7)
     s("random", "=d", 6)
-    poke1(s, "g", "d")
+    s("poke1", "g", "d")
     s("add", "=g", 1)
-    poke1(s, "h", 1)
+    s("poke1", "h", 1)
     s("add", "=h", 1)
     s("random", "=d", 4)
     s("add", "=d", 97)
-    poke1(s, "h", "d")
+    s("poke1", "h", "d")
     s("add", "=h", 7)
     s("end")
     s("loop", "=c", 0, 6)
     s("random", "=d", 3)
-    poke1(s, 258, "d")
-    poke1(s, 261, "d")
+    s("poke1", 258, "d")
+    s("poke1", 261, "d")
     s("end")
     s("fold")
     s("watch", 0)
@@ -554,7 +556,7 @@ def numbers(s):
     s(": the next number at its limit")
     for following in (TOP - 3, TOP - 2, TOP - 1, TOP):
         fresh(s)
-        s("poke", 24, following)
+        s("poke8", 24, following)
         for p in ("/x/..", "/x/y", "/z/w/v", "/z", "/", "/w"):
             mount(s, text(p))
             mount_at(s, 7, text(p))
@@ -705,13 +707,13 @@ def full_table(s, removes):
     for first, turns, folded in ((0, 2, False), (254, 2, False), (0, 256, True)):
         s("loop", "=a", first, turns)
         s("back", size(n))
-        poke1(s, 81, "a")
+        s("poke1", 81, "a")
         if folded:
             s("fold")
         mount(s, '"/one/more')
         mount(s, '"/m9')
         mount(s, '"nine')
-        poke1(s, 81, "a")
+        s("poke1", 81, "a")
         for verb, words in block:
             s("random", "=b", 300)
             s("random", "=c", 255)
@@ -732,7 +734,7 @@ def block_line(rng):
     if what < 34:
         root = rng.choice([0, 1, 5, TOP - 1, TOP, "b"])
         largest = rng.choice([TOP - 1] * 8 + [TOP])
-        bad = rng.choice([None] * 12 + ['"m$b', '"', text(b"/\xff"), text(b"/m$b/\xe2\x82")])
+        bad = rng.choice([None] * 12 + ['"m$b', '"', '"/%ff', '"/m$b/%e2%82'])
         return "mount", (bad or path, "b", root, largest, "b", "c", PLAIN_MODE)
     if what < 48:
         root = rng.choice([0, 1, TOP - 1, TOP, "c"])
@@ -811,7 +813,7 @@ def sessions(s):
 def bad_lines(s):
     s(": lines that are none of a script's")
     for line in ("bogus", "mount", 'walk', 'walk 3', 'walk "/ 3', "route", "route x", "route 18446744073709551616", "route  1", "route -1",
-                 "end", "plain", "loop =a 0 0", "set =i 1", "set a b c", 'walk "$', 'walk "$i', 'walk "$$a', "more 8193 1", "fold 1", "random =a 0", "save", "restore", "Laid"):
+                 "end", "plain", "loop =a 0 0", "set =i 1", "set a b c", 'walk "%zz', 'walk "%2', 'walk "$', 'walk "$i', "random =a 0", "save", "restore", "Laid"):
         s(line)
 
 

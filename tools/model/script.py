@@ -8,13 +8,13 @@ import zlib
 from model import layout, rules
 
 ROOM = 1114112
-TEXT = re.compile(rb"(?s:[^$]|\$[a-h])*")
-NAMED = re.compile(rb"\$[a-h]")
+TEXT = re.compile(rb"(?s:[^%$]|%[0-9a-f]{2}|\$[a-h])*")
+MARKED = re.compile(rb"%[0-9a-f]{2}|\$[a-h]")
 WRITES = {"create", "remove", "mount", "mountat", "umount"}
 SHAPES = {
     "loop": (3, 0), "end": (0, 0), "set": (2, 0), "add": (2, 0), "random": (2, 0), "seed": (1, 0), "text": (0, 1),
     "more": (2, 0), "fold": (0, 0), "plain": (0, 0), "watch": (1, 0), "views": (1, 0), "length": (1, 0),
-    "fill": (3, 0), "scatter": (3, 0), "poke": (2, 0), "keep": (1, 0),
+    "fill": (3, 0), "scatter": (3, 0), "poke1": (2, 0), "poke4": (2, 0), "poke8": (2, 0), "keep": (1, 0),
     "back": (1, 0), "same": (2, 0),
     "create": (8, 0), "laid": (0, 0), "remove": (0, 0), "init": (0, 0), "options": (0, 0),
     "walk": (0, 1), "look": (1, 1), "list": (4, 0), "mount": (6, 1), "mountat": (7, 1), "umount": (0, 1),
@@ -83,13 +83,14 @@ class Run:
         return numbers, texts
 
     def decoded(self, w):
-        def letters(m):
-            v = self.variables[m[0][1] - 97]
-            return bytes(97 + (v >> shift) % 16 for shift in (8, 4, 0))
+        def one(m):
+            if m[0][:1] == b"%":
+                return bytes([int(m[0][1:], 16)])
+            return str(self.variables[m[0][1] - 97]).encode()
 
         if TEXT.fullmatch(w) is None:
             raise BadLine
-        return NAMED.sub(letters, w)
+        return MARKED.sub(one, w)
 
     # ---- output
 
@@ -111,7 +112,7 @@ class Run:
             if line[:1] in (b"", b"#"):
                 continue
             if line[:1] == b":":
-                self.out.append(line)
+                self.say(line)
                 continue
             try:
                 verb = line.split(b" ")[0].decode()
@@ -120,7 +121,7 @@ class Run:
                     raise BadLine
                 if verb == "loop":
                     v, first, turns = numbers
-                    if not turns or len(loops) == 3:
+                    if not turns or len(loops) == 4:
                         raise BadLine
                     self.variables[v] = first
                     loops.append([at, v, turns])
@@ -139,7 +140,7 @@ class Run:
                 else:
                     self.call(verb, numbers)
             except BadLine:
-                self.out.append(b"! " + line)
+                self.say(b"! " + line)
         return b"\n".join(self.out) + b"\n"
 
     # ---- what steers the run
@@ -199,8 +200,17 @@ class Run:
             x = following(x)
             b[i] = x // 65536 % 256
 
-    def do_poke(self, at, v):
-        self.to_bytes()[at:at + 8] = v.to_bytes(8, "little")
+    def poke(self, at, width, v):
+        self.to_bytes()[at:at + width] = (v % 256**width).to_bytes(width, "little")
+
+    def do_poke1(self, at, v):
+        self.poke(at, 1, v)
+
+    def do_poke4(self, at, v):
+        self.poke(at, 4, v)
+
+    def do_poke8(self, at, v):
+        self.poke(at, 8, v)
 
     def do_keep(self, n):
         self.kept[:n] = self.to_bytes()[:n]

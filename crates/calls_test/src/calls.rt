@@ -1,9 +1,10 @@
 // Calls on the storage and the tree, and what they answer as numbers.
-use crate::state::low8;
-use crate::state::low32;
+use crate::regs::ARGS;
+use crate::regs::CELLS;
+use crate::regs::low8;
+use crate::regs::low32;
 use crate::sums;
 use crate::verbs;
-use crate::words::Words;
 use inode::NodeNumber;
 use listing::Listed;
 use pseudo_fs::Looked;
@@ -13,8 +14,20 @@ use storage::IsInitialized;
 use storage::OptionsOf;
 use storage::Removal;
 
-// The number of an answer, and how many values it has, and these.
+// How a line is told: not at all, as it is, behind `!`, by its numbers, or by those and what the call left.
+pub const SILENT: u8 = 0;
+
+pub const ECHO: u8 = 1;
+
+pub const BAD: u8 = 2;
+
+pub const SHORT: u8 = 3;
+
+pub const CALL: u8 = 4;
+
+// How a line is told, the number of its answer, and how many values it has, and these.
 pub struct Answer {
+    pub way: u8,
     pub code: u64,
     pub n: u8,
     pub a: u64,
@@ -27,6 +40,7 @@ pub struct Answer {
 
 pub fn values(n: u8, a: u64, b: u64, c: u64, d: u64) -> Answer {
     Answer {
+        way: CALL,
         code: 0,
         n,
         a,
@@ -41,8 +55,29 @@ pub fn values(n: u8, a: u64, b: u64, c: u64, d: u64) -> Answer {
 // A refusal: its number and so many zeros.
 pub fn refused(code: u64, n: u8) -> Answer {
     Answer {
+        way: CALL,
         code,
         n,
+        a: 0,
+        b: 0,
+        c: 0,
+        d: 0,
+        e: 0,
+        f: 0,
+    }
+}
+
+// Nothing is told of the line.
+pub fn silent() -> Answer {
+    in_way(SILENT)
+}
+
+// The line itself is told.
+pub fn in_way(way: u8) -> Answer {
+    Answer {
+        way,
+        code: 0,
+        n: 0,
         a: 0,
         b: 0,
         c: 0,
@@ -55,6 +90,7 @@ pub fn refused(code: u64, n: u8) -> Answer {
 // A number and so many values, at most one.
 pub fn short(code: u64, n: u8, a: u64) -> Answer {
     Answer {
+        way: SHORT,
         code,
         n,
         a,
@@ -70,14 +106,22 @@ fn truth(b: bool) -> u64 {
     if b { 1 } else { 0 }
 }
 
-fn create(s: &mut [u8], w: Words) -> Answer {
+fn create(s: &mut [u8], r: &[u64; CELLS]) -> Answer {
     let mapping = id_map::IdMapping {
-        internal: low32(w.f),
-        external: low32(w.g),
-        range: low32(w.h),
+        internal: low32(r[ARGS + 5]),
+        external: low32(r[ARGS + 6]),
+        range: low32(r[ARGS + 7]),
     };
-    let flags = low8(w.e);
-    match storage::create(s, w.a as usize, w.b, w.c, w.d, flags, mapping) {
+    let flags = low8(r[ARGS + 4]);
+    match storage::create(
+        s,
+        r[ARGS] as usize,
+        r[ARGS + 1],
+        r[ARGS + 2],
+        r[ARGS + 3],
+        flags,
+        mapping,
+    ) {
         Created::Done => refused(0, 0),
         Created::Small => refused(12, 0),
         Created::BadOpt => refused(13, 0),
@@ -104,6 +148,7 @@ fn options(s: &[u8]) -> Answer {
         OptionsOf::Options(o) => {
             let m = o.mapping;
             Answer {
+                way: CALL,
                 code: 0,
                 n: 6,
                 a: o.in_opts,
@@ -134,6 +179,7 @@ pub fn looked(l: Looked) -> Answer {
         Looked::Entry(e) => {
             let x = e.inode;
             Answer {
+                way: CALL,
                 code: 0,
                 n: 5,
                 a: x.0,
@@ -154,9 +200,9 @@ pub fn looked(l: Looked) -> Answer {
 const BEFORE: u8 = 165;
 
 // A listing into the first bytes of a buffer: how many were written, and the sum of them all.
-fn listed(s: &[u8], w: Words, out: &mut [u8]) -> Answer {
+fn listed(s: &[u8], r: &[u64; CELLS], out: &mut [u8]) -> Answer {
     le::runs::fill_at(out, 0, out.len(), BEFORE);
-    let l = listing::readdir(s, NodeNumber(w.a), low32(w.b), w.c, out);
+    let l = listing::readdir(s, NodeNumber(r[ARGS]), low32(r[ARGS + 1]), r[ARGS + 2], out);
     let sum = sums::with_run(sums::START, out, 0, out.len());
     match l {
         Listed::Wrote(n) => values(2, n as u64, sum, 0, 0),
@@ -167,6 +213,7 @@ fn listed(s: &[u8], w: Words, out: &mut [u8]) -> Answer {
 
 fn with_sum(code: u64, sum: u64) -> Answer {
     Answer {
+        way: CALL,
         code,
         n: 2,
         a: 0,
@@ -178,19 +225,33 @@ fn with_sum(code: u64, sum: u64) -> Answer {
     }
 }
 
-fn list(s: &[u8], w: Words) -> Answer {
+fn list_small(s: &[u8], r: &[u64; CELLS]) -> Answer {
     let mut out = io::buffer();
-    let n = crate::memory::upto(w.d, &out);
-    listed(s, w, &mut out[0..n])
+    let n = crate::sink::upto(r[ARGS + 3], &out);
+    listed(s, r, &mut out[0..n])
+}
+
+fn list_large(s: &[u8], r: &[u64; CELLS]) -> Answer {
+    let mut out = io::large_buffer();
+    let n = crate::sink::upto(r[ARGS + 3], &out);
+    listed(s, r, &mut out[0..n])
+}
+
+// Small output is lent from a small buffer, which takes less time to make.
+fn list(s: &[u8], r: &[u64; CELLS]) -> Answer {
+    if r[ARGS + 3] <= 4096 {
+        return list_small(s, r);
+    }
+    list_large(s, r)
 }
 
 fn laid(s: &[u8]) -> Answer {
     values(1, truth(storage::is_laid(s)), 0, 0, 0)
 }
 
-fn of_storage(verb: u64, s: &mut [u8], w: Words) -> Answer {
+fn of_storage(verb: u64, s: &mut [u8], r: &[u64; CELLS]) -> Answer {
     match verb {
-        verbs::CREATE => create(s, w),
+        verbs::CREATE => create(s, r),
         verbs::REMOVE => remove(s),
         verbs::LAID => laid(s),
         verbs::INIT => init(s),
@@ -198,30 +259,30 @@ fn of_storage(verb: u64, s: &mut [u8], w: Words) -> Answer {
     }
 }
 
-fn of_tree(verb: u64, s: &[u8], text: &[u8], w: Words) -> Answer {
+fn of_tree(verb: u64, s: &[u8], text: &[u8], r: &[u64; CELLS]) -> Answer {
     match verb {
         verbs::WALK => walk(s, text),
-        verbs::LOOK => looked(pseudo_fs::lookup(s, NodeNumber(w.a), text)),
-        _ => list(s, w),
+        verbs::LOOK => looked(pseudo_fs::lookup(s, NodeNumber(r[ARGS]), text)),
+        _ => list(s, r),
     }
 }
 
 // A call by its verb.
-pub fn call(verb: u64, s: &mut [u8], text: &[u8], w: Words) -> Answer {
+pub fn call(verb: u64, s: &mut [u8], text: &[u8], r: &[u64; CELLS]) -> Answer {
     match verb {
-        verbs::WALK | verbs::LOOK | verbs::LIST => of_tree(verb, s, text, w),
+        verbs::WALK | verbs::LOOK | verbs::LIST => of_tree(verb, s, text, r),
         verbs::MOUNT | verbs::MOUNT_AT | verbs::UMOUNT => crate::mounts::of_mounts(
             verb,
             s,
             text,
-            w,
+            r,
         ),
         verbs::ROUTE | verbs::ROOT | verbs::LOOKUP | verbs::IDS => crate::mounts::of_queries(
             verb,
             s,
             text,
-            w,
+            r,
         ),
-        _ => of_storage(verb, s, w),
+        _ => of_storage(verb, s, r),
     }
 }

@@ -1,14 +1,14 @@
 // One line of a script: a comment, a heading, what steers the run, what sets bytes, or a call.
 use crate::calls::Answer;
-use crate::calls::short;
+use crate::calls::in_way;
+use crate::calls::silent;
 use crate::memory;
-use crate::state::State;
-use crate::steering;
-use crate::tell;
+use crate::regs;
+use crate::regs::CELLS;
+use crate::sink;
+use crate::text;
 use crate::verbs;
 use crate::verbs::Kind;
-use crate::words;
-use crate::words::Words;
 
 // One line. What is no line of a script is told behind `!`.
 pub fn line(
@@ -16,156 +16,192 @@ pub fn line(
     storage: &mut [u8],
     kept: &mut [u8],
     text: &mut [u8],
-    mut st: State,
-) -> State {
-    let end = words::word_end(line, 0);
-    let verb = verbs::verb(&line[0..end]);
-    let w = words::read(line, end + 1, text, st);
-    st.len = w.len;
-    match verbs::kind_of(fitting(line, verb, w, st)) {
-        Kind::Nothing => st,
-        Kind::Heading => echoed(b"", line, st),
-        Kind::Bad => echoed(b"! ", line, st),
-        Kind::Steers => steering::steer(verb, w, st),
-        Kind::Sets => set(verb, storage, kept, text, w, st),
-        Kind::Tells => told(&line[0..end], verb, storage, kept, w, st),
-        Kind::Calls => called(&line[0..end], verb, storage, kept, text, w, st),
-    }
+    out: &mut [u8],
+    regs: &mut [u64; CELLS],
+) {
+    let verb = verb_of(line, text, regs);
+    let answer = done(verb, storage, kept, text, regs);
+    told(verb, line, answer, storage, kept, out, regs);
 }
 
-// The verb, or what stands for a line without one.
-fn fitting(line: &[u8], verb: u64, w: Words, st: State) -> u64 {
+// The verb of a line, or what stands for a line without one.
+fn verb_of(line: &[u8], text: &mut [u8], regs: &mut [u64; CELLS]) -> u64 {
     if line.len() == 0 {
         return verbs::NOTHING;
     }
-    if line[0] == b'#' {
-        return verbs::NOTHING;
+    match line[0] {
+        b'#' => verbs::NOTHING,
+        b':' => verbs::HEADING,
+        _ => parsed(line, text, regs),
     }
-    if line[0] == b':' {
-        return verbs::HEADING;
-    }
-    if w.texts == 1 {
-        return taking(verb, w.n, 10);
-    }
-    if possible(verb, w, st) {
-        return taking(verb, w.n, 0);
-    }
-    verbs::BAD
 }
 
-// The verb, if it takes so many numbers, and a text where 10 is given for it.
-fn taking(verb: u64, n: u64, text: u64) -> u64 {
-    let s = verbs::shape(verb);
-    if s < text {
+// The verb of a line whose words fit it.
+fn parsed(line: &[u8], text: &mut [u8], regs: &mut [u64; CELLS]) -> u64 {
+    let end = text::word_end(line, 0);
+    let verb = verbs::verb(&line[0..end]);
+    if !text::words(line, end + 1, text, regs) {
         return verbs::BAD;
     }
-    if s - text == n { verb } else { verbs::BAD }
+    fitting(verb, regs[regs::NUMBERS], regs[regs::TEXTS])
 }
 
-// Whether the state allows the verb: loops are at most three deep and have a turn, folding has an end, a text has room.
-fn possible(verb: u64, w: Words, st: State) -> bool {
-    let inner = st.inner;
-    let outer = st.outer;
-    match verb {
-        verbs::LOOP => outer.left == 0 && w.c != 0,
-        verbs::END => inner.left != 0,
-        verbs::RANDOM => w.b != 0,
-        verbs::FOLD => !st.folding,
-        verbs::PLAIN => st.folding,
-        verbs::MORE => w.a <= 8192 && w.len <= 8192 - w.a,
-        _ => true,
+// The verb, if it takes so many numbers and texts.
+fn fitting(verb: u64, n: u64, t: u64) -> u64 {
+    let s = verbs::shape(verb);
+    if s % 10 != n {
+        return verbs::BAD;
     }
+    if s / 10 != t {
+        return verbs::BAD;
+    }
+    verb
 }
 
-fn echoed(before: &[u8], line: &[u8], st: State) -> State {
-    tell::whole(before, line);
-    st
-}
-
-fn set(
+// Does what the line says.
+fn done(
     verb: u64,
     storage: &mut [u8],
     kept: &mut [u8],
     text: &mut [u8],
-    w: Words,
-    mut st: State,
-) -> State {
-    if verb == verbs::MORE {
-        memory::fill(text, st.len, w.a, w.b);
-        st.len = std::num::wrapping_add_u64(st.len, w.a);
-        return st;
-    }
-    memory::set(verb, storage, kept, w);
-    st
-}
-
-// A verb that is told of by its numbers.
-fn told(word: &[u8], verb: u64, storage: &[u8], kept: &[u8], w: Words, st: State) -> State {
-    match verb {
-        verbs::FOLD => steering::folded(st),
-        verbs::PLAIN => numbers(word, short(st.calls, 1, st.sum), steering::plain(st)),
-        _ => numbers(
-            word,
-            short(memory::compared(storage, kept, w.a, w.b), 0, 0),
-            st,
-        ),
+    regs: &mut [u64; CELLS],
+) -> Answer {
+    let a = regs[regs::ARGS];
+    let b = regs[regs::ARGS + 1];
+    let c = regs[regs::ARGS + 2];
+    match verbs::kind_of(verb) {
+        Kind::Nothing => silent(),
+        Kind::Heading => in_way(crate::calls::ECHO),
+        Kind::Bad => in_way(crate::calls::BAD),
+        Kind::Steers => crate::steering::steer(verb, a, b, c, text, regs),
+        Kind::Sets => memory::verb(verb, storage, kept, a, b, c),
+        Kind::Calls => called(verb, storage, kept, text, regs),
     }
 }
 
-fn numbers(word: &[u8], x: Answer, st: State) -> State {
-    tell::piece(tell::answer(st, word, x), b"\n")
-}
-
-// A call: its answer, the counter, what it left, and the sum of the tables.
+// A call on the lent bytes; what stood in those that are watched is kept before.
 fn called(
-    word: &[u8],
     verb: u64,
     storage: &mut [u8],
     kept: &mut [u8],
     text: &[u8],
-    w: Words,
-    st: State,
-) -> State {
-    memory::before(kept, storage, st.watch);
-    let x = made(verb, storage, text, w, st);
-    found(verb, x.code, storage, kept, tell::answer(st, word, x))
+    regs: &[u64; CELLS],
+) -> Answer {
+    memory::before(kept, storage, regs[regs::WATCH]);
+    let lent = sink::upto(regs[regs::LENT], storage);
+    let n = sink::upto(regs[regs::TEXT_LEN], text);
+    crate::calls::call(verb, &mut storage[0..lent], &text[0..n], regs)
 }
 
-fn made(verb: u64, storage: &mut [u8], text: &[u8], w: Words, st: State) -> Answer {
-    let lent = memory::upto(st.lent, storage);
-    let n = memory::upto(st.len, text);
-    crate::calls::call(verb, &mut storage[0..lent], &text[0..n], w)
-}
-
-fn found(verb: u64, code: u64, storage: &[u8], kept: &[u8], st: State) -> State {
-    let counted = tell::number(st, crate::sums::byte_at(storage, 81, 0) as u64);
-    let marked = left(verb, code, storage, kept, counted);
-    let mut viewed = viewed(storage, marked);
-    viewed.calls = std::num::wrapping_add_u64(viewed.calls, 1);
-    tell::piece(viewed, b"\n")
-}
-
-// What the call left of the watched bytes; ` .` where it is done and writes.
-fn left(verb: u64, code: u64, storage: &[u8], kept: &[u8], st: State) -> State {
-    if st.watch == 0 {
-        return st;
+// Tells of the line in its way.
+fn told(
+    verb: u64,
+    line: &[u8],
+    a: Answer,
+    storage: &[u8],
+    kept: &[u8],
+    out: &mut [u8],
+    regs: &mut [u64; CELLS],
+) {
+    let way = a.way;
+    match way {
+        crate::calls::SILENT => {}
+        crate::calls::ECHO => whole(b"", line, out, regs),
+        crate::calls::BAD => whole(b"! ", line, out, regs),
+        crate::calls::SHORT => short(line, a, out, regs),
+        _ => full(verb, line, a, storage, kept, out, regs),
     }
+}
+
+fn whole(before: &[u8], line: &[u8], out: &mut [u8], regs: &mut [u64; CELLS]) {
+    sink::bytes(out, regs, before);
+    sink::bytes(out, regs, line);
+    sink::line_end(out, regs);
+}
+
+// The verb, the number of the answer, and its values.
+fn short(line: &[u8], a: Answer, out: &mut [u8], regs: &mut [u64; CELLS]) {
+    answered(line, a, out, regs);
+    sink::line_end(out, regs);
+}
+
+fn answered(line: &[u8], a: Answer, out: &mut [u8], regs: &mut [u64; CELLS]) {
+    let end = text::word_end(line, 0);
+    sink::bytes(out, regs, &line[0..end]);
+    sink::number(out, regs, a.code);
+    first_values(a, out, regs);
+    last_values(a, out, regs);
+}
+
+fn first_values(a: Answer, out: &mut [u8], regs: &mut [u64; CELLS]) {
+    value(0 < a.n, a.a, out, regs);
+    value(1 < a.n, a.b, out, regs);
+    value(2 < a.n, a.c, out, regs);
+}
+
+fn last_values(a: Answer, out: &mut [u8], regs: &mut [u64; CELLS]) {
+    value(3 < a.n, a.d, out, regs);
+    value(4 < a.n, a.e, out, regs);
+    value(5 < a.n, a.f, out, regs);
+}
+
+fn value(is: bool, n: u64, out: &mut [u8], regs: &mut [u64; CELLS]) {
+    if is {
+        sink::number(out, regs, n);
+    }
+}
+
+// The answer, the counter, what the call left, and the sum of the tables.
+fn full(
+    verb: u64,
+    line: &[u8],
+    a: Answer,
+    storage: &[u8],
+    kept: &[u8],
+    out: &mut [u8],
+    regs: &mut [u64; CELLS],
+) {
+    answered(line, a, out, regs);
+    sink::number(out, regs, crate::sums::byte_at(storage, 81, 0) as u64);
+    left(verb, a.code, storage, kept, out, regs);
+    viewed(storage, out, regs);
+    sink::line_end(out, regs);
+    let calls = regs[regs::CALLS];
+    regs[regs::CALLS] = std::num::wrapping_add_u64(calls, 1);
+}
+
+// What the call left of the watched bytes; `.` where it is done and writes.
+fn left(
+    verb: u64,
+    code: u64,
+    storage: &[u8],
+    kept: &[u8],
+    out: &mut [u8],
+    regs: &mut [u64; CELLS],
+) {
+    let watch = regs[regs::WATCH];
+    if watch != 0 {
+        marked(mark(verb, code, storage, kept, watch), out, regs);
+    }
+}
+
+fn marked(b: u8, out: &mut [u8], regs: &mut [u64; CELLS]) {
+    sink::byte(out, regs, b' ');
+    sink::byte(out, regs, b);
+}
+
+fn mark(verb: u64, code: u64, storage: &[u8], kept: &[u8], watch: u64) -> u8 {
     if code == 0 {
         if verbs::writes(verb) {
-            return tell::piece(st, b" .");
+            return b'.';
         }
     }
-    match memory::mark(storage, kept, st.watch) {
-        b'=' => tell::piece(st, b" ="),
-        b'c' => tell::piece(st, b" c"),
-        _ => tell::piece(st, b" *"),
-    }
+    memory::mark(storage, kept, watch)
 }
 
-fn viewed(storage: &[u8], st: State) -> State {
-    if st.views == 0 {
-        return st;
+fn viewed(storage: &[u8], out: &mut [u8], regs: &mut [u64; CELLS]) {
+    if regs[regs::VIEWS] != 0 {
+        let lent = sink::upto(regs[regs::LENT], storage);
+        sink::number(out, regs, crate::views::sum(&storage[0..lent]));
     }
-    let n = memory::upto(st.lent, storage);
-    tell::number(st, crate::views::sum(&storage[0..n]))
 }

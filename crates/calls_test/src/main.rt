@@ -1,6 +1,5 @@
 // Reads a script and makes the calls that it says on lent bytes: one line for each answer (docs/TESTS.md).
 use libc::STDIN_FILENO;
-use state::State;
 ghost use mathlib.Core.Path.{_≡_};
 ghost use Prim.Native.Nat.{_≤_};
 ghost use lib.ListN.{length};
@@ -9,15 +8,15 @@ mod calls;
 mod lines;
 mod memory;
 mod mounts;
-mod state;
+mod regs;
+mod sink;
 mod steering;
 mod sums;
-mod tell;
+mod text;
 mod verbs;
 mod views;
-mod words;
 
-// Room for a script, for the lent bytes, and for copies of these.
+// Room for a script, and for the lent bytes.
 fn large() -> [u8; 1114112]
     ensures { λ r. ⌜ 1114112 ≡ length r ⌝ }
 {
@@ -34,29 +33,37 @@ fn script(input: &[u8]) {
     let mut storage = large();
     let mut kept = large();
     let mut text = [0u8; 8192];
-    run(input, &mut storage, &mut kept, &mut text);
+    let mut out = io::large_buffer();
+    let mut regs = [0u64; regs::CELLS];
+    run(
+        input,
+        &mut storage,
+        &mut kept,
+        &mut text,
+        &mut out,
+        &mut regs,
+    );
+    sink::flush(&out, &regs);
 }
 
-// Line after line, until the script ends. The turns are counted down from a number that no script uses up.
-fn run(input: &[u8], storage: &mut [u8], kept: &mut [u8], text: &mut [u8]) {
-    let mut st = state::new();
+// Line after line, from the place that the registers name. The turns are counted down from a number that no script uses up.
+fn run(
+    input: &[u8],
+    storage: &mut [u8],
+    kept: &mut [u8],
+    text: &mut [u8],
+    out: &mut [u8],
+    regs: &mut [u64; regs::CELLS],
+) {
     let mut turns = u64::MAX;
     while 0 < turns {
-        if input.len() <= st.place {
+        let at = regs[regs::PLACE] as usize;
+        if input.len() <= at {
             return;
         }
-        st = turn(input, storage, kept, text, st);
+        let end = text::line_end(input, at);
+        regs[regs::PLACE] = end as u64 + 1;
+        lines::line(&input[at..end], storage, kept, text, out, regs);
         turns -= 1;
     }
-}
-
-// The line at the place that the state names.
-fn turn(input: &[u8], storage: &mut [u8], kept: &mut [u8], text: &mut [u8], st: State) -> State {
-    let at = st.place;
-    if input.len() <= at {
-        return st;
-    }
-    let end = words::line_end(input, at);
-    let next = st.moved(end + 1);
-    lines::line(&input[at..end], storage, kept, text, next)
 }

@@ -1,59 +1,77 @@
-// The lent bytes as a script sets them, and the copies that are kept of them.
-use crate::state;
+// The lent bytes as a script sets them, and the copy that is kept of them.
+use crate::calls::Answer;
+use crate::calls::short;
+use crate::calls::silent;
+use crate::regs;
+use crate::sink;
 use crate::sums::byte_at;
 use crate::verbs;
-use crate::words::Words;
 ghost use Prim.Native.Nat.{_+_, _≤_};
 ghost use lib.ListN.{length};
-
-// The copy has two parts: what stood in the lent bytes before a call, and behind that what the script keeps.
-const PART: u64 = 557056;
-
-// As many bytes as the number says, if the slice has them.
-pub fn upto(n: u64, s: &[u8]) -> usize
-    ensures { λ r. ⌜ r ≤ length (now (s .entry)) ⌝ }
-{
-    let l = s.len();
-    if (l as u64) < n {
-        return l;
-    }
-    n as usize
-}
 
 // As many as the number says of the bytes from a place on, if the slice has them.
 fn within(n: u64, s: &[u8], at: usize) -> usize
     requires { ⌜ at ≤ length (now s) ⌝ }
     ensures { λ r. ⌜ at + r ≤ length (now (s .entry)) ⌝ }
 {
-    upto(n, &s[at..])
+    sink::upto(n, &s[at..])
 }
 
-// One byte, so many times from a place on.
-pub fn fill(s: &mut [u8], from: u64, len: u64, b: u64) {
-    let at = upto(from, s);
+fn fill(s: &mut [u8], from: u64, len: u64, b: u8) {
+    let at = sink::upto(from, s);
     let n = within(len, s, at);
-    le::runs::fill_at(s, at, n, state::low8(b));
+    le::runs::fill_at(s, at, n, b);
 }
 
 // Bytes of the generator from a seed on.
 fn scatter(s: &mut [u8], from: u64, len: u64, seed: u64) {
-    let at = upto(from, s);
+    let at = sink::upto(from, s);
     let n = within(len, s, at);
     let mut x = seed;
     let mut i = 0;
     while i < n {
-        x = state::following(x);
-        s[at + i] = state::low8(x / 65536);
+        x = regs::following(x);
+        s[at + i] = regs::low8(x / 65536);
         i += 1;
     }
 }
 
-// A number of eight bytes at a place, if the slice has them.
-fn poke(s: &mut [u8], from: u64, value: u64) {
-    let at = upto(from, s);
-    if 8 <= s.len() - at {
-        le::fields::put_u64(s, at, value);
+// A byte at a place and so many further, if the slice has it.
+fn store(s: &mut [u8], at: usize, i: usize, b: u8) {
+    if at < s.len() {
+        if i < s.len() - at {
+            s[at + i] = b;
+        }
     }
+}
+
+// The low bytes of a number at a place, lowest first.
+fn poke(s: &mut [u8], from: u64, width: usize, value: u64) {
+    let at = sink::upto(from, s);
+    let mut x = value;
+    let mut i = 0;
+    while i < width {
+        store(s, at, i, regs::low8(x));
+        x = x / 256;
+        i += 1;
+    }
+}
+
+// The copy has two parts: what stood in the lent bytes before a call, and behind that what the script keeps.
+const PART: u64 = 557056;
+
+// Bytes of one, from a place on, into the other, at a place.
+fn copy(to: &mut [u8], at: u64, from: &[u8], start: u64, len: u64) {
+    let p = sink::upto(at, to);
+    let q = sink::upto(start, from);
+    let n = within(len, from, q);
+    let m = within(len, to, p);
+    le::runs::copy_run(to, p, from, q, least(n, m));
+}
+
+// What stands in the first lent bytes before a call is kept.
+pub fn before(kept: &mut [u8], s: &[u8], len: u64) {
+    copy(kept, 0, s, 0, len);
 }
 
 fn least(a: usize, b: usize) -> usize
@@ -62,30 +80,16 @@ fn least(a: usize, b: usize) -> usize
     if a < b { a } else { b }
 }
 
-// Bytes of one, from a place on, into the other, at a place.
-fn copy(to: &mut [u8], at: u64, from: &[u8], start: u64, len: u64) {
-    let p = upto(at, to);
-    let q = upto(start, from);
-    let n = least(within(len, from, q), within(len, to, p));
-    le::runs::copy_run(to, p, from, q, n);
-}
-
-// What stands in the first lent bytes before a call is kept.
-pub fn before(kept: &mut [u8], s: &[u8], len: u64) {
-    copy(kept, 0, s, 0, len);
-}
-
 // Whether so many bytes from a place on are the same in both, the second's from a further place on.
 fn same(a: &[u8], b: &[u8], from: u64, further: u64, len: u64) -> bool {
-    let p = upto(from, a);
-    let q = upto(std::num::wrapping_add_u64(from, further), b);
-    let n = least(within(len, a, p), within(len, b, q));
+    let p = sink::upto(from, a);
+    let q = sink::upto(std::num::wrapping_add_u64(from, further), b);
+    let n = within(len, a, p);
+    let m = within(len, b, q);
+    if n != m {
+        return false;
+    }
     le::runs::same_at(a, p, b, q, n)
-}
-
-// Whether bytes are as the script kept them: 0, or 1 where they differ.
-pub fn compared(s: &[u8], kept: &[u8], from: u64, len: u64) -> u64 {
-    if same(s, kept, from, PART, len) { 0 } else { 1 }
 }
 
 // How many of the first bytes stand behind the counter.
@@ -110,14 +114,38 @@ pub fn mark(a: &[u8], b: &[u8], len: u64) -> u8 {
     b'c'
 }
 
-// A verb that sets or keeps bytes.
-pub fn set(verb: u64, s: &mut [u8], kept: &mut [u8], w: Words) {
+fn set(verb: u64, s: &mut [u8], a: u64, b: u64, c: u64) {
     match verb {
-        verbs::FILL => fill(s, w.a, w.b, w.c),
-        verbs::SCATTER => scatter(s, w.a, w.b, w.c),
-        verbs::POKE => poke(s, w.a, w.b),
-        verbs::KEEP => copy(kept, PART, s, 0, w.a),
-        verbs::BACK => copy(s, 0, kept, PART, w.a),
+        verbs::FILL => fill(s, a, b, regs::low8(c)),
+        verbs::SCATTER => scatter(s, a, b, c),
+        verbs::POKE1 => poke(s, a, 1, b),
+        verbs::POKE4 => poke(s, a, 4, b),
+        verbs::POKE8 => poke(s, a, 8, b),
         _ => {}
     }
+}
+
+// Whether bytes are as the script kept them: 0, or 1 where they differ.
+fn compared(s: &[u8], kept: &[u8], from: u64, len: u64) -> Answer {
+    if same(s, kept, from, PART, len) {
+        return short(0, 0, 0);
+    }
+    short(1, 0, 0)
+}
+
+fn moved(verb: u64, s: &mut [u8], kept: &mut [u8], a: u64, b: u64, c: u64) {
+    match verb {
+        verbs::KEEP => copy(kept, PART, s, 0, a),
+        verbs::BACK => copy(s, 0, kept, PART, a),
+        _ => set(verb, s, a, b, c),
+    }
+}
+
+// A verb that sets, keeps or compares bytes, with its numbers.
+pub fn verb(verb: u64, s: &mut [u8], kept: &mut [u8], a: u64, b: u64, c: u64) -> Answer {
+    if verb == verbs::SAME {
+        return compared(s, kept, a, b);
+    }
+    moved(verb, s, kept, a, b, c);
+    silent()
 }

@@ -1,12 +1,15 @@
 // Calls on the mount tables, and what they answer as numbers.
+ghost use Prim.Native.Nat.{_≤_};
 use crate::calls::Answer;
+use crate::calls::CALL;
 use crate::calls::looked;
 use crate::calls::refused;
 use crate::calls::values;
-use crate::state::low8;
-use crate::state::low32;
+use crate::regs::ARGS;
+use crate::regs::CELLS;
+use crate::regs::low8;
+use crate::regs::low32;
 use crate::verbs;
-use crate::words::Words;
 use inode::BackendNumber;
 use inode::NodeNumber;
 use inode::VfsInode;
@@ -19,27 +22,17 @@ use vfs_query::Remapped;
 use vfs_query::Rootfs;
 use vfs_query::Routed;
 
-// The backend of a mount: tag, root, largest number, uid, gid and mode.
-fn backend(w: Words) -> Backend {
+// Tag, root, largest number, uid, gid and mode, from a cell on.
+fn backend(r: &[u64; CELLS], k: usize) -> Backend
+    requires { ⌜ k ≤ 41 ⌝ }
+{
     Backend {
-        tag: low32(w.a),
-        root: BackendNumber(w.b),
-        max: w.c,
-        uid: low32(w.d),
-        gid: low32(w.e),
-        mode: low32(w.f),
-    }
-}
-
-// The backend of a restored mount: the same behind the index.
-fn backend_at(w: Words) -> Backend {
-    Backend {
-        tag: low32(w.b),
-        root: BackendNumber(w.c),
-        max: w.d,
-        uid: low32(w.e),
-        gid: low32(w.f),
-        mode: low32(w.g),
+        tag: low32(r[k]),
+        root: BackendNumber(r[k + 1]),
+        max: r[k + 2],
+        uid: low32(r[k + 3]),
+        gid: low32(r[k + 4]),
+        mode: low32(r[k + 5]),
     }
 }
 
@@ -60,6 +53,7 @@ fn tag_of(t: Tag) -> u64 {
 // A refusal of a mount: its number, and its count.
 fn counted(code: u64, count: u32) -> Answer {
     Answer {
+        way: CALL,
         code,
         n: 4,
         a: 0,
@@ -72,8 +66,8 @@ fn counted(code: u64, count: u32) -> Answer {
 }
 
 // Index, count, whether a tag was replaced, and that tag.
-fn mount(s: &mut [u8], path: &[u8], w: Words) -> Answer {
-    match vfs::mounting::mount(s, path, backend(w)) {
+fn mount(s: &mut [u8], path: &[u8], r: &[u64; CELLS]) -> Answer {
+    match vfs::mounting::mount(s, path, backend(r, ARGS)) {
         Mounted::Done {
             fs_idx,
             count,
@@ -95,8 +89,8 @@ fn mount(s: &mut [u8], path: &[u8], w: Words) -> Answer {
 }
 
 // Whether a tag was replaced, that tag, whether one was displaced, and that tag.
-fn mount_at(s: &mut [u8], path: &[u8], w: Words) -> Answer {
-    match vfs::restoring::restore_mount(s, low8(w.a), path, backend_at(w)) {
+fn mount_at(s: &mut [u8], path: &[u8], r: &[u64; CELLS]) -> Answer {
+    match vfs::restoring::restore_mount(s, low8(r[ARGS]), path, backend(r, ARGS + 1)) {
         Restored::Done {
             replaced,
             displaced,
@@ -151,28 +145,28 @@ fn root(s: &[u8], path: &[u8]) -> Answer {
     }
 }
 
-fn ids(s: &[u8], w: Words) -> Answer {
-    match vfs_query::remap_attr_id(s, low32(w.a), low32(w.b), w.c != 0) {
+fn ids(s: &[u8], r: &[u64; CELLS]) -> Answer {
+    match vfs_query::remap_attr_id(s, low32(r[ARGS]), low32(r[ARGS + 1]), r[ARGS + 2] != 0) {
         Remapped::Ids { uid, gid } => values(2, uid as u64, gid as u64, 0, 0),
         Remapped::Small => refused(12, 2),
     }
 }
 
 // Mount, restored mount or unmount.
-pub fn of_mounts(verb: u64, s: &mut [u8], text: &[u8], w: Words) -> Answer {
+pub fn of_mounts(verb: u64, s: &mut [u8], text: &[u8], r: &[u64; CELLS]) -> Answer {
     match verb {
-        verbs::MOUNT => mount(s, text, w),
-        verbs::MOUNT_AT => mount_at(s, text, w),
+        verbs::MOUNT => mount(s, text, r),
+        verbs::MOUNT_AT => mount_at(s, text, r),
         _ => umount(s, text),
     }
 }
 
 // A query of the mount tables.
-pub fn of_queries(verb: u64, s: &[u8], text: &[u8], w: Words) -> Answer {
+pub fn of_queries(verb: u64, s: &[u8], text: &[u8], r: &[u64; CELLS]) -> Answer {
     match verb {
-        verbs::ROUTE => route(s, w.a),
+        verbs::ROUTE => route(s, r[ARGS]),
         verbs::ROOT => root(s, text),
-        verbs::LOOKUP => looked(vfs_query::lookup(s, NodeNumber(w.a), text)),
-        _ => ids(s, w),
+        verbs::LOOKUP => looked(vfs_query::lookup(s, NodeNumber(r[ARGS]), text)),
+        _ => ids(s, r),
     }
 }

@@ -32,8 +32,12 @@ pub const LENGTH: u64 = 0x6c656e677468;
 pub const FILL: u64 = 0x66696c6c;
 // scatter
 pub const SCATTER: u64 = 0x73636174746572;
-// poke
-pub const POKE: u64 = 0x706f6b65;
+// poke1
+pub const POKE1: u64 = 0x706f6b6531;
+// poke4
+pub const POKE4: u64 = 0x706f6b6534;
+// poke8
+pub const POKE8: u64 = 0x706f6b6538;
 // keep
 pub const KEEP: u64 = 0x6b656570;
 // back
@@ -100,44 +104,54 @@ pub enum Kind {
     Bad,
     Steers,
     Sets,
-    Tells,
     Calls,
 }
 
 // What stands for a line that is no verb with its words.
-pub const BAD: u64 = 0;
-
 pub const NOTHING: u64 = 1;
 
 pub const HEADING: u64 = 2;
 
+pub const BAD: u64 = 0;
+
 // What a line is; all that is not named is a call.
 pub fn kind_of(verb: u64) -> Kind {
     match verb {
-        BAD => Kind::Bad,
         NOTHING => Kind::Nothing,
         HEADING => Kind::Heading,
-        LOOP | END | SET | ADD | RANDOM | SEED | TEXT | WATCH | VIEWS | LENGTH => Kind::Steers,
-        MORE | FILL | SCATTER | POKE | KEEP | BACK => Kind::Sets,
-        FOLD | PLAIN | SAME => Kind::Tells,
+        BAD => Kind::Bad,
+        LOOP
+        | END
+        | SET
+        | ADD
+        | RANDOM
+        | SEED
+        | TEXT
+        | MORE
+        | FOLD
+        | PLAIN
+        | WATCH
+        | VIEWS
+        | LENGTH => Kind::Steers,
+        FILL | SCATTER | POKE1 | POKE4 | POKE8 | KEEP | BACK | SAME => Kind::Sets,
         _ => Kind::Calls,
     }
 }
 
-// How many numbers a verb takes, and 10 more where it takes a text; 99 where it is no verb.
+// How many numbers a verb takes, and 10 more where it takes a text; 9 is none of a line's.
 pub fn shape(verb: u64) -> u64 {
     match verb {
         END | FOLD | PLAIN | LAID | REMOVE | INIT | OPTIONS => 0,
         TEXT | WALK | UMOUNT | ROOT => 10,
         SEED | WATCH | VIEWS | LENGTH | KEEP | BACK | ROUTE => 1,
         LOOK | LOOKUP => 11,
-        SET | ADD | RANDOM | MORE | POKE | SAME => 2,
+        SET | ADD | RANDOM | MORE | POKE1 | POKE4 | POKE8 | SAME => 2,
         LOOP | FILL | SCATTER | IDS => 3,
         LIST => 4,
         MOUNT => 16,
         MOUNT_AT => 17,
         CREATE => 8,
-        _ => 99,
+        _ => 9,
     }
 }
 

@@ -6,10 +6,10 @@ use Rattle.calls_test.proofs.memory.scatter.Statement.{statement}
 use Rattle.calls_test.proofs.memory.scatter.Tie as tie
 use Rattle.calls_test.proofs.memory.scatter.Reads as reads
 use Rattle.calls_test.proofs.memory.scatter.Lts as lts
-use Rattle.calls_test.proofs.memory.upto.Reads as upto-reads
 use Rattle.calls_test.proofs.memory.within.Reads as within-reads
-use Rattle.calls_test.proofs.state.following.Reads as following-reads
-use Rattle.calls_test.proofs.state.low8.Reads as low8-reads
+use Rattle.calls_test.proofs.regs.following.Reads as following-reads
+use Rattle.calls_test.proofs.regs.low8.Reads as low8-reads
+use Rattle.calls_test.proofs.sink.upto.Reads as upto-reads
 
 abbrev Inv-loop : tie.InvT-loop
 Inv-loop s₀ from len seed at n x₀ i₀ s x i = (at + n ≤ length s₀) × (i ≤ n) × (length s ≡ length s₀)
@@ -17,51 +17,51 @@ Inv-loop s₀ from len seed at n x₀ i₀ s x i = (at + n ≤ length s₀) × (
 abbrev μ-loop : tie.MeasureT-loop
 μ-loop s₀ from len seed at n x₀ i₀ s x i = n - i
 
--- src/memory.rt:40:9
+-- src/memory.rt:26:9
 upto-requires : tie.Need-upto-requires Inv-loop μ-loop
 upto-requires c κs = search needs
 
--- src/memory.rt:41:9
+-- src/memory.rt:27:9
 within-requires : tie.Need-within-requires Inv-loop μ-loop
 within-requires c κs = search needs
 
--- src/memory.rt:44:5
+-- src/memory.rt:30:5
 loop-holds : tie.Need-loop-holds Inv-loop μ-loop
 loop-holds c = search needs
 
--- src/memory.rt:45:9
+-- src/memory.rt:31:9
 following-requires : tie.Need-following-requires Inv-loop μ-loop
 following-requires c κs = search needs
 
--- src/memory.rt:46:21
+-- src/memory.rt:32:21
 low8-requires : tie.Need-low8-requires Inv-loop μ-loop
 low8-requires c κs = search needs
 
--- src/memory.rt:46:11
+-- src/memory.rt:32:11
 add-s : tie.Need-add-s Inv-loop μ-loop
 add-s c = search needs
 
--- src/memory.rt:46:9
+-- src/memory.rt:32:9
 slice-write-s : tie.Need-slice-write-s Inv-loop μ-loop
 slice-write-s c = search needs
 
--- src/memory.rt:47:9
+-- src/memory.rt:33:9
 add-i : tie.Need-add-i Inv-loop μ-loop
 add-i c = search needs
 
--- src/memory.rt:44:5
+-- src/memory.rt:30:5
 loop-less : tie.Need-loop-less Inv-loop μ-loop
 loop-less c = search needs
 
--- src/memory.rt:44:5
+-- src/memory.rt:30:5
 loop-again : tie.Need-loop-again Inv-loop μ-loop
 loop-again c = search needs
 
--- src/memory.rt:39:1
+-- src/memory.rt:25:1
 same-length : tie.Need-same-length Inv-loop μ-loop
 same-length c = search needs
 
--- src/memory.rt:39:1
+-- src/memory.rt:25:1
 returns : tie.Need-returns Inv-loop μ-loop
 returns c = search needs
 

@@ -1,0 +1,62 @@
+use borrow.Author.Needs.{needs}
+use Prim.Native.Nat.{_-_, _+_, _≤_, _<_}
+use mathlib.Core.Path.{_≡_}
+use lib.ListN.{length}
+use Rattle.calls_test.proofs.text.append_all.Statement.{statement}
+use Rattle.calls_test.proofs.text.append_all.Tie as tie
+use Rattle.calls_test.proofs.text.append_all.Reads as reads
+use Rattle.calls_test.proofs.text.append_all.Lts as lts
+use Rattle.calls_test.proofs.text.append.Reads as append-reads
+
+abbrev Inv-loop : tie.InvT-loop
+Inv-loop text₀ regs₀ s mode₀ i₀ text regs mode i = (i ≤ length s) × (length text ≡ length text₀)
+
+abbrev μ-loop : tie.MeasureT-loop
+μ-loop text₀ regs₀ s mode₀ i₀ text regs mode i = length s - i
+
+-- src/text.rt:260:5
+loop-holds : tie.Need-loop-holds Inv-loop μ-loop
+loop-holds c = search needs
+
+-- src/text.rt:261:35
+shared-slice-read-append : tie.Need-shared-slice-read-append Inv-loop μ-loop
+shared-slice-read-append c = search needs
+
+-- src/text.rt:261:9
+append-requires : tie.Need-append-requires Inv-loop μ-loop
+append-requires c κs = search needs
+
+-- src/text.rt:262:9
+add-i : tie.Need-add-i Inv-loop μ-loop
+add-i c = search needs
+
+-- src/text.rt:260:5
+loop-less : tie.Need-loop-less Inv-loop μ-loop
+loop-less c = search needs
+
+-- src/text.rt:260:5
+loop-again : tie.Need-loop-again Inv-loop μ-loop
+loop-again c = search needs
+
+-- src/text.rt:257:1
+same-length : tie.Need-same-length Inv-loop μ-loop
+same-length c = search needs
+
+-- src/text.rt:257:1
+returns : tie.Need-returns Inv-loop μ-loop
+returns c = search needs
+
+pub append-all-spec : {M : Type 1} → statement M
+append-all-spec =
+    tie.close
+    (tie.spec
+    Inv-loop
+    μ-loop
+    loop-holds
+    shared-slice-read-append
+    append-requires
+    add-i
+    loop-less
+    loop-again
+    same-length
+    returns)

@@ -1,0 +1,67 @@
+use borrow.Author.Needs.{needs}
+use Prim.Native.Nat.{_-_, _+_, _≤_, _<_}
+use mathlib.Core.Path.{_≡_}
+use lib.ListN.{length}
+use Rattle.calls_test.proofs.text.append_many.Statement.{statement}
+use Rattle.calls_test.proofs.text.append_many.Tie as tie
+use Rattle.calls_test.proofs.text.append_many.Reads as reads
+use Rattle.calls_test.proofs.text.append_many.Lts as lts
+use Rattle.calls_test.proofs.text.append.Reads as append-reads
+
+abbrev Inv-loop : tie.InvT-loop
+Inv-loop text₀ regs₀ count b left₀ text regs left = (length text ≡ length text₀)
+
+abbrev μ-loop : tie.MeasureT-loop
+μ-loop text₀ regs₀ count b left₀ text regs left = left
+
+-- src/text.rt:270:5
+loop-holds : tie.Need-loop-holds Inv-loop μ-loop
+loop-holds c = search needs
+
+-- src/text.rt:271:12
+append-requires : tie.Need-append-requires Inv-loop μ-loop
+append-requires c κs = search needs
+
+-- src/text.rt:272:13
+same-length : tie.Need-same-length Inv-loop μ-loop
+same-length c = search needs
+
+-- src/text.rt:272:13
+returns : tie.Need-returns Inv-loop μ-loop
+returns c = search needs
+
+-- src/text.rt:274:9
+sub-left : tie.Need-sub-left Inv-loop μ-loop
+sub-left c = search needs
+
+-- src/text.rt:270:5
+loop-less : tie.Need-loop-less Inv-loop μ-loop
+loop-less c = search needs
+
+-- src/text.rt:270:5
+loop-again : tie.Need-loop-again Inv-loop μ-loop
+loop-again c = search needs
+
+-- src/text.rt:268:1
+same-length-2 : tie.Need-same-length-2 Inv-loop μ-loop
+same-length-2 c = search needs
+
+-- src/text.rt:268:1
+returns-2 : tie.Need-returns-2 Inv-loop μ-loop
+returns-2 c = search needs
+
+pub append-many-spec : {M : Type 1} → statement M
+append-many-spec =
+    tie.close
+    (tie.spec
+    Inv-loop
+    μ-loop
+    loop-holds
+    append-requires
+    same-length
+    returns
+    sub-left
+    loop-less
+    loop-again
+    same-length-2
+    returns-2)

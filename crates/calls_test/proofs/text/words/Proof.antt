@@ -1,0 +1,98 @@
+use borrow.Author.Needs.{needs}
+use Prim.Native.Nat.{_-_, _+_, _≤_, _<_}
+use mathlib.Core.Path.{_≡_}
+use lib.ListN.{length}
+use Rattle.calls_test.proofs.text.words.Statement.{statement}
+use Rattle.calls_test.proofs.text.words.Tie as tie
+use Rattle.calls_test.proofs.text.words.Reads as reads
+use Rattle.calls_test.proofs.text.words.Lts as lts
+use Rattle.calls_test.proofs.text.word.Reads as word-reads
+use Rattle.calls_test.proofs.text.word_end.Reads as word-end-reads
+
+abbrev Inv-loop : tie.InvT-loop
+Inv-loop line from text₀ regs₀ at₀ text regs at = (length text ≡ length text₀)
+
+abbrev μ-loop : tie.MeasureT-loop
+μ-loop line from text₀ regs₀ at₀ text regs at = length line - at
+
+-- src/text.rt:48:5
+element-write-regs : tie.Need-element-write-regs Inv-loop μ-loop
+element-write-regs c = search needs
+
+-- src/text.rt:49:5
+element-write-regs-2 : tie.Need-element-write-regs-2 Inv-loop μ-loop
+element-write-regs-2 c = search needs
+
+-- src/text.rt:51:5
+loop-holds : tie.Need-loop-holds Inv-loop μ-loop
+loop-holds c = search needs
+
+-- src/text.rt:52:13
+word-end-requires : tie.Need-word-end-requires Inv-loop μ-loop
+word-end-requires c κs = search needs
+
+-- src/text.rt:53:18
+sub-word : tie.Need-sub-word Inv-loop μ-loop
+sub-word c = search needs
+
+-- src/text.rt:53:18
+part-word-start : tie.Need-part-word-start Inv-loop μ-loop
+part-word-start c = search needs
+
+-- src/text.rt:53:18
+part-word-end : tie.Need-part-word-end Inv-loop μ-loop
+part-word-end c = search needs
+
+-- src/text.rt:53:13
+word-requires : tie.Need-word-requires Inv-loop μ-loop
+word-requires c κs = search needs
+
+-- src/text.rt:54:13
+same-length : tie.Need-same-length Inv-loop μ-loop
+same-length c = search needs
+
+-- src/text.rt:54:13
+returns : tie.Need-returns Inv-loop μ-loop
+returns c = search needs
+
+-- src/text.rt:56:14
+add-at : tie.Need-add-at Inv-loop μ-loop
+add-at c = search needs
+
+-- src/text.rt:51:5
+loop-less : tie.Need-loop-less Inv-loop μ-loop
+loop-less c = search needs
+
+-- src/text.rt:51:5
+loop-again : tie.Need-loop-again Inv-loop μ-loop
+loop-again c = search needs
+
+-- src/text.rt:47:1
+same-length-2 : tie.Need-same-length-2 Inv-loop μ-loop
+same-length-2 c = search needs
+
+-- src/text.rt:47:1
+returns-2 : tie.Need-returns-2 Inv-loop μ-loop
+returns-2 c = search needs
+
+pub words-spec : {M : Type 1} → statement M
+words-spec =
+    tie.close
+    (tie.spec
+    Inv-loop
+    μ-loop
+    element-write-regs
+    element-write-regs-2
+    loop-holds
+    word-end-requires
+    sub-word
+    part-word-start
+    part-word-end
+    word-requires
+    same-length
+    returns
+    add-at
+    loop-less
+    loop-again
+    same-length-2
+    returns-2)
