@@ -13,10 +13,11 @@ import sys
 sys.path.insert(0, os.path.dirname(os.path.abspath(__file__)))
 sys.dont_write_bytecode = True
 
-from model import script  # noqa: E402
+from model import saved, script  # noqa: E402
 
 TOP = 2**56
 MAX64 = 2**64 - 1
+SAVED = script.ROOM      # the place of the first saved byte
 PLAIN_MODE = 16895
 
 
@@ -27,6 +28,7 @@ def size(n):
 class Script:
     def __init__(self):
         self.lines = []
+        self.put = {}      # what `put` has left in the saved bytes, eight at a place
 
     def __call__(self, *words):
         self.lines.append(" ".join(map(str, words)))
@@ -810,15 +812,356 @@ def sessions(s):
                 s("route", rng.choice([1, rng.randrange(8) * TOP + rng.randrange(3)]))
 
 
+# ---- saved state
+
+def put(s, b):
+    """Bytes become the saved ones, eight at a time; those that stand there already are left."""
+    for at in range(0, len(b), 8):
+        eight = int.from_bytes(b[at:at + 8].ljust(8, b"\0"), "little")
+        if s.put.get(at) != eight:
+            s("poke8", SAVED + at, eight)
+        s.put[at] = eight
+
+
+def record(number, parent=1, name=b"n"):
+    return number, parent, name
+
+
+def state(nodes=(), options=(0, 0, 0, 0, 0, 0), following=None, counter=1):
+    if following is None:
+        following = min(max([number for number, _, _ in nodes], default=1) + 1, MAX64)
+    return saved.encode(nodes, options, following, counter)
+
+
+def grown(s, n, count, long):
+    """An instance of n with so many nodes: names of 255 bytes with a common start under the root, or of one byte, each below the last."""
+    fresh(s, n, watch=False, views=False, known=0xFF, in_opts=5, out_opts=0x81, flags=9, mapping=(3, 4, 5))
+    if not count:
+        return
+    if long:
+        s("loop", "=a", 1000, count)
+        mount(s, '"/' + "x" * 251 + "$a")
+        s("umount", "@")
+        s("end")
+    else:
+        s("text", '"')
+        s("loop", "=a", 0, count)
+        s("more", 1, 47)
+        s("more", 1, 49)
+        s("end")
+        mount(s, "@")
+        s("umount", "@")
+
+
+def saved_trees(s):
+    s(": trees of 0, 1, 63 and 1,023 nodes saved and restored")
+    for count, long in ((0, 0), (1, 0), (1, 1), (63, 0), (63, 1), (1023, 0), (1023, 1)):
+        length = 56 + count * (18 + (255 if long else 1))
+        s(f": {count} nodes, {length} bytes")
+        n = count + 1
+        s("fold")
+        grown(s, n, count, long)
+        s("plain")
+        s("watch", size(n) + 64)
+        s("views", 1)
+        s("fill", SAVED, length + 128, 165)
+        for room in (0, 55, length - 1, length, length + 7, length + 64):
+            s("save", "=b", room)
+        s("restore", "b")
+        for capacity in (n, count, 1024):
+            if not capacity:
+                continue
+            s("scatter", 0, min(size(capacity) + 64, 60000), count)
+            fresh(s, capacity, known=0x85, mapping=(7, 8, 9))
+            for at, turns in (("b", 1), (length - 1, 1), (length + 1, 1), ("b", 2)):
+                for _ in range(turns):
+                    s("restore", at)
+            for line in ("init", "options", 'walk "/1', "ids 3 7 1", "list 1 65536 0 4096"):
+                s(line)
+            s("save", "=c", length)
+            mount(s, '"/1')
+        s("views", 0)
+    s(": a deep tree, names that differ late, and mounts that are not saved")
+    fresh(s, 64, known=1, in_opts=1)
+    for p in ("/a/b/c/d/e/f", "/a/b/c/\u00e9\u20ac\U0001f600", "/a/..b/.c/...", "/a/b/x1234567y", "/a/b/x1234567z", b"/a/nul\0nul", "/"):
+        mount(s, text(p), 9, 77)
+    s("save", "=b", 1000)
+    s("restore", "b")
+    for line in ('umount "/', 'umount "/a/b/c/d/e/f'):
+        s(line)
+    s("save", "=b", 1000)
+    for n in (14, 15, 64):
+        fresh(s, n, known=1)
+        s("remove")
+        s("poke1", 260, 1)
+        s("poke4", 512 + 4 * 4, 1234)
+        s("restore", "b")
+        for p in ("/a/b/c/d/e/f", "/a/b/c/\u00e9\u20ac\U0001f600", "/a/..b/.c/...", "/a/b/x1234567z", b"/a/nul\0nul"):
+            s("walk", text(p))
+            s("root", text(p))
+        s("save", "=b", 1000)
+        mount(s, '"/a/b')
+        s("route", 4 * TOP + 9)
+
+
+def small_state():
+    return state([record(2, 1, b"a"), record(3, 2, b"a"), record(5, 2, "\u00e9".encode()), record(6, 1, b"..b"), record(9, 5, b"a.")],
+                 (5, 1, 2, 3, 4, 33), 12, 200)
+
+
+def changed_bytes(s):
+    good = small_state()
+    s(f": a state of {len(good)} bytes, each byte changed to each of the other 255 values")
+    fresh(s, 7, known=0x85, watch=False, views=False)
+    s.put.clear()
+    put(s, good)
+    s("views", 1)
+    s("restore", len(good))
+    s("save", "=b", len(good))
+    s("loop", "=a", SAVED, len(good))
+    s("fold")
+    s("loop", "=b", 0, 256)
+    s("raise", "a", 1)
+    s("watch", 0)
+    s("views", 0)
+    create(s, 7, 0x85)
+    s("watch", size(7))
+    s("views", 1)
+    s("restore", len(good))
+    s("end")
+    s("plain")
+    s("end")
+    s(": the same state cut at every length, with bytes behind, and bytes taken out or put in")
+    for n in (7, 6, 5):
+        s("fill", SAVED + len(good), 100, 0)
+        s("fold")
+        s("loop", "=a", 0, len(good) + 80)
+        create(s, n, 0x85)
+        s("restore", "a")
+        s("end")
+        s("plain")
+    for put_in in (b"", b"\0", b"a"):
+        s("fold")
+        for at in range(len(good) + len(put_in)):
+            b = good[:at] + put_in + good[at + 1 - len(put_in):]
+            moved(s, b, at)
+            s("restore", len(b))
+            if not saved.faults(b):
+                create(s, 7, 0x85)
+        s("plain")
+
+
+def moved(s, b, at):
+    """The saved bytes become b, which differs from what they were only in two places, at most `at`."""
+    if at == 0:
+        s.put.clear()
+        put(s, b)
+        s.put.clear()
+    else:
+        for k in (at - 1, at):
+            if k < len(b):
+                s("poke1", SAVED + k, b[k])
+
+
+def each_fault(s):
+    s(": each fault of saved bytes alone, and those beside it that are none")
+    a, b, c = record(2, 1, b"a"), record(3, 2, b"b"), record(7, 3, b"c")
+    names = [b"", b"/", b"a/b", b".", b"..", b"...", b".a", b"a.", b"\0", b" ", b"\x7f", b"\x80", b"\xc2\x80", b"\xc1\xbf", b"\xe0\x9f\xbf", b"\xe0\xa0\x80",
+             b"\xed\x9f\xbf", b"\xed\xa0\x80", b"\xf0\x8f\xbf\xbf", b"\xf4\x8f\xbf\xbf", b"\xf4\x90\x80\x80", b"\xe2\x82", b"x" * 255, b"x" * 256, b"x" * 254 + b"\xc3\xa9"]
+    cases = [state([a, record(3, 2, name), c]) for name in names]
+    cases += [state([a, record(number, 1, b"b"), c]) for number in (0, 1, 2, 3, 6, 7, 8, TOP - 1, TOP, MAX64)]
+    cases += [state([record(number)]) for number in (0, 1, 2, 3, TOP - 1, TOP)]
+    cases += [state([a, record(3, parent, b"b"), c]) for parent in (0, 1, 2, 3, 4, 7, TOP + 1, TOP + 2, MAX64)]
+    cases += [state([a, b, c], following=v) for v in (0, 1, 2, 7, 8, 9, TOP - 1, TOP, TOP + 1, MAX64)]
+    cases += [state([], following=v) for v in (0, 1, 2, 3, TOP, TOP + 1)]
+    cases += [state([record(TOP - 1)], following=v) for v in (TOP - 1, TOP, TOP + 1)]
+    for x in (1, 2, 3):
+        for y in (1, 2, 3):
+            for name in (b"same", b"longer name!", b"longer nama!", b"Longer name!"):
+                cases.append(state([a, b, record(4, x, b"longer name!"), record(5, y, name), record(6, 5, b"same")]))
+    whole = state([a, b, c], (1, 4, 0, 2**32 - 1, 2**32 - 1, 63), counter=0)
+    t = len(whole) - 24
+    for at, width, values in ((t, 4, (0, t - 33, t - 31, t - 32 + 2**31)), (t + 4, 4, (0, 2, 4, 2**16 + 3, 2**32 - 1)), (t + 17, 1, (0, 2, 255)),
+                              (t - 4, 1, (0, 31, 64, 128, 192, 255)), (t + 16, 1, (0, 1, 255))):
+        for v in values:
+            cases.append(whole[:at] + v.to_bytes(width, "little") + whole[at + width:])
+    for at in (*range(t - 3, t), *range(t + 18, t + 24)):
+        cases += [whole[:at] + bytes([v]) + whole[at + 1:] for v in (1, 128, 255)]
+    cases += [b"", bytes(55), bytes(56), bytes(57), whole, whole[1:], whole + b"\0", b"\0" + whole, whole[-56:], state()]
+    alone = {saved.faults(case) for case in cases}
+    assert alone >= set("abcdefghijk") | {""}, alone
+    s.put.clear()
+    fresh(s, 8, watch=True)
+    for case in cases:
+        put(s, case)
+        create(s, 8, 0xFF, mapping=(1, 2, 3))
+        s("restore", len(case))
+        if not saved.faults(case):
+            s("save", "=b", len(case))
+
+
+def order_of_restore(s):
+    s(": the order of the refusals of a restore: SMALL, NOTFRESH, BADSAVE, BADOPT, NOROOM")
+    nodes = [record(2, 1, b"a"), record(3, 1, b"b")]
+    s.put.clear()
+    for small in (1, 0):
+        for stale in (0, 1, 2, 3):
+            for bad in (1, 0):
+                for options in ((2, 0, 0, 0, 0, 0), (0, 2, 0, 0, 0, 0), (1, 1, 0, 0, 0, 0)):
+                    for n in (2, 3):
+                        b = state(nodes + [record(4, 9)] if bad else nodes, options)
+                        put(s, b)
+                        fresh(s, n, known=1)
+                        if stale & 1:
+                            mount(s, '"/kept')
+                            s("umount", '"/kept')
+                        if stale & 2:
+                            mount(s, '"/')
+                        if small:
+                            s("length", size(n) - 1)
+                        s("restore", len(b))
+    s(": what is no fault of freshness: counter, next number, held slots, options, a node that was removed")
+    put(s, state(nodes, (0, 0, 9, 9, 9, 1), TOP, 255))
+    for in_opts in (0, 1):
+        fresh(s, 3, known=3, in_opts=1, out_opts=2, flags=4, mapping=(5, 6, 7))
+        s("poke8", SAVED + 38, in_opts)
+        s("remove")
+        mount(s, '"/gone')
+        s("umount", '"/gone')
+        s("poke1", 81, 77)
+        s("poke1", 83, 9)
+        s("fill", 300, 7, 5)
+        s("restore", 94)
+        for line in ("init", "options", "ids 5 6 1", "ids 5 6 0", 'umount "/a', 'walk "/a'):
+            s(line)
+        mount(s, '"/c')
+        mount(s, '"/a')
+        s("umount", '"/a')
+        s("save", "=b", 200)
+        s("save", "=b", "b")
+
+
+def removed_parents(s):
+    s(": a state with a removed parent is saved, and refused by a restore")
+    fresh(s, 8, known=1)
+    s("remove")
+    for p in ("/a/b", "/a", "/c"):
+        mount(s, text(p))
+    s("umount", '"/a/b')
+    s("umount", '"/a')
+    s("save", "=b", 500)
+    fresh(s, 8, known=1)
+    s("restore", "b")
+    fresh(s, 8, known=1)
+    s("remove")
+    mount(s, '"/a/b')
+    mount(s, '"/a')
+    s("umount", '"/a')
+    s("save", "=b", 500)
+    fresh(s, 8, known=1)
+    s("restore", "b")
+    s("poke8", SAVED + 8, 1)
+    s("restore", "b")
+
+
+def many_records(s):
+    s(": 1,023 records and more, whole and damaged")
+    each = 20
+    for columns, rows in ((31, 33), (32, 32), (25, 41), (34, 33)):
+        total = columns * rows
+        s(f": {total} records")
+        s("set", "=c", SAVED)
+        s("set", "=d", 2)
+        s("loop", "=a", 64, columns)
+        s("loop", "=b", 64, rows)
+        for what, step in ((("poke8", "d"), 8), (("poke8", 1), 8), (("poke1", 2), 1), (("poke1", 0), 1), (("poke1", "a"), 1), (("poke1", "b"), 1)):
+            s(what[0], "c", what[1])
+            s("add", "=c", step)
+        s("add", "=d", 1)
+        s("end")
+        s("end")
+        tail = state(following=total + 2)[:-24] + (each * total).to_bytes(4, "little") + total.to_bytes(4, "little") + state(following=total + 2)[-16:]
+        for at in range(0, 56, 8):
+            s("poke8", SAVED + each * total + at, int.from_bytes(tail[at:at + 8], "little"))
+        length = each * total + 56
+        for n in (1024, 1023, 64):
+            fresh(s, n)
+            s("restore", length)
+        fresh(s, 1024, watch=False)
+        s("fold")
+        places = [(each * row + place, v) for place in (0, 8, 16, 18, 19) for row in (0, 1, total // 2, total - 2, total - 1) for v in (1, 255)]
+        for at, v in places + [(at, 1) for at in range(length - 24, length)]:
+            s("raise", SAVED + at, v)
+            create(s, 1024)
+            s("restore", length)
+            s("raise", SAVED + at, 256 - v)
+        s("plain")
+        fresh(s, 1024)
+        s("restore", length)
+
+
+def random_states(s):
+    s(": random bytes, random trailers behind random records, and states of sessions at random")
+    rng = random.Random(77)
+    fresh(s, 16, known=0xFF)
+    s("fold")
+    s("loop", "=a", 0, 200)
+    s("scatter", SAVED, 200, "a")
+    s("restore", 56)
+    s("restore", 200)
+    s("end")
+    s("plain")
+    names = [b"a", b"b", b"ab", b"..a", "\u00e9".encode(), b"\xff", b"a/b", b".."]
+    for _ in range(30):
+        s("fold")
+        for _ in range(5):
+            nodes, number = [], 1
+            for _ in range(rng.randrange(7)):
+                number += rng.choice([1] * 9 + [2, 5, 0])
+                parents = [1] + [k for k, _, _ in nodes]
+                nodes.append(record(number, rng.choice(parents * 4 + [number]), rng.choice(names[:5] * 6 + names[5:])))
+            b = state(nodes, (rng.choice([0, 1, 256]), 0, rng.randrange(2**32), rng.randrange(2**32), rng.randrange(2**32), rng.randrange(66)),
+                      number + rng.randrange(8) if rng.randrange(9) else number, rng.randrange(256))
+            s.put.clear()
+            put(s, b)
+            create(s, 6, 0xFF)
+            s("restore", len(b))
+            s("save", "=b", 400)
+        s("plain")
+    for turn in range(8):
+        n = rng.choice([4, 8, 16])
+        fresh(s, n, known=0xFF, in_opts=rng.randrange(256), mapping=(rng.randrange(9), rng.randrange(9), rng.randrange(9)))
+        s("fold")
+        for step in range(60):
+            path = "/" + "/".join(rng.choice(["a", "b", "c", "..", "long-name"]) for _ in range(rng.randrange(1, 4)))
+            if rng.randrange(3):
+                mount(s, text(path), rng.randrange(99))
+            else:
+                s("umount", text(path))
+            if step == 20 and turn % 2:
+                s("remove")
+            if step % 12 == 11:
+                s("keep", size(n))
+                s("save", "=h", 2000)
+                s("restore", "h")
+                create(s, n, 0xFF)
+                s("restore", "h")
+                s("save", "=g", 2000)
+                if rng.randrange(2):
+                    s("back", size(n))
+        s("plain")
+
+
 def bad_lines(s):
     s(": lines that are none of a script's")
     for line in ("bogus", "mount", 'walk', 'walk 3', 'walk "/ 3', "route", "route x", "route 18446744073709551616", "route  1", "route -1",
-                 "end", "plain", "loop =a 0 0", "set =i 1", "set a b c", 'walk "%zz', 'walk "%2', 'walk "$', 'walk "$i', "random =a 0", "save", "restore", "Laid"):
+                 "end", "plain", "loop =a 0 0", "set =i 1", "set a b c", 'walk "%zz', 'walk "%2', 'walk "$', 'walk "$i', "random =a 0", "save", "save 1 2 3", "restore", "restore 1 2", "raise 1", "Laid"):
         s(line)
 
 
 PARTS = [session, edges, creation, settings, tree, listings, header_bytes, random_bytes, odd_tables, order, numbers, tags, removal, kept_numbers, mapped,
-         lambda s: full_table(s, 0), lambda s: full_table(s, 1), no_room, sessions, bad_lines]
+         lambda s: full_table(s, 0), lambda s: full_table(s, 1), no_room, sessions, saved_trees, changed_bytes, each_fault, order_of_restore, removed_parents, many_records,
+         random_states, bad_lines]
 
 
 def main():
@@ -826,11 +1169,12 @@ def main():
     for part in PARTS:
         part(s)
     source = s.source()
+    answers = script.Run().run(source)
     here = os.path.join(os.path.dirname(os.path.dirname(os.path.abspath(__file__))), "crates", "calls_test")
     with open(os.path.join(here, "stdin"), "wb") as f:
         f.write(source)
     with open(os.path.join(here, "stdout"), "wb") as f:
-        f.write(script.Run().run(source))
+        f.write(answers)
 
 
 if __name__ == "__main__":

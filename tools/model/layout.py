@@ -108,7 +108,9 @@ def put_number(b, at, v):
 def write(b, i):
     """Puts the instance into its bytes; a cell that means the same already keeps its bytes."""
     struct.pack_into("<QQ", b, 16, len(i.nodes), i.next)
-    b[81] = i.counter
+    struct.pack_into("<QQ", b, 40, i.in_opts, i.out_opts)
+    struct.pack_into("<IIIBB", b, 68, *i.own, i.flags, i.counter)
+    b[83] = b[83] if i.initialized == (b[83] != 0) else int(i.initialized)
     if i.removes and not b[82]:
         b[82] = 1
     put_mount(b, i.root_mount, 88, 96, 100, 104)

@@ -5,23 +5,27 @@ docs/TESTS.md has the language. This is the second reading of it; the first is t
 import re
 import zlib
 
-from model import layout, rules
+from model import layout, rules, saved
 
 ROOM = 1114112
+PART = 557056
+SAVED = 303104
+BEHIND = 64
 TEXT = re.compile(rb"(?s:[^%$]|%[0-9a-f]{2}|\$[a-h])*")
 MARKED = re.compile(rb"%[0-9a-f]{2}|\$[a-h]")
-WRITES = {"create", "remove", "mount", "mountat", "umount"}
+WRITES = {"create", "remove", "mount", "mountat", "umount", "restore"}
 SHAPES = {
     "loop": (3, 0), "end": (0, 0), "set": (2, 0), "add": (2, 0), "random": (2, 0), "seed": (1, 0), "text": (0, 1),
     "more": (2, 0), "fold": (0, 0), "plain": (0, 0), "watch": (1, 0), "views": (1, 0), "length": (1, 0),
-    "fill": (3, 0), "scatter": (3, 0), "poke1": (2, 0), "poke4": (2, 0), "poke8": (2, 0), "keep": (1, 0),
+    "fill": (3, 0), "scatter": (3, 0), "poke1": (2, 0), "poke4": (2, 0), "poke8": (2, 0), "raise": (2, 0),
+    "keep": (1, 0),
     "back": (1, 0), "same": (2, 0),
     "create": (8, 0), "laid": (0, 0), "remove": (0, 0), "init": (0, 0), "options": (0, 0),
     "walk": (0, 1), "look": (1, 1), "list": (4, 0), "mount": (6, 1), "mountat": (7, 1), "umount": (0, 1),
-    "route": (1, 0), "root": (0, 1), "lookup": (1, 1), "ids": (3, 0),
+    "route": (1, 0), "root": (0, 1), "lookup": (1, 1), "ids": (3, 0), "save": (2, 0), "restore": (1, 0),
 }
 ZEROS = {"init": 1, "options": 6, "walk": 2, "look": 5, "mount": 4, "mountat": 4, "umount": 4, "route": 4, "root": 3,
-         "lookup": 5, "ids": 2, "remove": 0}
+         "lookup": 5, "ids": 2, "remove": 0, "restore": 0}
 
 
 class BadLine(Exception):
@@ -37,7 +41,8 @@ class Run:
         self.variables = [0] * 8
         self.seed = self.lent = self.watch = self.views = 0
         self.bytes = bytearray(ROOM)
-        self.kept = bytearray(ROOM)
+        self.kept = bytearray(PART)
+        self.saved = bytearray(SAVED)   # its places are those from ROOM on
         self.instance = None      # what the bytes stand for, where it is known
         self.changed = False      # the instance has changed since it was written to the bytes
         self.text = b""
@@ -191,17 +196,22 @@ class Run:
 
     # ---- what sets bytes
 
-    def do_fill(self, at, n, b):
-        self.to_bytes()[at:at + n] = bytes([b % 256]) * n
+    def place(self, at):
+        return (self.to_bytes(), at) if at < ROOM else (self.saved, at - ROOM)
+
+    def do_fill(self, at, n, v):
+        b, at = self.place(at)
+        b[at:at + n] = bytes([v % 256]) * n
 
     def do_scatter(self, at, n, seed):
-        b, x = self.to_bytes(), seed
+        (b, at), x = self.place(at), seed
         for i in range(at, at + n):
             x = following(x)
             b[i] = x // 65536 % 256
 
     def poke(self, at, width, v):
-        self.to_bytes()[at:at + width] = (v % 256**width).to_bytes(width, "little")
+        b, at = self.place(at)
+        b[at:at + width] = (v % 256**width).to_bytes(width, "little")
 
     def do_poke1(self, at, v):
         self.poke(at, 1, v)
@@ -211,6 +221,10 @@ class Run:
 
     def do_poke8(self, at, v):
         self.poke(at, 8, v)
+
+    def do_raise(self, at, n):
+        b, at = self.place(at)
+        b[at] = (b[at] + n) % 256
 
     def do_keep(self, n):
         self.kept[:n] = self.to_bytes()[:n]
@@ -233,8 +247,13 @@ class Run:
             code, values = 0, [int(i is not None)]
         elif verb == "list":
             code, values = self.list(i, *numbers)
+        elif verb == "save":
+            code, values = self.save(i, *numbers)
         elif i is None:
             code, values = rules.SMALL, [0] * ZEROS[verb]
+        elif verb == "restore":
+            code, values = saved.restore(i, bytes(self.saved[:numbers[0]])), []
+            self.changed = self.changed or not code
         else:
             f = getattr(rules, {"mountat": "restore_mount"}.get(verb, verb))
             if verb in ("look", "lookup"):
@@ -270,3 +289,11 @@ class Run:
         out = bytearray([165]) * room
         code, values = rules.readdir(i, node, size, offset, out) if i else (rules.SMALL, [0])
         return code, values + [zlib.adler32(out)]
+
+    def save(self, i, v, room):
+        b = saved.save(i) if i else None
+        fits = i is not None and len(b) <= room
+        if fits:
+            self.saved[:len(b)] = b
+        self.variables[v] = len(b) if fits else 0
+        return 0 if fits else rules.SMALL, [self.variables[v], zlib.adler32(self.saved[:room + BEHIND])]

@@ -211,7 +211,8 @@ fn listed(s: &[u8], r: &[u64; CELLS], out: &mut [u8]) -> Answer {
     }
 }
 
-fn with_sum(code: u64, sum: u64) -> Answer {
+// A refusal and the sum of the lent output.
+pub fn with_sum(code: u64, sum: u64) -> Answer {
     Answer {
         way: CALL,
         code,

@@ -85,12 +85,21 @@ fn called(
     storage: &mut [u8],
     kept: &mut [u8],
     text: &[u8],
-    regs: &[u64; CELLS],
+    regs: &mut [u64; CELLS],
 ) -> Answer {
     memory::before(kept, storage, regs[regs::WATCH]);
     let lent = sink::upto(regs[regs::LENT], storage);
+    match verb {
+        verbs::SAVE => crate::states::save(&storage[0..lent], kept, regs),
+        verbs::RESTORE => crate::states::restore(&mut storage[0..lent], kept, regs[regs::ARGS]),
+        _ => on_tables(verb, &mut storage[0..lent], text, regs),
+    }
+}
+
+// A call that takes no saved bytes.
+fn on_tables(verb: u64, s: &mut [u8], text: &[u8], regs: &[u64; CELLS]) -> Answer {
     let n = sink::upto(regs[regs::TEXT_LEN], text);
-    crate::calls::call(verb, &mut storage[0..lent], &text[0..n], regs)
+    crate::calls::call(verb, s, &text[0..n], regs)
 }
 
 // Tells of the line in its way.

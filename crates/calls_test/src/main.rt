@@ -10,6 +10,7 @@ mod memory;
 mod mounts;
 mod regs;
 mod sink;
+mod states;
 mod steering;
 mod sums;
 mod text;
@@ -17,10 +18,10 @@ mod verbs;
 mod views;
 
 // Room for a script, and for the lent bytes.
-fn large() -> [u8; 1114112]
-    ensures { λ r. ⌜ 1114112 ≡ length r ⌝ }
+fn large() -> [u8; 851968]
+    ensures { λ r. ⌜ 851968 ≡ length r ⌝ }
 {
-    [0; 1114112]
+    [0; 851968]
 }
 
 fn main() {
@@ -31,7 +32,7 @@ fn main() {
 
 fn script(input: &[u8]) {
     let mut storage = large();
-    let mut kept = large();
+    let mut kept = larger();
     let mut text = [0u8; 8192];
     let mut out = io::large_buffer();
     let mut regs = [0u64; regs::CELLS];
@@ -66,4 +67,11 @@ fn run(
         lines::line(&input[at..end], storage, kept, text, out, regs);
         turns -= 1;
     }
+}
+
+// Room for the copies of lent bytes, and for saved bytes behind them.
+fn larger() -> [u8; 1417216]
+    ensures { λ r. ⌜ 1417216 ≡ length r ⌝ }
+{
+    [0; 1417216]
 }

@@ -10,7 +10,7 @@ ghost use Prim.Native.Nat.{_+_, _≤_};
 ghost use lib.ListN.{length};
 
 // As many as the number says of the bytes from a place on, if the slice has them.
-fn within(n: u64, s: &[u8], at: usize) -> usize
+pub fn within(n: u64, s: &[u8], at: usize) -> usize
     requires { ⌜ at ≤ length (now s) ⌝ }
     ensures { λ r. ⌜ at + r ≤ length (now (s .entry)) ⌝ }
 {
@@ -57,8 +57,18 @@ fn poke(s: &mut [u8], from: u64, width: usize, value: u64) {
     }
 }
 
-// The copy has two parts: what stood in the lent bytes before a call, and behind that what the script keeps.
+// The byte at a place is raised by a number, modulo 256.
+fn raise(s: &mut [u8], from: u64, by: u64) {
+    let at = sink::upto(from, s);
+    let b = byte_at(s, at, 0) as u64;
+    store(s, at, 0, regs::low8(std::num::wrapping_add_u64(b, by)));
+}
+
+// The copy has three parts: what stood in the lent bytes before a call, then what the script keeps, then the saved bytes.
 const PART: u64 = 557056;
+
+// Where the saved bytes start. As places of a script's verbs, those below are of the lent bytes.
+pub const SAVED: u64 = 1114112;
 
 // Bytes of one, from a place on, into the other, at a place.
 fn copy(to: &mut [u8], at: u64, from: &[u8], start: u64, len: u64) {
@@ -121,7 +131,17 @@ fn set(verb: u64, s: &mut [u8], a: u64, b: u64, c: u64) {
         verbs::POKE1 => poke(s, a, 1, b),
         verbs::POKE4 => poke(s, a, 4, b),
         verbs::POKE8 => poke(s, a, 8, b),
+        verbs::RAISE => raise(s, a, b),
         _ => {}
+    }
+}
+
+// The lent bytes are set, or from a further place on the saved ones.
+fn set_either(verb: u64, s: &mut [u8], kept: &mut [u8], a: u64, b: u64, c: u64) {
+    if a < SAVED {
+        set(verb, s, a, b, c);
+    } else {
+        set(verb, kept, a, b, c);
     }
 }
 
@@ -137,7 +157,7 @@ fn moved(verb: u64, s: &mut [u8], kept: &mut [u8], a: u64, b: u64, c: u64) {
     match verb {
         verbs::KEEP => copy(kept, PART, s, 0, a),
         verbs::BACK => copy(s, 0, kept, PART, a),
-        _ => set(verb, s, a, b, c),
+        _ => set_either(verb, s, kept, a, b, c),
     }
 }
 

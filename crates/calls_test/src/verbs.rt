@@ -38,6 +38,8 @@ pub const POKE1: u64 = 0x706f6b6531;
 pub const POKE4: u64 = 0x706f6b6534;
 // poke8
 pub const POKE8: u64 = 0x706f6b6538;
+// raise
+pub const RAISE: u64 = 0x7261697365;
 // keep
 pub const KEEP: u64 = 0x6b656570;
 // back
@@ -74,6 +76,10 @@ pub const ROOT: u64 = 0x726f6f74;
 pub const LOOKUP: u64 = 0x6c6f6f6b7570;
 // ids
 pub const IDS: u64 = 0x696473;
+// save
+pub const SAVE: u64 = 0x73617665;
+// restore
+pub const RESTORE: u64 = 0x726573746f7265;
 
 // The longest verb.
 const LONGEST: usize = 8;
@@ -133,7 +139,7 @@ pub fn kind_of(verb: u64) -> Kind {
         | WATCH
         | VIEWS
         | LENGTH => Kind::Steers,
-        FILL | SCATTER | POKE1 | POKE4 | POKE8 | KEEP | BACK | SAME => Kind::Sets,
+        FILL | SCATTER | POKE1 | POKE4 | POKE8 | RAISE | KEEP | BACK | SAME => Kind::Sets,
         _ => Kind::Calls,
     }
 }
@@ -143,9 +149,9 @@ pub fn shape(verb: u64) -> u64 {
     match verb {
         END | FOLD | PLAIN | LAID | REMOVE | INIT | OPTIONS => 0,
         TEXT | WALK | UMOUNT | ROOT => 10,
-        SEED | WATCH | VIEWS | LENGTH | KEEP | BACK | ROUTE => 1,
+        SEED | WATCH | VIEWS | LENGTH | KEEP | BACK | ROUTE | RESTORE => 1,
         LOOK | LOOKUP => 11,
-        SET | ADD | RANDOM | MORE | POKE1 | POKE4 | POKE8 | SAME => 2,
+        SET | ADD | RANDOM | MORE | POKE1 | POKE4 | POKE8 | RAISE | SAME | SAVE => 2,
         LOOP | FILL | SCATTER | IDS => 3,
         LIST => 4,
         MOUNT => 16,
@@ -158,7 +164,7 @@ pub fn shape(verb: u64) -> u64 {
 // Whether a call that is done writes to the lent bytes.
 pub fn writes(verb: u64) -> bool {
     match verb {
-        CREATE | REMOVE | MOUNT | MOUNT_AT | UMOUNT => true,
+        CREATE | REMOVE | MOUNT | MOUNT_AT | UMOUNT | RESTORE => true,
         _ => false,
     }
 }

@@ -6,7 +6,7 @@ use Rattle.calls_test.proofs.large.Statement.{statement}
 use Rattle.calls_test.proofs.large.Tie as tie
 
 returns : tie.Need-returns
-returns c = sym (length-replicate {0} {A = ℕ} 1114112 0)
+returns c = sym (length-replicate {0} {A = ℕ} 851968 0)
 
 pub large-spec : {M : Type 1} → statement M
 large-spec = tie.close (tie.spec returns)
