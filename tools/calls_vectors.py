@@ -1039,6 +1039,16 @@ def order_of_restore(s):
         s("umount", '"/a')
         s("save", "=b", 200)
         s("save", "=b", "b")
+    s(": initialized by a restore, from each of in_opts and out_opts")
+    for was in (0, 1):
+        for in_opts, out_opts in ((0, 0), (1, 0), (0, 1), (1, 1), (TOP, 0), (0, TOP)):
+            s.put.clear()
+            put(s, state([], (in_opts, out_opts, 0, 0, 0, 0)))
+            fresh(s, 1, known=TOP + 1, in_opts=was)
+            s("poke1", 83, was)
+            s("restore", 56)
+            s("init")
+            s("options")
 
 
 def removed_parents(s):
