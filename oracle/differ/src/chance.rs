@@ -116,8 +116,8 @@ impl Chance {
         }
     }
 
-    /// The path of a live node, as far as the parents are live.
-    fn path_of(&self, t: &Tables, number: u64) -> Vec<u8> {
+    /// The path of a live node. Where an ancestor was removed it is the rest of one, which leads elsewhere or nowhere.
+    fn path_of(&self, t: &Tables, number: u64) -> (Vec<u8>, bool) {
         let mut path = Vec::new();
         let mut at = number;
         while let Some(n) = t.nodes.iter().find(|n| n.number == at) {
@@ -130,17 +130,17 @@ impl Chance {
         if path.is_empty() {
             path.push(b'/');
         }
-        path
+        (path, at == 1)
     }
 
     fn path(&mut self, t: &Tables) -> Vec<u8> {
         if !t.mounts.is_empty() && self.random.one_in(3) {
             let node = self.random.pick(&t.mounts).node;
-            return self.path_of(t, node);
+            return self.path_of(t, node).0;
         }
         if !t.nodes.is_empty() && self.random.one_in(4) {
             let node = self.random.pick(&t.nodes).number;
-            return self.path_of(t, node);
+            return self.path_of(t, node).0;
         }
         if self.random.one_in(40) {
             return b"/".to_vec();
@@ -179,9 +179,9 @@ impl Chance {
         let live = t.nodes.len() as u64 + 1;
         let long = path.split(|b| *b == b'/').any(|part| part.len() > 255);
         if live + parts > self.capacity || t.next + parts > MAX_INO + 1 || long {
-            match t.nodes.last() {
-                Some(n) => self.path_of(t, n.number),
-                None => b"/".to_vec(),
+            match t.nodes.last().map(|n| self.path_of(t, n.number)) {
+                Some((path, true)) => path,
+                _ => b"/".to_vec(),
             }
         } else {
             path

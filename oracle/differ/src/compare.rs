@@ -5,7 +5,7 @@ use crate::directed;
 use crate::house::State;
 use crate::port_side::PortSide;
 use crate::random::Random;
-use crate::record::{changes, learn};
+use crate::record::{changes, learn, make};
 use crate::rust_side::RustSide;
 use crate::side::{Answer, Call, Creation, Node, Options, Side, Tables};
 use crate::text::line;
@@ -73,12 +73,9 @@ impl<P: Side> Compare<P> {
         (rust, r)
     }
 
-    pub fn directed(&mut self) {
-        for list in directed::lists() {
-            for call in &list {
-                self.call(call);
-            }
-        }
+    /// The calls of the recorded list.
+    pub fn recorded(&mut self, seed: u64, calls: usize) {
+        make(seed, calls, &mut |call| self.call(call));
     }
 
     /// Random calls, 300 on an instance, up to the number given.

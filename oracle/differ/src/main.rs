@@ -2,8 +2,9 @@
 //!   differ record SEED CALLS FILE    writes the recorded list
 //!   differ differences               runs the inputs of docs/DIFFERENCES.md on the Rust
 //!   differ compare SEED CALLS        runs both sides
+//!   differ random SEED CALLS         runs both sides on random calls alone
 //!   differ slips SEED CALLS          runs wrong ports, each up to the first difference
-//! The last two need the port linked in.
+//! The last three need the port linked in.
 
 #![cfg_attr(not(port), allow(dead_code))]
 
@@ -40,8 +41,8 @@ fn main() {
         (Some("compare"), Some(seed), Some(calls), None) => {
             println!("seed {}", seed);
             let mut c = compare::Compare::new(port_side::PortSide::new());
-            c.directed();
-            println!("directed: {} equal", c.equal);
+            c.recorded(1, 9000);
+            println!("the calls of the recorded list: {} equal", c.equal);
             c.searches(seed, 1000);
             println!("and searches: {} equal", c.equal);
             c.utf8();
@@ -55,17 +56,25 @@ fn main() {
             std::process::exit(if c.different == 0 { 0 } else { 1 });
         }
         #[cfg(port)]
+        (Some("random"), Some(seed), Some(calls), None) => {
+            println!("seed {}", seed);
+            let mut c = compare::Compare::new(port_side::PortSide::new());
+            c.random(seed, calls);
+            println!("{} answers equal, {} different", c.equal, c.different);
+            std::process::exit(if c.different == 0 { 0 } else { 1 });
+        }
+        #[cfg(port)]
         (Some("slips"), Some(seed), Some(calls), None) => {
             println!("seed {}", seed);
             std::process::exit(if slips::run(seed, calls) { 0 } else { 1 });
         }
         #[cfg(not(port))]
-        (Some("compare"), ..) | (Some("slips"), ..) => {
+        (Some("compare"), ..) | (Some("random"), ..) | (Some("slips"), ..) => {
             eprintln!("the port is not linked in: set GALDOVAR_LIB_DIR to the folder of libgateway.a and build again");
             std::process::exit(2);
         }
         _ => {
-            eprintln!("usage: differ compare SEED CALLS | slips SEED CALLS | record SEED CALLS FILE | differences");
+            eprintln!("usage: differ compare SEED CALLS | random SEED CALLS | slips SEED CALLS | record SEED CALLS FILE | differences");
             std::process::exit(2);
         }
     }

@@ -196,8 +196,9 @@ const PATTERN: u8 = 0xa5;
 /// Bytes of the pattern behind an instance.
 const BEHIND: usize = 64;
 
-/// The bytes of the longest saved state (R124).
-const LONGEST_STATE: usize = 279_335;
+/// The bytes that a saved record takes at most, and those of a state besides its records (R120 to R124).
+const RECORD: usize = 18 + 255;
+const TAIL: usize = 56;
 
 pub struct PortSide {
     /// The bytes of the instance, and the pattern behind them.
@@ -405,7 +406,8 @@ impl Side for PortSide {
     }
 
     fn save_to_bytes(&mut self) -> Answer {
-        let mut out = vec![PATTERN; LONGEST_STATE];
+        let nodes = number(&self.bytes, 16, 8) as usize;
+        let mut out = vec![PATTERN; RECORD * nodes + TAIL + BEHIND];
         let (at, len) = self.lent();
         let a = unsafe { calls::galdovar_save_to_bytes(at, len, out.as_mut_ptr(), out.len()) };
         Answer::of(&[a.code as u64, a.written]).with(written(&out, a.written))

@@ -5,10 +5,10 @@ use std::io::Write;
 use crate::chance::Chance;
 use crate::directed;
 use crate::rust_side::RustSide;
-use crate::side::{Answer, Call, Side};
+use crate::side::{Answer, Call, Side, Tables};
 use crate::text::line;
 
-/// No line is longer. Of the random calls, those that change nothing are left out where theirs would be.
+/// No line is longer. Calls that change nothing are left out where theirs would be.
 const LONGEST: usize = 12_000;
 
 /// What later calls may use of an answer: full numbers, and saved bytes.
@@ -25,37 +25,50 @@ pub fn learn(chance: &mut Chance, call: &Call, answer: &Answer) {
     }
 }
 
-pub fn record(seed: u64, calls: usize, out: &mut dyn Write) -> std::io::Result<usize> {
-    let mut rust = RustSide::new();
-    let mut lines = 0;
+/// Makes the calls of the list, in its order: the directed ones, then random ones up to the number given. `perform` gives
+/// the Rust's answer and its tables after the call.
+pub fn make(seed: u64, calls: usize, perform: &mut dyn FnMut(&Call) -> (Answer, Tables)) {
+    let mut made = 0;
     for list in directed::lists() {
         for call in &list {
-            let text = line(call, &rust.perform(call));
-            assert!(text.len() <= LONGEST);
-            writeln!(out, "{}", text)?;
-            lines += 1;
+            perform(call);
+            made += 1;
         }
     }
     let mut chance = Chance::new(seed);
     for instance in 0.. {
+        if made >= calls {
+            return;
+        }
         let capacity = [64, 16, 1024, 6, 300][instance % 5];
         let mut call = chance.creation(capacity);
         for _ in 0..120 {
-            let answer = rust.perform(&call);
-            let text = line(&call, &answer);
-            assert!(text.len() <= LONGEST || !changes(&call));
-            if text.len() <= LONGEST {
-                writeln!(out, "{}", text)?;
-                lines += 1;
-            }
+            let (answer, tables) = perform(&call);
+            assert!((tables.nodes.len() as u64) < capacity, "a node more than the port has room for");
             learn(&mut chance, &call, &answer);
-            call = chance.call(&rust.tables());
-        }
-        if lines >= calls {
-            return Ok(lines);
+            call = chance.call(&tables);
+            made += 1;
         }
     }
-    unreachable!()
+}
+
+/// Writes the list; how many lines it has.
+pub fn record(seed: u64, calls: usize, out: &mut dyn Write) -> std::io::Result<usize> {
+    let mut rust = RustSide::new();
+    let mut lines = Vec::new();
+    make(seed, calls, &mut |call| {
+        let answer = rust.perform(call);
+        let text = line(call, &answer);
+        assert!(text.len() <= LONGEST || !changes(call));
+        if text.len() <= LONGEST {
+            lines.push(text);
+        }
+        (answer, rust.tables())
+    });
+    for text in &lines {
+        writeln!(out, "{}", text)?;
+    }
+    Ok(lines.len())
 }
 
 /// Whether a call may change the tables, so that none after it can do without it.
