@@ -6,23 +6,20 @@ use native.Mathlib.Nat.{zero-add}
 use mathlib.Core.Path.{_≡_, refl, sym, ap, _∙_}
 use mathlib.Core.Bool.{true, false, true≢false}
 use mathlib.Core.List.{List, [], _∷_, _++_}
-use lib.ListN.{length, take, drop, set, getD, length-append, drop-of-length-le}
+use lib.ListN.{length, take, drop, getD, length-append, drop-of-length-le}
 use lib.Seq.{sets, drop-cons, length-sets}
 use lib.Dec.{eqb, ltb}
 use borrow.Author.Tests.{lt-ltb, le-ltb, le-leb, lt-leb, eq-eqb, ne-eqb}
 use Rattle.rules.specs.Instance.{Instance}
 use Rattle.tables.specs.View.{view}
 use Rattle.tables.specs.Rule.{laid}
-use Rattle.decimal.specs.Wrote.{Wrote}
 use Rattle.decimal.proofs.Texts.{sets-append}
 use Rattle.line.specs.Reply.{replyText}
-use Rattle.script.specs.Step.{Answers, byBytes, byRules, endText, endNext, byteText, byteNext, byteCarry, byteKept, Ended, Took}
+use Rattle.script.specs.Step.{Answers, byBytes, byRules, endText, byteText, byteKept, Ended, Took}
 use Rattle.script.specs.Feed.{Going, start, step, fed, accepts, goes, went, viewed, Feeds, lastText, lastNext, finishes, Finishes}
 use Rattle.script.proofs.Carry.{length-carry, accepts-true, accepts-short, accepts-many}
 use Rattle.script.specs.declared.Next.{Next}
-use Rattle.script.specs.declared.Fed.{Fed}
 use Rattle.script.specs.declared.Fed.the-variants.{Went, Refused}
-use Rattle.script.specs.declared.Finished.{Finished}
 use Rattle.script.specs.declared.Finished.the-variants.{Done, Refused as NotDone}
 
 -- how far a piece has come

@@ -6,3 +6,4 @@ pub mod Lines
 pub mod Begun
 pub mod Runs
 pub mod Onward
+pub mod Fresh

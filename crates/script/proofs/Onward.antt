@@ -1,16 +1,15 @@
 -- Every feed with room goes on. Assumes nothing.
 use Prim.Native.Nat.{ℕ, suc, _+_, _-_, _≤_}
 use native.Mathlib.Omega.{arith}
-use mathlib.Core.Path.{_≡_, refl, sym, ap, _∙_}
+use mathlib.Core.Path.{_≡_, refl, ap}
 use mathlib.Core.Bool.{Bool, true, false, cond}
 use mathlib.Core.List.{List, [], _∷_}
 use lib.ListN.{length}
 use lib.Dec.{ltb}
 use borrow.Author.Tests.{le-ltb}
 use Rattle.script.specs.Step.{Answers, byBytes}
-use Rattle.script.specs.Feed.{Going, start, step, fed, accepts, goes, Feeds}
-use Rattle.script.specs.Runs.{usedIn, Onward, EveryFeed}
-use Rattle.script.specs.declared.Fed.{Fed}
+use Rattle.script.specs.Feed.{Going, start, step, fed, accepts, goes}
+use Rattle.script.specs.Runs.{usedIn, EveryFeed}
 use Rattle.script.proofs.Runs.{used-by}
 
 module _ (S : Type 0) (a : Answers S) (room : ℕ) where

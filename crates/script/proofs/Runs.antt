@@ -1,5 +1,5 @@
 -- Any cutting of an input into pieces writes what the rules write for the whole of it. Assumes nothing.
-use Prim.Native.Nat.{ℕ, _+_, _≤_, _<_}
+use Prim.Native.Nat.{ℕ, _≤_}
 use native.Mathlib.Omega.{arith}
 use native.Mathlib.Nat.{zero-add}
 use mathlib.Core.Path.{_≡_, refl, sym, ap, _∙_}
@@ -7,17 +7,16 @@ use mathlib.Core.Bool.{Bool, true, false}
 use mathlib.Core.List.{List, [], _∷_, _++_, append-nil}
 use lib.ListN.{length, take, drop}
 use lib.Seq.{sets, sets-eq, take-append-seam}
-use lib.Dec.{eqb, ltb}
+use lib.Dec.{ltb}
 use borrow.Author.Tests.{ltb-true, ltb-false, eq-eqb, ne-eqb}
 use Rattle.rules.specs.Instance.{Instance}
 use Rattle.rules.specs.Whole.{session}
 use Rattle.tables.specs.View.{view}
 use Rattle.tables.specs.Rule.{laid}
-use Rattle.script.specs.Step.{byBytes, byRules, endText, endNext}
+use Rattle.script.specs.Step.{byBytes, byRules}
 use Rattle.script.specs.Feed.{Going, start, accepts, goes, went, viewed, Feeds, lastText, lastNext, finishes, Finishes}
 use Rattle.script.specs.Runs.{usedIn, wroteIn, keptIn, Feed, Finish, Run, written, WholeOf, EveryCutting}
 use Rattle.script.specs.declared.Fed.{Fed}
-use Rattle.script.specs.declared.Finished.{Finished}
 use Rattle.script.specs.declared.Finished.the-variants.{Done, Refused as NotDone}
 use Rattle.script.proofs.Going.{same-end}
 use Rattle.script.proofs.Lines.{last-text, last-instance, none-text, none-instance}

@@ -2,3 +2,4 @@
 pub mod Step
 pub mod Feed
 pub mod Runs
+pub mod Fresh

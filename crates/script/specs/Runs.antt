@@ -10,8 +10,7 @@ use Rattle.tables.specs.Rule.{laid}
 use Rattle.script.specs.Feed.{accepts, Feeds, Finishes}
 use Rattle.script.specs.declared.Fed.{Fed}
 use Rattle.script.specs.declared.Fed.the-variants.{Went, Refused}
-use Rattle.script.specs.declared.Finished.{Finished}
-use Rattle.script.specs.declared.Finished.the-variants.{Done, Refused as NotDone}
+use Rattle.script.specs.declared.Finished.the-variants.{Done}
 
 -- the numbers of an answer; a refusal uses nothing, writes nothing, and keeps what was kept
 unfoldable pub usedIn : Fed → ℕ

@@ -1,5 +1,4 @@
 // A session as a stream: pieces of input in, answer lines out, on an instance and a begun line in lent bytes.
-ghost use mathlib.Core.Path.{_≡_};
 ghost use Prim.Native.Nat.{_+_, _≤_};
 ghost use lib.ListN.{length};
 ghost use Rattle.script.specs.Step.{Ended, Took};

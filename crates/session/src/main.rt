@@ -3,7 +3,6 @@ use libc::STDIN_FILENO;
 use libc::STDOUT_FILENO;
 use script::Fed;
 use script::Finished;
-ghost use mathlib.Core.Path.{_≡_};
 ghost use Prim.Native.Nat.{_≤_};
 ghost use lib.ListN.{length};
 
@@ -20,7 +19,7 @@ fn fresh(storage: &mut [u8]) {
     storage::create(storage, NODES, 0, 0, 0, 0, mapping);
 }
 
-// Writes the first `wrote` bytes of the output; the contract of a feed says that there are so many.
+// Writes the first `wrote` bytes of the output; the contracts of a feed and of a finish say that there are so many.
 fn write(out: &[u8], wrote: usize) {
     if wrote <= out.len() {
         io::write_all(STDOUT_FILENO, &out[0..wrote]);
@@ -46,7 +45,8 @@ fn feed_from(
     fed
 }
 
-// Feeds a whole piece, and answers how many bytes of a begun line are kept.
+// Feeds a whole piece, and answers how many bytes of a begun line are kept. That every feed uses a byte, and none more than there are, is a theorem of
+// `script`; the loop asks it again, so that it ends.
 fn feed_all(
     storage: &mut [u8],
     carry: &mut [u8],
