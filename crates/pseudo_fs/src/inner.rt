@@ -9,11 +9,13 @@ use path::names::has_byte;
 use path::names::is_dot;
 use path::names::is_dots;
 use path::utf8::is_utf8;
+use scan::names::key_of;
 use tables::header::count;
 use tables::rows::Found;
 use tables::rows::child_is;
 use tables::rows::find_child;
 use tables::rows::is_known;
+use tables::rows::next_alike;
 use tables::rows::number;
 use tables::rows::parent_of;
 ghost use mathlib.Core.Path.{_≡_};
@@ -54,14 +56,15 @@ pub fn walk(s: &[u8], path: &[u8]) -> Walked
                 at = next;
             }
             Component::Name { start, next, .. } => {
-                let mut j = 0;
+                let key = key_of(&path[start..next]);
+                let mut j = next_alike(s, 0, key);
                 while j < n {
                     if child_is(s, j, node, &path[start..next]) {
                         node = number(s, j);
                         at = next;
                         continue 'outer;
                     }
-                    j += 1;
+                    j = next_alike(s, j + 1, key);
                 }
                 return Walked::Missing { place: start };
             }

@@ -1,22 +1,22 @@
 -- The searches over the rows: what is left to find is what was to find; and a node by its place. Assumes nothing.
 use mathlib.Core.Path.{_≡_, refl, sym, ap, _∙_}
-use mathlib.Core.Bool.{Bool, true, false, cond, not}
+use mathlib.Core.Bool.{Bool, true, false, cond, not, _&&_, false≢true}
 use mathlib.Core.List.{List, [], _∷_}
 use mathlib.Core.Option.{Option, none, some}
 use Prim.Native.Nat.{ℕ, zero, suc, _+_, _-_, _≤_, _<_}
 use native.Mathlib.Nat.{zero-add, add-zero, sub-zero}
 use native.Mathlib.Omega.{arith}
-use borrow.Author.Tests.{eq-eqb, ne-eqb}
-use lib.Dec.{eqb}
+use borrow.Author.Tests.{eq-eqb, ne-eqb, eqb-true, eqb-false, ltb-true, lt-ltb, le-ltb}
+use lib.Dec.{eqb, ltb}
 use Rattle.le.specs.Mem.{get, same, write, put}
 use Rattle.rules.specs.Numbers.{rootNumber}
-use Rattle.rules.specs.Tree.{Mount, Node, isChild, childIn, nodeIn, isKnown, parentIn}
+use Rattle.rules.specs.Tree.{Mount, Node, isNone, isChild, childIn, nodeIn, isKnown, parentIn}
 use Rattle.rules.specs.Instance.{mountOf}
 use Rattle.tables.specs.Table.{row, putRow, tab}
 use Rattle.tables.specs.Layout.{mountCellAt, capacityOf, countOf}
 use Rattle.tables.specs.View.{nodeAt, nodesFrom, nodesOf, view}
 use Rattle.tables.specs.Write.{putHeader, setRootMount, setRowMount}
-use Rattle.tables.specs.Answer.{later, placeIn, mountMem}
+use Rattle.tables.specs.Answer.{later, placeIn, inPlace, mountMem}
 use Rattle.tables.proofs.Tab.{tab-next, tab-done}
 
 -- the nodes by their count
@@ -130,6 +130,43 @@ a-place f i (suc k) x j e = go (eqb (f i .number) x) (placeIn (tab f (i + 1) k) 
         let h = r m refl in
         (omega (arith, h .0), h .1 ∙ rw y)
 
+both : (a b : Bool) → (a && b) ≡ true → (a ≡ true) × (b ≡ true)
+both true b e = (refl, e)
+both false b e = (e, absurd (false≢true e))
+
+pos : {i : ℕ} (j : ℕ) → (i + j ≡ i → ⊥) → 0 < j
+pos {i} zero h = absurd (h (add-zero i))
+pos {i} (suc j) h = omega arith
+
+-- a number that a row has is a node's
+some-node : (f : ℕ → Node) (i k x j : ℕ) → j < k → f (i + j) .number ≡ x → isNone (nodeIn (tab f i k) x) ≡ false
+unfolding nodeIn tab
+some-node f i zero x j h e = absurd (omega arith)
+some-node f i (suc k) x j h e = go (eqb (f i .number) x) refl (λ m l q. some-node f (i + 1) k x m l q)
+  where
+    go : (b : Bool) → eqb (f i .number) x ≡ b → ((m : ℕ) → m < k → f (i + 1 + m) .number ≡ x → isNone (nodeIn (tab f (i + 1) k) x) ≡ false)
+        → isNone (cond b (some (f i)) (nodeIn (tab f (i + 1) k) x)) ≡ false
+    go true q r = refl
+    go false q r =
+        let n : (i + j ≡ i) → ⊥ = λ s. eqb-false (f i .number) x q (ap (λ (m : ℕ). f m .number) (sym s) ∙ e) in
+        let p : 0 < j = pos j n in
+        let z : i + j ≡ i + 1 + (j - 1) = omega arith in
+        r (j - 1) (omega arith) (ap (λ (m : ℕ). f m .number) (sym z) ∙ e)
+
+-- the three tests of a node in its place
+module _ (mem : List ℕ) (x : ℕ) where
+  pub not-placed-low : x < 2 → inPlace mem x ≡ false
+  unfolding inPlace
+  not-placed-low h = rw (lt-ltb x 2 h)
+
+  pub not-placed-high : 2 ≤ x → countOf mem ≤ x - 2 → inPlace mem x ≡ false
+  unfolding inPlace
+  not-placed-high l h = rw (le-ltb x 2 l, le-ltb (x - 2) (countOf mem) h)
+
+  pub placed-by-number : 2 ≤ x → x - 2 < countOf mem → (v : ℕ) → v ≡ nodeAt (capacityOf mem) mem (x - 2) .number → eqb v x ≡ inPlace mem x
+  unfolding inPlace
+  placed-by-number l h v e = rw (e, le-ltb x 2 l, lt-ltb (x - 2) (countOf mem) h)
+
 -- the row that a search for a number found, or did not
 module _ (mem : List ℕ) (x : ℕ) where
   missing : placeIn (nodesOf mem) x ≡ none → nodeIn (nodesOf mem) x ≡ none
@@ -152,6 +189,15 @@ module _ (mem : List ℕ) (x : ℕ) where
   pub known-found : (x ≡ rootNumber → ⊥) → (i : ℕ) → placeIn (nodesOf mem) x ≡ some i → isKnown (nodesOf mem) x ≡ true
   unfolding isKnown
   known-found r i e = rw (ne-eqb x 1 r, row-at i e .1)
+
+  pub known-in-place : (x ≡ rootNumber → ⊥) → inPlace mem x ≡ true → isKnown (nodesOf mem) x ≡ true
+  unfolding inPlace isKnown
+  known-in-place r e =
+      let q = both (not (ltb x 2) && ltb (x - 2) (countOf mem)) (eqb (nodeAt (capacityOf mem) mem (x - 2) .number) x) e in
+      let w = both (not (ltb x 2)) (ltb (x - 2) (countOf mem)) (q .0) in
+      let h : x - 2 < countOf mem = ltb-true (x - 2) (countOf mem) (w .1) in
+      let n : nodeAt (capacityOf mem) mem (x - 2) .number ≡ x = eqb-true (nodeAt (capacityOf mem) mem (x - 2) .number) x (q .1) in
+      rw (ne-eqb x 1 r) (rw (nodes-of mem) (ap not (some-node (nodeAt (capacityOf mem) mem) 0 (countOf mem) x (x - 2) h (rw zero-add n))))
 
   pub known-missing : (x ≡ rootNumber → ⊥) → placeIn (nodesOf mem) x ≡ none → isKnown (nodesOf mem) x ≡ false
   unfolding isKnown

@@ -3,6 +3,7 @@ pub mod Tab
 pub mod Table
 pub mod Cells
 pub mod Find
+pub mod Alike
 pub mod Answers
 pub mod Writes
 pub mod Indexes

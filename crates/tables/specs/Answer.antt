@@ -1,12 +1,13 @@
 -- What the answers of the inner functions stand for, and places of rows.
-use Prim.Native.Nat.{ℕ, suc}
-use mathlib.Core.Bool.{Bool, cond}
+use Prim.Native.Nat.{ℕ, suc, _-_}
+use mathlib.Core.Bool.{Bool, cond, not, _&&_}
 use mathlib.Core.List.{List, [], _∷_}
 use mathlib.Core.Option.{Option, none, some}
-use lib.Dec.{eqb}
+use lib.Dec.{eqb, ltb}
 use Rattle.rules.specs.Numbers.{rootNumber}
 use Rattle.rules.specs.Tree.{Mount, Node}
-use Rattle.tables.specs.View.{mountFrom, slotAt}
+use Rattle.tables.specs.Layout.{capacityOf, countOf}
+use Rattle.tables.specs.View.{mountFrom, slotAt, nodeAt}
 use Rattle.tables.specs.Write.{setRootMount, setRowMount, removeRow}
 use Rattle.tables.specs.declared.rows.Found.{Found}
 use Rattle.tables.specs.declared.rows.Found.the-variants.{Node as FoundNode, Nothing as FoundNothing}
@@ -55,6 +56,10 @@ later (some i) = some (suc i)
 unfoldable pub placeIn : List Node → ℕ → Option ℕ
 placeIn [] x = none
 placeIn (n ∷ ns) x = cond (eqb (n .number) x) (some 0) (later (placeIn ns x))
+
+-- whether node x stands in the row that it has where no node was removed before it: numbers begin at 2
+unfoldable pub inPlace : List ℕ → ℕ → Bool
+inPlace mem x = not (ltb x 2) && ltb (x - 2) (countOf mem) && eqb (nodeAt (capacityOf mem) mem (x - 2) .number) x
 
 -- ---- writes at a node's number
 

@@ -2,6 +2,7 @@
 ghost use mathlib.Core.Path.{_≡_};
 ghost use mathlib.Core.Option.{none, some};
 ghost use Prim.Native.Nat.{_<_, _^_};
+ghost use Rattle.rules.specs.Tree.{parentIn};
 ghost use Rattle.rules.specs.Instance.{mountOf as mountOfTree};
 ghost use Rattle.tables.specs.Layout.{capacityOf, countOf};
 ghost use Rattle.tables.specs.View.{nodeAt, nodesOf, view};
@@ -82,6 +83,35 @@ pub fn of_node(s: &[u8], x: u64) -> MountOn
     match crate::rows::find_row(s, x) {
         crate::rows::Row::At(i) => of_row(s, i),
         crate::rows::Row::Nothing => MountOn::Nothing,
+    }
+}
+
+// The mount on a node and the number of the node's parent.
+pub struct MountUnder {
+    pub on: MountOn,
+    pub up: u64,
+}
+
+// The mount on the node of that number and its parent's number, by one search (R52, R54).
+pub fn under_parent(s: &[u8], x: u64) -> MountUnder
+    requires { ⌜ Laid (now s) ⌝ }
+    ensures { λ r. ⌜ (mountIn (r .on) ≡ mountOfTree (view (now (s .entry)) .tree) x) × (r .up ≡ parentIn (nodesOf (now (s .entry))) x) ⌝ }
+{
+    if x == rules::ROOT_ID {
+        return MountUnder {
+            on: of_root(s),
+            up: rules::ROOT_ID,
+        };
+    }
+    match crate::rows::find_row(s, x) {
+        crate::rows::Row::At(i) => MountUnder {
+            on: of_row(s, i),
+            up: crate::rows::parent(s, i),
+        },
+        crate::rows::Row::Nothing => MountUnder {
+            on: MountOn::Nothing,
+            up: rules::ROOT_ID,
+        },
     }
 }
 

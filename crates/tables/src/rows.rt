@@ -1,15 +1,17 @@
 // The node table: a row for each live node but the root, in creation order.
+use scan::names::NameKey;
 ghost use mathlib.Core.Path.{_≡_};
 ghost use Prim.Native.Nat.{_+_, _-_, _*_, _≤_, _<_, _^_};
 ghost use lib.ListN.{length};
 ghost use Rattle.rules.specs.Bytes.{same};
+ghost use Rattle.scan.specs.First.{cellIs, firstOf};
 ghost use Rattle.rules.specs.Tree.{isChild, childIn, isKnown, parentIn};
 ghost use Rattle.tables.specs.Table.{putRow, closeUp};
-ghost use Rattle.tables.specs.Layout.{nodeTable, capacityOf, countOf, nextOf};
+ghost use Rattle.tables.specs.Layout.{nodeTable, tableAt, capacityOf, countOf, nextOf};
 ghost use Rattle.tables.specs.View.{nodeAt, nodesOf};
 ghost use Rattle.tables.specs.Rule.{Laid};
 ghost use Rattle.tables.specs.Write.{nodeCells, appendNode, removeRow};
-ghost use Rattle.tables.specs.Answer.{foundIn, rowIn, placeIn};
+ghost use Rattle.tables.specs.Answer.{foundIn, rowIn, placeIn, inPlace};
 
 // The number of a node, or nothing.
 pub enum Found {
@@ -27,6 +29,9 @@ pub const TABLE: usize = 8192;
 
 // Node numbers are read modulo this (R5).
 const NUMBERS: u64 = 0x0100_0000_0000_0000;
+
+// The bits of a cell that a node number is read from (R5).
+const NUMBER_BITS: u64 = 0x00ff_ffff_ffff_ffff;
 
 // The number of row i.
 pub fn number(s: &[u8], i: usize) -> u64
@@ -80,18 +85,30 @@ pub fn child_is(s: &[u8], i: usize, here: u64, name: &[u8]) -> bool
     name_is(s, i, name)
 }
 
+// The first row from `from` on whose name's cell is that of the key; the count where there is none. Rows of that name are among them (R45).
+pub fn next_alike(s: &[u8], from: usize, key: NameKey) -> usize
+    requires { ⌜ Laid (now s) ⌝ }
+    requires { ⌜ from ≤ countOf (now s) ⌝ }
+    ensures { λ r. ⌜ r ≡ firstOf (cellIs (now (s .entry)) (tableAt + 24 * capacityOf (now (s .entry))) (key .mask) (key .word)) from (countOf (now (s .entry)) - from) ⌝ }
+{
+    let n = crate::header::capacity(s);
+    let c = crate::header::count(s);
+    scan::cells::find_cell(s, TABLE + 24 * n, from, c, key.mask, key.word)
+}
+
 // The first child of that name (R45).
 pub fn find_child(s: &[u8], here: u64, name: &[u8]) -> Found
     requires { ⌜ Laid (now s) ⌝ }
     ensures { λ r. ⌜ foundIn r ≡ childIn (nodesOf (now (s .entry))) here (now (name .entry)) ⌝ }
 {
     let c = crate::header::count(s);
-    let mut i = 0;
+    let key = scan::names::key_of(name);
+    let mut i = next_alike(s, 0, key);
     while i < c {
         if child_is(s, i, here, name) {
             return Found::Node(number(s, i));
         }
-        i += 1;
+        i = next_alike(s, i + 1, key);
     }
     Found::Nothing
 }
@@ -102,14 +119,26 @@ pub fn find_row(s: &[u8], x: u64) -> Row
     ensures { λ r. ⌜ rowIn r ≡ placeIn (nodesOf (now (s .entry))) x ⌝ }
 {
     let c = crate::header::count(s);
-    let mut i = 0;
-    while i < c {
-        if number(s, i) == x {
-            return Row::At(i);
-        }
-        i += 1;
+    let i = scan::cells::find_cell(s, TABLE, 0, c, NUMBER_BITS, x);
+    if i < c {
+        return Row::At(i);
     }
     Row::Nothing
+}
+
+// Whether node x stands in the row that it has where no node was removed before it.
+fn is_in_place(s: &[u8], x: u64) -> bool
+    requires { ⌜ Laid (now s) ⌝ }
+    ensures { λ r. ⌜ r ≡ inPlace (now (s .entry)) x ⌝ }
+{
+    if x < 2 {
+        return false;
+    }
+    let i = (x - 2) as usize;
+    if crate::header::count(s) <= i {
+        return false;
+    }
+    number(s, i) == x
 }
 
 // Whether the number is the root's or a node's (R52).
@@ -118,6 +147,9 @@ pub fn is_known(s: &[u8], x: u64) -> bool
     ensures { λ r. ⌜ r ≡ isKnown (nodesOf (now (s .entry))) x ⌝ }
 {
     if x == rules::ROOT_ID {
+        return true;
+    }
+    if is_in_place(s, x) {
         return true;
     }
     match find_row(s, x) {

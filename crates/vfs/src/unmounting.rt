@@ -33,14 +33,14 @@ fn unmount_at(s: &mut [u8], x: u64) -> Unmounted
     requires { ⌜ laid (now s) ≡ true ⌝ }
     ensures { λ r. ⌜ Unmounts (now (s .entry)) x r (now (s .exit)) ⌝ }
 {
-    let on = tables::mounts::of_node(s, x);
+    let here = tables::mounts::under_parent(s, x);
+    let on = here.on;
     match on {
         MountOn::Point(m) => {
-            let up = tables::rows::parent_of(s, x);
             let released = placing::take_off(s, x, m);
             Unmounted::Done {
                 node: NodeNumber(x),
-                parent: NodeNumber(up),
+                parent: NodeNumber(here.up),
                 released,
             }
         }

@@ -10,6 +10,7 @@ use Rattle.rules.specs.Path.{name, parent}
 use Rattle.path.specs.Steps.{part, between}
 use Rattle.path.proofs.Steps.{step-of, Goes}
 use Rattle.tables.specs.View.{nodesOf}
+use Rattle.tables.proofs.Alike.{skips, further}
 use Rattle.tables.proofs.Find.{Sought, child-begins, child-here, child-on, child-none}
 use Rattle.pseudo_fs.proofs.Walks.{Going, begins, arrives, goes-up, goes-to, stops}
 use borrow.Author.Needs.{needs}
@@ -17,10 +18,10 @@ use Rattle.pseudo_fs.proofs.inner.walk.Statement.{statement}
 use Rattle.pseudo_fs.proofs.inner.walk.Tie as tie
 
 abbrev Inv-loop : tie.InvT-loop
-Inv-loop s path n node₀ at₀ start next j₀ node at j = Going (nodesOf s) path node at₀ × Sought s node (between path start next) n j
+Inv-loop s path n node₀ at₀ start next key j₀ node at j = Going (nodesOf s) path node at₀ × Sought s node (between path start next) n j
 
 abbrev μ-loop : tie.MeasureT-loop
-μ-loop s path n node₀ at₀ start next j₀ node at j = n - j
+μ-loop s path n node₀ at₀ start next key j₀ node at j = n - j
 
 abbrev Inv-outer : tie.InvT-outer
 Inv-outer s path n node₀ at₀ node at = Going (nodesOf s) path node at
@@ -63,36 +64,57 @@ outer-less c = let s = parent-step (c .before .before) in omega (arith, s .furth
 outer-again : tie.Need-outer-again Inv-loop μ-loop Inv-outer μ-outer
 outer-again c = goes-up _ _ _ _ (c .before .before .before .before .before .outer .inv) _ _ _ _ (parent-step (c .before .before)) (c .parent-of .ensures)
 
+sub-key-of : tie.Need-sub-key-of Inv-loop μ-loop Inv-outer μ-outer
+sub-key-of c = let s = name-step c in omega (arith, s .end)
+
+part-key-of-start : tie.Need-part-key-of-start Inv-loop μ-loop Inv-outer μ-outer
+part-key-of-start c = let s = name-step c in omega (arith, s .end, s .within)
+
+part-key-of-end : tie.Need-part-key-of-end Inv-loop μ-loop Inv-outer μ-outer
+part-key-of-end c = let s = name-step c in omega (arith, s .end, s .within)
+
 loop-holds : tie.Need-loop-holds Inv-loop μ-loop Inv-outer μ-outer
-loop-holds c = (c .before .before .before .before .outer .inv, child-begins _ _ _ _ (c .before .before .before .before .before .count .ensures))
+loop-holds c =
+    let k = c .before .before .before in (
+      k .before .before .before .before .outer .inv,
+      skips _ _ _ _ (λ j. k .before .before .before .before .before .before .before .shared-slice-known .given j .fits) (k .before .before .before .before .before .count .ensures) _ _ (c .before .key-of .ensures) _ _ (c .next-alike .ensures)
+          (child-begins _ _ _ _ (k .before .before .before .before .before .count .ensures)),
+    )
 
 sub-child-is : tie.Need-sub-child-is Inv-loop μ-loop Inv-outer μ-outer
-sub-child-is c = let s = name-step (c .before .before) in omega (arith, s .end)
+sub-child-is c = let s = name-step (c .before .before .before .before .before) in omega (arith, s .end)
 
 part-child-is-start : tie.Need-part-child-is-start Inv-loop μ-loop Inv-outer μ-outer
-part-child-is-start c = let s = name-step (c .before .before) in omega (arith, s .end, s .within)
+part-child-is-start c = let s = name-step (c .before .before .before .before .before) in omega (arith, s .end, s .within)
 
 part-child-is-end : tie.Need-part-child-is-end Inv-loop μ-loop Inv-outer μ-outer
-part-child-is-end c = let s = name-step (c .before .before) in omega (arith, s .end, s .within)
+part-child-is-end c = let s = name-step (c .before .before .before .before .before) in omega (arith, s .end, s .within)
 
 outer-less-2 : tie.Need-outer-less-2 Inv-loop μ-loop Inv-outer μ-outer
-outer-less-2 c = let s = name-step (c .before .before .before .before .before .before) in omega (arith, s .further, s .within)
+outer-less-2 c = let s = name-step (c .before .before .before .before .before .before .before .before .before) in omega (arith, s .further, s .within)
 
 outer-again-2 : tie.Need-outer-again-2 Inv-loop μ-loop Inv-outer μ-outer
 outer-again-2 c =
     let l = c .before .before .before .before .before .loop in
-    goes-to _ _ _ _ (l .inv .0) _ _ _ (name-step (c .before .before .before .before .before .before)) _
+    goes-to _ _ _ _ (l .inv .0) _ _ _ (name-step (c .before .before .before .before .before .before .before .before .before)) _
     (child-here _ _ _ _ _ (l .inv .1) (search needs) (sym (c .before .before .child-is .ensures) ∙ c .before .if1 .taken) ∙ ap some (sym (c .number .ensures)))
+
+loop-less : tie.Need-loop-less Inv-loop μ-loop Inv-outer μ-outer
+loop-less c = let f = further _ _ _ _ _ (c .next-alike2 .ensures) in omega (arith, f)
 
 loop-again : tie.Need-loop-again Inv-loop μ-loop Inv-outer μ-outer
 loop-again c =
-    let l = c .before .before .before .before .loop in
-    (l .inv .0, child-on _ _ _ _ _ (l .inv .1) (search needs) (sym (c .before .child-is .ensures) ∙ c .if1 .left))
+    let l = c .before .before .before .before .before .loop in
+    let k = c .before .before .before .before .before .before .before .before .before in (
+      l .inv .0,
+      skips _ _ _ _ (λ j. k .before .before .before .before .before .before .before .shared-slice-known .given j .fits) (k .before .before .before .before .before .count .ensures) _ _ (c .before .before .before .before .before .before .before .key-of .ensures) _ _ (c .next-alike2 .ensures)
+          (child-on _ _ _ _ _ (l .inv .1) (search needs) (sym (c .before .before .child-is .ensures) ∙ c .before .if1 .left)),
+    )
 
 returns-2 : tie.Need-returns-2 Inv-loop μ-loop Inv-outer μ-outer
 returns-2 c =
     let l = c .before .loop in
-    stops _ _ _ _ (l .inv .0) _ _ _ (name-step (c .before .before)) (child-none _ _ _ _ _ (l .inv .1) (search needs))
+    stops _ _ _ _ (l .inv .0) _ _ _ (name-step (c .before .before .before .before .before)) (child-none _ _ _ _ _ (l .inv .1) (search needs))
 
 pub walk-spec : {M : Type 1} → statement M
 walk-spec =
@@ -112,6 +134,11 @@ walk-spec =
     outer-less
     outer-again
     (λ c. search needs)
+    sub-key-of
+    part-key-of-start
+    part-key-of-end
+    (λ c κs. search needs)
+    (λ c κs. search needs)
     loop-holds
     sub-child-is
     part-child-is-start
@@ -121,6 +148,7 @@ walk-spec =
     outer-less-2
     outer-again-2
     (λ c. search needs)
-    (λ c. search needs)
+    (λ c κs. search needs)
+    loop-less
     loop-again
     returns-2)

@@ -1,0 +1,131 @@
+-- The first place where a test holds: passed over where it fails, found where it holds. Assumes nothing.
+use mathlib.Core.Path.{_≡_, refl, sym, ap, _∙_}
+use mathlib.Core.Bool.{Bool, true, false, cond, _||_, true≢false}
+use mathlib.Core.List.{List}
+use Prim.Native.Nat.{ℕ, zero, suc, _+_, _-_, _*_, _≤_, _<_}
+use native.Mathlib.Omega.{arith}
+use borrow.Author.Tests.{eq-eqb, ne-eqb}
+use lib.Bits.{bitAnd}
+use lib.Dec.{eqb}
+use Rattle.le.specs.Mem.{get}
+use Rattle.scan.specs.First.{cellIs, anyOf, firstOf}
+
+-- ---- one cell
+
+module _ (mem : List ℕ) (at mask x i v : ℕ) (e : v ≡ get 8 mem (at + 8 * i)) where
+  pub cell-here : bitAnd v mask ≡ x → cellIs mem at mask x i ≡ true
+  unfolding cellIs
+  cell-here h = eq-eqb (bitAnd (get 8 mem (at + 8 * i)) mask) x (ap (λ (w : ℕ). bitAnd w mask) (sym e) ∙ h)
+
+  pub cell-other : (bitAnd v mask ≡ x → ⊥) → cellIs mem at mask x i ≡ false
+  unfolding cellIs
+  cell-other h = ne-eqb (bitAnd (get 8 mem (at + 8 * i)) mask) x (λ q. h (ap (λ (w : ℕ). bitAnd w mask) e ∙ q))
+
+-- ---- eight together
+
+-- of k cells, whether one was hit
+abbrev pub Hit : (ℕ → Bool) → ℕ → ℕ → Bool → Type 0
+Hit f i k hit = (k ≤ 8) × (hit ≡ anyOf f i k)
+
+module _ (f : ℕ → Bool) (i : ℕ) where
+  pub none-hit : Hit f i 0 false
+  unfolding anyOf
+  none-hit = (omega arith, refl)
+
+  pub one-hit : (k : ℕ) (hit : Bool) → Hit f i k hit → k < 8 → f (i + k) ≡ true → Hit f i (k + 1) true
+  unfolding anyOf
+  one-hit k hit h l e = let z : k + 1 ≡ suc k = omega arith in (omega arith, go (anyOf f i k) e ∙ sym (ap (anyOf f i) z))
+    where
+      go : (b : Bool) → f (i + k) ≡ true → true ≡ (b || f (i + k))
+      go true q = refl
+      go false q = sym q
+
+  pub not-hit : (k : ℕ) (hit : Bool) → Hit f i k hit → k < 8 → f (i + k) ≡ false → Hit f i (k + 1) hit
+  unfolding anyOf
+  not-hit k hit h l e = let z : k + 1 ≡ suc k = omega arith in (omega arith, h .1 ∙ go (anyOf f i k) e ∙ sym (ap (anyOf f i) z))
+    where
+      go : (b : Bool) → f (i + k) ≡ false → b ≡ (b || f (i + k))
+      go true q = refl
+      go false q = sym q
+
+  pub all-looked : (k : ℕ) (hit : Bool) → Hit f i k hit → 8 ≤ k → hit ≡ anyOf f i 8
+  all-looked k hit h l = let e : k ≡ 8 = omega (arith, h .0) in h .1 ∙ ap (anyOf f i) e
+
+-- ---- the first
+
+neither : (a b : Bool) → (a || b) ≡ false → (a ≡ false) × (b ≡ false)
+neither true b e = (e, absurd (true≢false e))
+neither false b e = (refl, e)
+
+-- places where the test fails are passed over
+pub first-skip : (f : ℕ → Bool) (i j k : ℕ) → anyOf f i j ≡ false → firstOf f i (j + k) ≡ firstOf f (i + j) k
+unfolding anyOf firstOf
+first-skip f i zero k e = let z : zero + k ≡ k = omega arith in let y : i + zero ≡ i = omega arith in rw (z, y)
+first-skip f i (suc j) k e =
+    let n = neither (anyOf f i j) (f (i + j)) e in
+    let z : suc j + k ≡ j + suc k = omega arith in
+    let y : i + j + 1 ≡ i + suc j = omega arith in
+    ap (firstOf f i) z ∙ first-skip f i j (suc k) (n .0) ∙ rw (n .1) (ap (λ (m : ℕ). firstOf f m k) y)
+
+-- the first from `from` on is the first from i on
+abbrev pub Left : (ℕ → Bool) → ℕ → ℕ → ℕ → Type 0
+Left f from n i = (i ≤ n) × (firstOf f from (n - from) ≡ firstOf f i (n - i))
+
+module _ (f : ℕ → Bool) (from n : ℕ) where
+  pub none-left : from ≤ n → Left f from n from
+  none-left h = (h, refl)
+
+  pub here-left : (i : ℕ) → Left f from n i → i < n → f i ≡ true → i ≡ firstOf f from (n - from)
+  unfolding firstOf
+  here-left i l h e = let z : n - i ≡ suc (n - (i + 1)) = omega arith in sym (l .1 ∙ ap (firstOf f i) z ∙ rw e)
+
+  pub on-left : (i : ℕ) → Left f from n i → i < n → f i ≡ false → Left f from n (i + 1)
+  unfolding firstOf
+  on-left i l h e = let z : n - i ≡ suc (n - (i + 1)) = omega arith in (omega arith, l .1 ∙ ap (firstOf f i) z ∙ rw e)
+
+  pub done-left : (i : ℕ) → Left f from n i → n ≤ i → i ≡ firstOf f from (n - from)
+  unfolding firstOf
+  done-left i l h = let z : n - i ≡ zero = omega arith in sym (l .1 ∙ ap (firstOf f i) z)
+
+  pub eight-left : (i : ℕ) → Left f from n i → 8 ≤ n - i → anyOf f i 8 ≡ false → Left f from n (i + 8)
+  eight-left i l h e = let z : n - i ≡ 8 + (n - (i + 8)) = omega arith in (omega arith, l .1 ∙ ap (firstOf f i) z ∙ first-skip f i 8 (n - (i + 8)) e)
+
+-- ---- for callers
+
+-- what holds at i, and holds one further on wherever the test fails, holds at the first place
+pub first-passes : (f : ℕ → Bool) (P : ℕ → Type 0) (i k : ℕ) → ((j : ℕ) → j < i + k → f j ≡ false → P j → P (j + 1)) → P i → P (firstOf f i k)
+unfolding firstOf
+first-passes f P i zero on p = p
+first-passes f P i (suc k) on p = go (f i) refl (λ q. first-passes f P (i + 1) k (λ j l. on j (omega arith)) q)
+  where
+    go : (b : Bool) → f i ≡ b → (P (i + 1) → P (firstOf f (i + 1) k)) → P (cond b i (firstOf f (i + 1) k))
+    go true e r = p
+    go false e r = r (on i (omega arith) e p)
+
+pub first-within : (f : ℕ → Bool) (i k : ℕ) → firstOf f i k ≤ i + k
+unfolding firstOf
+first-within f i zero = omega arith
+first-within f i (suc k) = go (f i) (first-within f (i + 1) k)
+  where
+    go : (b : Bool) → firstOf f (i + 1) k ≤ i + 1 + k → cond b i (firstOf f (i + 1) k) ≤ i + suc k
+    go true h = omega arith
+    go false h = omega (arith, h)
+
+pub first-finds : (f : ℕ → Bool) (i k : ℕ) → firstOf f i k < i + k → f (firstOf f i k) ≡ true
+unfolding firstOf
+first-finds f i zero h = absurd (omega arith)
+first-finds f i (suc k) h = go (f i) refl h (first-finds f (i + 1) k)
+  where
+    go : (b : Bool) → f i ≡ b → cond b i (firstOf f (i + 1) k) < i + suc k → (firstOf f (i + 1) k < i + 1 + k → f (firstOf f (i + 1) k) ≡ true)
+        → f (cond b i (firstOf f (i + 1) k)) ≡ true
+    go true e l r = e
+    go false e l r = r (omega (arith, l))
+
+pub first-after : (f : ℕ → Bool) (i k : ℕ) → i ≤ firstOf f i k
+unfolding firstOf
+first-after f i zero = omega arith
+first-after f i (suc k) = go (f i) (first-after f (i + 1) k)
+  where
+    go : (b : Bool) → i + 1 ≤ firstOf f (i + 1) k → i ≤ cond b i (firstOf f (i + 1) k)
+    go true h = omega arith
+    go false h = omega (arith, h)

@@ -1,0 +1,16 @@
+-- The cell of a name: its length in one byte, then its last seven bytes or all of them; and the bytes of the cell that count.
+use Prim.Native.Nat.{ℕ, _+_, _-_, _*_, _%_, _^_, min}
+use mathlib.Core.List.{List}
+use lib.ListN.{length}
+use Rattle.le.specs.Mem.{get}
+
+-- how many of its bytes stand in the cell
+abbrev pub kept : List ℕ → ℕ
+kept p = min (length p) 7
+
+-- the length byte and the bytes kept
+unfoldable pub maskOf : List ℕ → ℕ
+maskOf p = 2 ^ (8 * (kept p + 1)) - 1
+
+unfoldable pub wordOf : List ℕ → ℕ
+wordOf p = length p % 256 + 256 * get (kept p) p (length p - 7)

@@ -1,0 +1,68 @@
+// Cells of eight bytes in a row, read under a mask: the first that is a number sought.
+ghost use mathlib.Core.Path.{_≡_};
+ghost use Prim.Native.Nat.{_+_, _-_, _*_, _≤_};
+ghost use lib.ListN.{length};
+ghost use Rattle.scan.specs.First.{cellIs, anyOf, firstOf};
+
+// Whether one of the eight cells from cell i on is x under the mask: no branch for each, so that they are compared side by side.
+fn any_of_eight(s: &[u8], at: usize, i: usize, mask: u64, x: u64) -> bool
+    requires { ⌜ at + 8 * (i + 8) ≤ length (now s) ⌝ }
+    ensures { λ r. ⌜ r ≡ anyOf (cellIs (now (s .entry)) at mask x) i 8 ⌝ }
+{
+    let mut hit = false;
+    let mut k = 0;
+    while k < 8 {
+        if le::fields::get_u64(s, at + 8 * (i + k)) & mask == x {
+            hit = true;
+        }
+        k += 1;
+    }
+    hit
+}
+
+// The first cell from `from` on that is x under the mask, one by one; n where there is none.
+fn find_by_one(s: &[u8], at: usize, from: usize, n: usize, mask: u64, x: u64) -> usize
+    requires { ⌜ at + 8 * n ≤ length (now s) ⌝ }
+    requires { ⌜ from ≤ n ⌝ }
+    ensures { λ r. ⌜ r ≡ firstOf (cellIs (now (s .entry)) at mask x) from (n - from) ⌝ }
+{
+    let mut i = from;
+    while i < n {
+        if le::fields::get_u64(s, at + 8 * i) & mask == x {
+            return i;
+        }
+        i += 1;
+    }
+    i
+}
+
+// The first cell from `from` on that is x under the mask, eight at a time; n where there is none.
+fn find_by_eight(s: &[u8], at: usize, from: usize, n: usize, mask: u64, x: u64) -> usize
+    requires { ⌜ at + 8 * n ≤ length (now s) ⌝ }
+    requires { ⌜ from ≤ n ⌝ }
+    ensures { λ r. ⌜ r ≡ firstOf (cellIs (now (s .entry)) at mask x) from (n - from) ⌝ }
+{
+    let mut i = from;
+    while 8 <= n - i {
+        if any_of_eight(s, at, i, mask, x) {
+            return find_by_one(s, at, i, n, mask, x);
+        }
+        i += 8;
+    }
+    find_by_one(s, at, i, n, mask, x)
+}
+
+// The first cell from `from` on that is x under the mask; n where there is none (R45, R53). The cell at `from` is asked by itself: where many fit, the next is near.
+pub fn find_cell(s: &[u8], at: usize, from: usize, n: usize, mask: u64, x: u64) -> usize
+    requires { ⌜ at + 8 * n ≤ length (now s) ⌝ }
+    requires { ⌜ from ≤ n ⌝ }
+    ensures { λ r. ⌜ r ≡ firstOf (cellIs (now (s .entry)) at mask x) from (n - from) ⌝ }
+{
+    if n <= from {
+        return from;
+    }
+    if le::fields::get_u64(s, at + 8 * from) & mask == x {
+        return from;
+    }
+    find_by_eight(s, at, from + 1, n, mask, x)
+}

@@ -1,0 +1,153 @@
+-- The cell of a row's name beside the key of a name: where they differ, the names differ. Assumes nothing.
+use mathlib.Core.Path.{_≡_, refl, sym, ap, _∙_}
+use mathlib.Core.Bool.{Bool, true, false, _&&_, true≢false, false≢true, and-false}
+use mathlib.Core.List.{List}
+use mathlib.Core.Option.{none, some}
+use Prim.Native.Nat.{ℕ, zero, suc, _+_, _-_, _*_, _%_, _^_, _≤_, _<_, min}
+use native.Mathlib.Nat.{pow-suc, mod-eq-of-lt, add-comm, mul-comm}
+use native.Mathlib.Omega.{arith}
+use borrow.Author.Tests.{eq-eqb, eqb-true, eqb-false, leb-true, leb-false}
+use lib.ListN.{length}
+use lib.Arith.{digits-mod}
+use lib.Bits.{bitAnd, and-mask}
+use lib.Pow.{pow-add}
+use lib.Dec.{eqb, leb}
+use Rattle.le.specs.Mem.{read, value, get, same, Bytes}
+use Rattle.le.proofs.Lens.{get-add}
+use Rattle.le.proofs.Same.{same-eq}
+use Rattle.rules.proofs.Fields.{get-fits}
+use Rattle.rules.specs.Tree.{isChild}
+use Rattle.scan.specs.First.{cellIs, firstOf}
+use Rattle.scan.proofs.First.{first-passes, first-finds, first-after}
+use Rattle.scan.specs.Key.{maskOf, wordOf}
+use Rattle.tables.specs.Layout.{tableAt, lastAt, firstAt, capacityOf, countOf}
+use Rattle.tables.specs.View.{nodeAt, nodesOf}
+use Rattle.tables.specs.Answer.{placeIn}
+use Rattle.tables.proofs.Cells.{number-at, other-length, short-name, long-name}
+use Rattle.tables.proofs.Find.{Sought, child-on, Placed, place-begins, place-here, place-on, place-none}
+
+-- ---- the low bytes of a cell
+
+bytes-bits : (k : ℕ) → 2 ^ (8 * k) ≡ 256 ^ k
+bytes-bits zero = refl
+bytes-bits (suc k) =
+    let e : 8 * suc k ≡ 8 * k + 8 = omega arith in
+    ap (λ (n : ℕ). 2 ^ n) e ∙ pow-add 2 (8 * k) 8 ∙ ap (λ (n : ℕ). n * 256) (bytes-bits k) ∙ sym (pow-suc 256 k)
+
+low-bytes : (mem : List ℕ) (at m : ℕ) → Bytes mem → m ≤ 7 → get 8 mem at % 2 ^ (8 * (m + 1)) ≡ get 1 mem at + 256 * get m mem (at + 1)
+low-bytes mem at m b h =
+    let e : 8 ≡ 1 + m + (7 - m) = omega arith in
+    let z : m + 1 ≡ 1 + m = omega arith in
+    let whole : get 8 mem at ≡ get (7 - m) mem (at + (1 + m)) * 256 ^ (1 + m) + get (1 + m) mem at =
+    ap (λ (n : ℕ). get n mem at) e ∙ get-add (1 + m) (7 - m) mem at
+    ∙ add-comm (get (1 + m) mem at) (256 ^ (1 + m) * get (7 - m) mem (at + (1 + m)))
+    ∙ ap (λ (n : ℕ). n + get (1 + m) mem at) (mul-comm (256 ^ (1 + m)) (get (7 - m) mem (at + (1 + m)))) in
+    ap (λ (n : ℕ). get 8 mem at % n) (bytes-bits (m + 1) ∙ ap (λ (n : ℕ). 256 ^ n) z)
+    ∙ ap (λ (n : ℕ). n % 256 ^ (1 + m)) whole
+    ∙ digits-mod (get (7 - m) mem (at + (1 + m))) (get-fits (1 + m) mem at b)
+    ∙ get-add 1 m mem at
+
+-- ---- a row and a name
+
+both-true : (x y : Bool) → (x && y) ≡ true → y ≡ true
+both-true true y e = e
+both-true false y e = absurd (false≢true e)
+
+get-of : (k : ℕ) (a b : List ℕ) (p q : ℕ) → read a p k ≡ read b q k → get k a p ≡ get k b q
+unfolding get
+get-of k a b p q e = ap value e
+
+module _ (n : ℕ) (mem : List ℕ) (i : ℕ) (p : List ℕ) (b : Bytes mem) where
+  abbrev l : ℕ
+  l = get 1 mem (lastAt n i)
+
+  byte : l < 256
+  byte = get-fits 1 mem (lastAt n i) b
+
+  same-long : same (nodeAt n mem i .called) p ≡ true → l ≡ length p
+  same-long e = go (eqb l (length p)) refl
+    where
+      go : (t : Bool) → eqb l (length p) ≡ t → l ≡ length p
+      go true q = eqb-true l (length p) q
+      go false q = absurd (true≢false (sym e ∙ other-length n mem i l p refl byte (eqb-false l (length p) q)))
+
+  last-same : same (nodeAt n mem i .called) p ≡ true → get (min l 7) mem (lastAt n i + 1) ≡ get (min l 7) p (length p - 7)
+  last-same e = go (leb l 7) refl
+    where
+      go : (t : Bool) → leb l 7 ≡ t → get (min l 7) mem (lastAt n i + 1) ≡ get (min l 7) p (length p - 7)
+      go true q =
+          let h = same-long e in
+          let few : l ≤ 7 = leb-true l 7 q in
+          let m : min l 7 ≡ l = omega arith in
+          let z : length p - 7 ≡ 0 = omega arith in
+          rw (m, z) (get-of l mem p (lastAt n i + 1) 0 (same-eq (read mem (lastAt n i + 1) l) (read p 0 l) (sym (short-name n mem i l p refl byte h few) ∙ e)))
+      go false q =
+          let h = same-long e in
+          let many : 7 < l = leb-false l 7 q in
+          let m : min l 7 ≡ 7 = omega arith in
+          rw m
+          (get-of 7 mem p (lastAt n i + 1) (length p - 7)
+          (same-eq (read mem (lastAt n i + 1) 7) (read p (length p - 7) 7)
+          (both-true (same (read mem (firstAt n i) (length p - 7)) (read p 0 (length p - 7))) _ (rw h at (sym (long-name n mem i l p refl byte h many) ∙ e)))))
+
+  pub like : same (nodeAt n mem i .called) p ≡ true → cellIs mem (tableAt + 24 * n) (maskOf p) (wordOf p) i ≡ true
+  unfolding cellIs maskOf wordOf
+  like e =
+      let h = same-long e in
+      let m : min (length p) 7 ≡ min l 7 = ap (λ (x : ℕ). min x 7) (sym h) in
+      let few : length p % 256 ≡ l = mod-eq-of-lt (omega (arith, h, byte)) ∙ sym h in
+      eq-eqb (bitAnd (get 8 mem (lastAt n i)) (2 ^ (8 * (min (length p) 7 + 1)) - 1)) _
+      (and-mask (get 8 mem (lastAt n i)) (8 * (min (length p) 7 + 1))
+      ∙ low-bytes mem (lastAt n i) (min (length p) 7) b (omega arith)
+      ∙ rw (few, m) (ap (λ (x : ℕ). l + 256 * x) (last-same e)))
+
+  pub unlike : (here : ℕ) → cellIs mem (tableAt + 24 * n) (maskOf p) (wordOf p) i ≡ false → isChild here p (nodeAt n mem i) ≡ false
+  unfolding isChild
+  unlike here f = go (same (nodeAt n mem i .called) p) refl
+    where
+      go : (s : Bool) → same (nodeAt n mem i .called) p ≡ s → (eqb (nodeAt n mem i .above) here && s) ≡ false
+      go true e = absurd (true≢false (sym (like e) ∙ f))
+      go false e = and-false (eqb (nodeAt n mem i .above) here)
+
+-- ---- rows passed over
+
+-- rows whose cell is not the one sought are passed over in the search for a child: m and w are the key's numbers
+module _ (mem : List ℕ) (here : ℕ) (p : List ℕ) (c : ℕ) (b : Bytes mem) (k : c ≡ countOf mem) (m w : ℕ) (e : (m ≡ maskOf p) × (w ≡ wordOf p)) (i r : ℕ)
+    (a : r ≡ firstOf (cellIs mem (tableAt + 24 * capacityOf mem) m w) i (countOf mem - i)) where
+  pub skips : Sought mem here p c i → Sought mem here p c r
+  skips s =
+      rw (a, e .0, e .1, ← k)
+      (first-passes (cellIs mem (tableAt + 24 * capacityOf mem) (maskOf p) (wordOf p)) (Sought mem here p c) i (c - i)
+      (λ j h f q. child-on mem here p c j q (omega (arith, s .0)) (unlike (capacityOf mem) mem j p b here f)) s)
+
+-- a search from i on does not go back
+pub further : (mem : List ℕ) (m w i r : ℕ) → r ≡ firstOf (cellIs mem (tableAt + 24 * capacityOf mem) m w) i (countOf mem - i) → i ≤ r
+further mem m w i r a = rw a (first-after (cellIs mem (tableAt + 24 * capacityOf mem) m w) i (countOf mem - i))
+
+-- the cell of a row's number
+module _ (mem : List ℕ) (x i : ℕ) where
+  number-mask : bitAnd (get 8 mem (tableAt + 8 * i)) (2 ^ 56 - 1) ≡ nodeAt (capacityOf mem) mem i .number
+  number-mask = and-mask (get 8 mem (tableAt + 8 * i)) 56 ∙ sym (number-at (capacityOf mem) mem i)
+
+  number-here : cellIs mem tableAt (2 ^ 56 - 1) x i ≡ true → nodeAt (capacityOf mem) mem i .number ≡ x
+  unfolding cellIs
+  number-here e = sym number-mask ∙ eqb-true _ x e
+
+  number-other : cellIs mem tableAt (2 ^ 56 - 1) x i ≡ false → nodeAt (capacityOf mem) mem i .number ≡ x → ⊥
+  unfolding cellIs
+  number-other e h = eqb-false _ x e (number-mask ∙ h)
+
+-- the place of a number is the first row with its cell
+module _ (mem : List ℕ) (x c r : ℕ) (k : c ≡ countOf mem) (e : r ≡ firstOf (cellIs mem tableAt (2 ^ 56 - 1) x) 0 (c - 0)) where
+  reached : Placed mem x c r
+  reached =
+      rw e
+      (first-passes (cellIs mem tableAt (2 ^ 56 - 1) x) (Placed mem x c) 0 (c - 0) (λ j h f q. place-on mem x c j q (omega arith) (number-other mem x j f)) (place-begins mem x c k))
+
+  pub row-found : r < c → placeIn (nodesOf mem) x ≡ some r
+  row-found h =
+      let t : cellIs mem tableAt (2 ^ 56 - 1) x r ≡ true = rw e (first-finds (cellIs mem tableAt (2 ^ 56 - 1) x) 0 (c - 0) (omega (arith, e))) in
+      place-here mem x c r reached h (number-here mem x r t)
+
+  pub row-missing : c ≤ r → placeIn (nodesOf mem) x ≡ none
+  row-missing h = place-none mem x c r reached h
