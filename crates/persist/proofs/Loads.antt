@@ -4,7 +4,7 @@ use mathlib.Core.Bool.{true}
 use mathlib.Core.List.{List, [], _∷_, _++_, append-assoc, append-nil}
 use Prim.Native.Nat.{ℕ, _+_, _-_, _^_, _≤_, _<_}
 use native.Mathlib.Omega.{arith}
-use lib.ListN.{length, length-append}
+use lib.ListN.{length, length-append as length-both}
 use Rattle.le.specs.Mem.{read, value, bytesOf, get}
 use Rattle.rules.specs.Tree.{Node, bare}
 use Rattle.rules.specs.Instance.{Instance, withTree}
@@ -17,8 +17,8 @@ use Rattle.tables.specs.View.{field, headOf, nodesOf, view}
 use Rattle.tables.specs.Rule.{laidBy, laid, Laid}
 use Rattle.tables.specs.Write.{fromPlace, putHeader, setCount, setNext, appendNode}
 use Rattle.tables.proofs.Table.{length-putRow}
-use Rattle.tables.proofs.Refine.{head-put, view-header, whole, view-append}
-use Rattle.tables.proofs.Keeps.{ruled, is-ruled, laid-is, open-laid, keeps-append}
+use Rattle.tables.proofs.Refine.{head-put, view-header, cell-back, view-append}
+use Rattle.tables.proofs.Keeps.{ruled, is-ruled, laid-is, open-laid, length-append, keeps-append}
 use Rattle.tables.proofs.Places.{nodes-count}
 use Rattle.persist.specs.Restoring.{Loads, loadNode, loadNodes}
 use Rattle.persist.proofs.Records.{AllLoad}
@@ -43,7 +43,7 @@ module _ (mem : List ℕ) (d : Laid mem) (x : ℕ) (top : x ≤ 2 ^ 56) where
   next-head = head-put 3 xs mem next-fit (omega (arith, d .long))
 
   next-is : value (bytesOf 8 x ++ read mem (24 + length (bytesOf 8 x)) (8 - length (bytesOf 8 x))) ≡ x
-  next-is = whole 8 x mem _ (omega arith)
+  next-is = cell-back 8 x mem 24 (omega arith)
 
   pub next-capacity : capacityOf after ≡ capacityOf mem
   unfolding over row get
@@ -81,11 +81,7 @@ module _ (mem : List ℕ) (d : Laid mem) (x : ℕ) (top : x ≤ 2 ^ 56) where
       let r = ruled (headOf mem) (length mem) (open-laid mem e) in
       ap₂ laidBy next-head next-length
       ∙ is-ruled H (length mem) (record {
-        long = r .long;
-        marked = r .marked;
-        some-node = r .some-node;
-        few-nodes = r .few-nodes;
-        enough = r .enough;
+        size = r .size;
         live = r .live;
         low = rw next-is low;
         top = rw next-is top;
@@ -104,10 +100,6 @@ pub record Loaded (e : Entry) (mem : List ℕ) : Type 0 where
   pub keeps : laid (loadNode e mem) ≡ true
   pub stands : view (loadNode e mem) ≡ withTree (record { next = e .number + 1; root = view mem .tree .root; nodes = view mem .tree .nodes ++ (noded e ∷ []) }) (view mem)
 
-append-length : (above : ℕ) (p mem : List ℕ) → length (appendNode above p mem) ≡ length mem
-unfolding appendNode setNext setCount putHeader
-append-length above p mem = simp length-putRow
-
 pub loads : (e : Entry) (mem : List ℕ) → laid mem ≡ true → Loads e → countOf mem + 1 < capacityOf mem → Loaded e mem
 unfolding loadNode
 loads e mem k f room =
@@ -120,7 +112,7 @@ loads e mem k f room =
     let under : nextOf m′ < 2 ^ 56 = omega (arith, f .top) in
     let v = next-view mem d (e .number) top in
     record {
-      long = append-length (e .above) (e .called) m′ ∙ next-length mem d (e .number) top;
+      long = length-append (e .above) (e .called) m′ ∙ next-length mem d (e .number) top;
       keeps = keeps-append m′ k′ (e .above) (e .called) more under;
       stands =
           view-append m′ (laid-is m′ k′) (e .above) (e .called) more under (f .above) (f .short)
@@ -137,7 +129,7 @@ module _ (e : Entry) (mem : List ℕ) (l : Loaded e mem) where
   unfolding view
   loaded-count =
       let n : length (nodesOf (loadNode e mem)) ≡ length (nodesOf mem ++ (noded e ∷ [])) = ap (λ (i : Instance). length (i .tree .nodes)) (l .stands) in
-      omega (arith, nodes-count mem, nodes-count (loadNode e mem), length-append (nodesOf mem) (noded e ∷ []))
+      omega (arith, nodes-count mem, nodes-count (loadNode e mem), length-both (nodesOf mem) (noded e ∷ []))
 
 -- ---- all of them; the next number is left open
 

@@ -17,7 +17,7 @@ use Rattle.tables.specs.View.{field, headOf, nodesOf, view}
 use Rattle.tables.specs.Rule.{laidBy, laid}
 use Rattle.tables.specs.Write.{fromPlace, putHeader, setNext, heldByte}
 use Rattle.tables.proofs.Table.{length-putRow}
-use Rattle.tables.proofs.Refine.{head-put, view-header, whole}
+use Rattle.tables.proofs.Refine.{head-put, view-header, cell-back}
 use Rattle.tables.proofs.Keeps.{ruled, is-ruled, open-laid}
 use Rattle.persist.specs.Restoring.{hasBits, optionCells, setOptions, setState}
 
@@ -68,40 +68,37 @@ module _ (next counter : ℕ) (o : Options) (mem : List ℕ) where
       omega (arith, length-bytesOf 8 next, length-bytesOf 8 (o .inOpts), length-bytesOf 8 (o .outOpts), length-bytesOf 4 (o .mapping .internal), length-bytesOf 4 (o .mapping .external), length-bytesOf 4 (o .mapping .range), length-bytesOf 1 (o .flags), length-bytesOf 1 counter, length-bytesOf 1 init)
 
   module _ (f : OptionsFit o) (top : next ≤ 2 ^ 56) (byte : counter < 256) where
-    reads : (k v q : ℕ) → v < 256 ^ k → value (bytesOf k v ++ read mem (q + length (bytesOf k v)) (k - length (bytesOf k v))) ≡ v
-    reads k v q h = whole k v mem _ h
-
     next-is : field 3 H ≡ next
     unfolding over row
-    next-is = reads 8 next 24 (omega arith)
+    next-is = cell-back 8 next mem 24 (omega arith)
 
     in-is : field 5 H ≡ o .inOpts
     unfolding over row
-    in-is = reads 8 (o .inOpts) 40 (f .inOpts)
+    in-is = cell-back 8 (o .inOpts) mem 40 (f .inOpts)
 
     out-is : field 6 H ≡ o .outOpts
     unfolding over row
-    out-is = reads 8 (o .outOpts) 48 (f .outOpts)
+    out-is = cell-back 8 (o .outOpts) mem 48 (f .outOpts)
 
     internal-is : field 10 H ≡ o .mapping .internal
     unfolding over row
-    internal-is = reads 4 (o .mapping .internal) 68 (f .internal)
+    internal-is = cell-back 4 (o .mapping .internal) mem 68 (f .internal)
 
     external-is : field 11 H ≡ o .mapping .external
     unfolding over row
-    external-is = reads 4 (o .mapping .external) 72 (f .external)
+    external-is = cell-back 4 (o .mapping .external) mem 72 (f .external)
 
     range-is : field 12 H ≡ o .mapping .range
     unfolding over row
-    range-is = reads 4 (o .mapping .range) 76 (f .range)
+    range-is = cell-back 4 (o .mapping .range) mem 76 (f .range)
 
     flags-is : field 13 H ≡ o .flags
     unfolding over row
-    flags-is = reads 1 (o .flags) 80 (let h = f .flags in omega arith)
+    flags-is = cell-back 1 (o .flags) mem 80 (let h = f .flags in omega arith)
 
     counter-is : field 14 H ≡ counter
     unfolding over row
-    counter-is = reads 1 counter 81 byte
+    counter-is = cell-back 1 counter mem 81 byte
 
     flag-back : (b : Bool) → (v : ℕ) → v ≡ heldByte b → not (eqb v 0) ≡ b
     flag-back true v e = rw e
@@ -113,7 +110,7 @@ module _ (next counter : ℕ) (o : Options) (mem : List ℕ) where
 
     init-is : not (eqb (field 16 H) 0) ≡ hasBits (o .inOpts)
     unfolding over row
-    init-is = flag-back (hasBits (o .inOpts)) _ (reads 1 init 83 (bit-fits (hasBits (o .inOpts))))
+    init-is = flag-back (hasBits (o .inOpts)) _ (cell-back 1 init mem 83 (bit-fits (hasBits (o .inOpts))))
 
     pub view-state : 256 ≤ length mem → view (setState next counter o mem) ≡ become next counter o (view mem)
     unfolding view nodesOf over row
@@ -144,13 +141,9 @@ module _ (next counter : ℕ) (o : Options) (mem : List ℕ) where
     unfolding laid over row view
     state-keeps e low u =
         let r = ruled (headOf mem) (length mem) (open-laid mem e) in
-        ap₂ laidBy (ap headOf one-row ∙ head-put 3 cells mem cells-fit (let l = r .long in omega arith)) state-length
+        ap₂ laidBy (ap headOf one-row ∙ head-put 3 cells mem cells-fit (let l = r .size .long in omega arith)) state-length
         ∙ is-ruled H (length mem) (record {
-          long = r .long;
-          marked = r .marked;
-          some-node = r .some-node;
-          few-nodes = r .few-nodes;
-          enough = r .enough;
+          size = r .size;
           live = r .live;
           low = omega (arith, next-is);
           top = omega (arith, next-is);

@@ -26,7 +26,7 @@ use Rattle.placing.specs.Place.{freedMem, placeMem, outMem, takeOffMem, 
 
 -- the bytes of a laid memory are enough for the header and the slots
 pub long : (mem : List ℕ) → laid mem ≡ true → 8192 ≤ length mem
-long mem e = ruled (headOf mem) (length mem) (open-laid mem e) .long
+long mem e = ruled (headOf mem) (length mem) (open-laid mem e) .size .long
 
 -- slot k of the view is slot k of the memory
 pub slot-of : (mem : List ℕ) (k : ℕ) → k < 256 → slotOf (view mem) k ≡ slotAt mem k

@@ -112,11 +112,13 @@ module _ (i : Instance) (mem : List ℕ) (l : Limits i) (b : 256 ≤ length mem)
       let size : length after ≡ length mem = length-putRow header (spell header vs) mem 0 in
       ap₂ laidBy (head-put 0 (spell header vs) mem (spell-fits header vs) b) size
       ∙ is-ruled H (length mem) (record {
-        long = omega arith;
-        marked = f 0 (omega arith);
-        some-node = omega (arith, l .some-node);
-        few-nodes = omega (arith, l .few-nodes);
-        enough = omega arith;
+        size = record {
+          long = omega arith;
+          marked = f 0 (omega arith);
+          some-node = omega (arith, l .some-node);
+          few-nodes = omega (arith, l .few-nodes);
+          enough = omega arith;
+        };
         live = omega (arith, l .live);
         low = omega (arith, l .low);
         top = omega (arith, l .top);

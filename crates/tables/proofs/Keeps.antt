@@ -21,18 +21,22 @@ use Rattle.tables.specs.View.{field, mappingFrom, optionsFrom, headOf, n
 use Rattle.tables.specs.Rule.{laidBy, laid, Laid}
 use Rattle.tables.specs.Write.{fromPlace, putHeader, setCount, setNext, setCounter, setRemoval, heldByte, setSlot, mountCells, rowMountCells, setRootMount, setRowMount, nodeCells, appendNode, removeRow}
 use Rattle.tables.specs.Answer.{placeIn, atPlace, mountMem, removeMem}
-use Rattle.tables.proofs.Table.{length-putRow, length-closeUp, put-below, close-below}
-use Rattle.tables.proofs.Refine.{Low, low-head, head-put, head-low, whole, two-fields, fields-fit, root-fit, nodes-above, slot-head}
+use Rattle.tables.proofs.Table.{length-putRow, length-closeUp}
+use Rattle.tables.proofs.Refine.{cell-back, low-head, put-low, head-put, head-append, head-remove, root-fit, slot-head}
 use Rattle.tables.proofs.Places.{place-first, nodes-count}
 
 -- ---- the tests of the rule, one by one
 
-pub record Ruled (h : List (List ℕ)) (bytes : ℕ) : Type 0 where
+-- the mark, and the room for n nodes, which no call changes
+pub record Sized (marker n bytes : ℕ) : Type 0 where
   pub long : 8192 ≤ bytes
-  pub marked : field 0 h ≡ mark
-  pub some-node : 1 ≤ field 1 h
-  pub few-nodes : field 1 h ≤ 1024
-  pub enough : 512 * field 1 h + 8192 ≤ bytes
+  pub marked : marker ≡ mark
+  pub some-node : 1 ≤ n
+  pub few-nodes : n ≤ 1024
+  pub enough : 512 * n + 8192 ≤ bytes
+
+pub record Ruled (h : List (List ℕ)) (bytes : ℕ) : Type 0 where
+  pub size : Sized (field 0 h) (field 1 h) bytes
   pub live : field 2 h < field 1 h
   pub low : 2 ≤ field 3 h
   pub top : field 3 h ≤ 2 ^ 56
@@ -45,11 +49,13 @@ unfolding laidBy
 ruled h bytes e =
     let t = passed _ e in
     record {
-      long = leb-true 8192 bytes (t .0);
-      marked = eqb-true (field 0 h) mark (t .1 .0);
-      some-node = leb-true 1 (field 1 h) (t .1 .1 .0);
-      few-nodes = leb-true (field 1 h) 1024 (t .1 .1 .1 .0);
-      enough = leb-true (512 * field 1 h + 8192) bytes (t .1 .1 .1 .1 .0);
+      size = record {
+        long = leb-true 8192 bytes (t .0);
+        marked = eqb-true (field 0 h) mark (t .1 .0);
+        some-node = leb-true 1 (field 1 h) (t .1 .1 .0);
+        few-nodes = leb-true (field 1 h) 1024 (t .1 .1 .1 .0);
+        enough = leb-true (512 * field 1 h + 8192) bytes (t .1 .1 .1 .1 .0);
+      };
       live = ltb-true (field 2 h) (field 1 h) (t .1 .1 .1 .1 .1 .0);
       low = leb-true 2 (field 3 h) (t .1 .1 .1 .1 .1 .1 .0);
       top = leb-true (field 3 h) (2 ^ 56) (t .1 .1 .1 .1 .1 .1 .1 .0);
@@ -62,15 +68,15 @@ pub is-ruled : (h : List (List ℕ)) (bytes : ℕ) → Ruled h bytes → laidBy 
 unfolding laidBy
 is-ruled h bytes r =
     pass _ (
-      le-leb 8192 bytes (r .long),
+      le-leb 8192 bytes (r .size .long),
       (
-        eq-eqb (field 0 h) mark (r .marked),
+        eq-eqb (field 0 h) mark (r .size .marked),
         (
-          le-leb 1 (field 1 h) (r .some-node),
+          le-leb 1 (field 1 h) (r .size .some-node),
           (
-            le-leb (field 1 h) 1024 (r .few-nodes),
+            le-leb (field 1 h) 1024 (r .size .few-nodes),
             (
-              le-leb (512 * field 1 h + 8192) bytes (r .enough),
+              le-leb (512 * field 1 h + 8192) bytes (r .size .enough),
               (
                 lt-ltb (field 2 h) (field 1 h) (r .live),
                 (
@@ -92,7 +98,7 @@ pub laid-is : (mem : List ℕ) → laid mem ≡ true → Laid mem
 unfolding laid row get
 laid-is mem e =
     let r = ruled (headOf mem) (length mem) e in
-    record { some-node = r .some-node; few-nodes = r .few-nodes; long = r .enough; live = r .live; low = r .low; top = r .top }
+    record { some-node = r .size .some-node; few-nodes = r .size .few-nodes; long = r .size .enough; live = r .live; low = r .low; top = r .top }
 
 -- ---- writes that leave the tested fields
 
@@ -103,6 +109,14 @@ same-laid m′ mem h l = ap₂ laidBy h l
 length-header : (k : ℕ) (xs : List (List ℕ)) (mem : List ℕ) → length (putHeader k xs mem) ≡ length mem
 unfolding putHeader
 length-header k xs mem = length-putRow header (fromPlace k xs) mem 0
+
+pub length-append : (above : ℕ) (p mem : List ℕ) → length (appendNode above p mem) ≡ length mem
+unfolding appendNode setNext setCount
+length-append above p mem = simp (length-header, length-putRow)
+
+length-remove : (i : ℕ) (mem : List ℕ) → length (removeRow i mem) ≡ length mem
+unfolding removeRow setCount
+length-remove i mem = simp (length-header, length-closeUp)
 
 -- the first fourteen fields are those that the rule tests
 laid-header : (k : ℕ) (xs : List (List ℕ)) (mem : List ℕ) → Fit header (fromPlace k xs) → 256 ≤ length mem → laid (putHeader k xs mem) ≡ laidBy (over header (fromPlace k xs) mem 0) (length mem)
@@ -116,9 +130,6 @@ open-laid mem e = e
 one-byte : (c : ℕ) → Fit header (fromPlace 14 (bytesOf 1 c ∷ []))
 one-byte c = omega (arith, length-bytesOf 1 c)
 
-one-field : (u : ℕ) → Fit header (fromPlace 2 (bytesOf 8 u ∷ []))
-one-field u = omega (arith, length-bytesOf 8 u)
-
 slot-length : (k : ℕ) (held : Bool) (tag : ℕ) (mem : List ℕ) → length (setSlot k held tag mem) ≡ length mem
 unfolding setSlot
 slot-length k held tag mem = length-putRow slotTable (bytesOf 1 (heldByte held) ∷ bytesOf 4 tag ∷ []) mem k
@@ -129,25 +140,25 @@ module _ (mem : List ℕ) (e : laid mem ≡ true) where
 
   pub keeps-slot : (k : ℕ) (held : Bool) (tag : ℕ) → k < 256 → tag < 2 ^ 32 → laid (setSlot k held tag mem) ≡ true
   keeps-slot k held tag h t =
-      same-laid (setSlot k held tag mem) mem (slot-head k h held tag mem t (r .long)) (slot-length k held tag mem) ∙ e
+      same-laid (setSlot k held tag mem) mem (slot-head k h held tag mem t (r .size .long)) (slot-length k held tag mem) ∙ e
 
   pub keeps-counter : (c : ℕ) → laid (setCounter c mem) ≡ true
   unfolding setCounter over row laidBy laid
-  keeps-counter c = laid-header 14 (bytesOf 1 c ∷ []) mem (one-byte c) (let l = r .long in omega arith) ∙ e
+  keeps-counter c = laid-header 14 (bytesOf 1 c ∷ []) mem (one-byte c) (let l = r .size .long in omega arith) ∙ e
 
   pub keeps-removal : laid (setRemoval mem) ≡ true
   unfolding setRemoval over row laidBy laid
-  keeps-removal = laid-header 15 (bytesOf 1 1 ∷ []) mem (omega (arith, length-bytesOf 1 1)) (let l = r .long in omega arith) ∙ e
+  keeps-removal = laid-header 15 (bytesOf 1 1 ∷ []) mem (omega (arith, length-bytesOf 1 1)) (let l = r .size .long in omega arith) ∙ e
 
   root-kept : (m : Option Mount) → laid (setRootMount m mem) ≡ true
   unfolding setRootMount over row laidBy laid
-  root-kept none = laid-header 17 (mountCells none) mem (root-fit none) (let l = r .long in omega arith) ∙ e
-  root-kept (some m) = laid-header 17 (mountCells (some m)) mem (root-fit (some m)) (let l = r .long in omega arith) ∙ e
+  root-kept none = laid-header 17 (mountCells none) mem (root-fit none) (let l = r .size .long in omega arith) ∙ e
+  root-kept (some m) = laid-header 17 (mountCells (some m)) mem (root-fit (some m)) (let l = r .size .long in omega arith) ∙ e
 
   rows-kept : (n : ℕ) (xs : List (List ℕ)) (i : ℕ) → laid (putRow (nodeTable n) xs mem i) ≡ true
   rows-kept n xs i =
       let m′ = putRow (nodeTable n) xs mem i in
-      same-laid m′ mem (low-head m′ mem (λ q w h. put-below (nodeTable n) xs mem i 8192 q w (nodes-above n 8192 (omega arith)) h)) (length-putRow (nodeTable n) xs mem i) ∙ e
+      same-laid m′ mem (low-head m′ mem (put-low n xs mem i)) (length-putRow (nodeTable n) xs mem i) ∙ e
 
   pub keeps-mount : (m : Option Mount) (x : ℕ) → laid (mountMem (nodesOf mem) m x mem) ≡ true
   unfolding mountMem setRowMount
@@ -164,56 +175,31 @@ module _ (mem : List ℕ) (e : laid mem ≡ true) where
   c = countOf mem
 
   pub keeps-append : (above : ℕ) (p : List ℕ) → c + 1 < capacityOf mem → nextOf mem < 2 ^ 56 → laid (appendNode above p mem) ≡ true
-  unfolding appendNode laid over row get
+  unfolding laid over row get
   keeps-append above p room top =
-      let n = capacityOf mem in
       let x = nextOf mem in
-      let cells = nodeCells x above p in
-      let m′ = putRow (nodeTable n) cells mem c in
-      let xs = bytesOf 8 (c + 1) ∷ bytesOf 8 (x + 1) ∷ [] in
-      let fit : Fit header (fromPlace 2 xs) = fields-fit (c + 1) (x + 1) in
-      let low : Low m′ mem = λ q w h. put-below (nodeTable n) cells mem c 8192 q w (nodes-above n 8192 (omega arith)) h in
-      let size : length m′ ≡ length mem = length-putRow (nodeTable n) cells mem c in
       let d = r in
-      let a : value (bytesOf 8 (c + 1) ++ read mem (16 + length (bytesOf 8 (c + 1))) (8 - length (bytesOf 8 (c + 1)))) ≡ c + 1 = whole 8 (c + 1) mem _ (omega (arith, d .few-nodes)) in
-      let b : value (bytesOf 8 (x + 1) ++ read mem (24 + length (bytesOf 8 (x + 1))) (8 - length (bytesOf 8 (x + 1)))) ≡ x + 1 = whole 8 (x + 1) mem _ (omega arith) in
-      let h : headOf (putHeader 2 xs m′) ≡ over header (fromPlace 2 xs) mem 0 = head-low 2 xs m′ mem fit low (omega (arith, d .long)) in
-      ap laid (two-fields (c + 1) (x + 1) m′)
-      ∙ (ap₂ laidBy h (length-header 2 xs m′ ∙ size)
-      ∙ is-ruled (over header (fromPlace 2 xs) mem 0) (length mem) (record {
-        long = d .long;
-        marked = d .marked;
-        some-node = d .some-node;
-        few-nodes = d .few-nodes;
-        enough = d .enough;
+      let a = cell-back 8 (c + 1) mem 16 (omega (arith, d .size .few-nodes)) in
+      let b = cell-back 8 (x + 1) mem 24 (omega arith) in
+      ap₂ laidBy (head-append mem (laid-is mem e) above p) (length-append above p mem)
+      ∙ is-ruled (over header (fromPlace 2 (bytesOf 8 (c + 1) ∷ bytesOf 8 (x + 1) ∷ [])) mem 0) (length mem) (record {
+        size = d .size;
         live = rw a room;
         low = rw b (omega (arith, d .low));
         top = rw b (omega arith);
         bits = d .bits;
         flags = d .flags;
         maps = d .maps;
-      }))
+      })
 
   removed : (i : ℕ) → i < c → laid (removeRow i mem) ≡ true
-  unfolding removeRow setCount laid over row get
-  removed i h₀ =
-      let n = capacityOf mem in
-      let k = c - 1 - i in
-      let m′ = closeUp (nodeTable n) mem i k in
-      let xs = bytesOf 8 (c - 1) ∷ [] in
-      let fit : Fit header (fromPlace 2 xs) = one-field (c - 1) in
-      let low : Low m′ mem = λ q w h. close-below (nodeTable n) mem i k 8192 q w (nodes-above n 8192 (omega arith)) h in
-      let size : length m′ ≡ length mem = length-closeUp (nodeTable n) mem i k in
+  unfolding laid over row get
+  removed i h =
       let d = r in
-      let a : value (bytesOf 8 (c - 1) ++ read mem (16 + length (bytesOf 8 (c - 1))) (8 - length (bytesOf 8 (c - 1)))) ≡ c - 1 = whole 8 (c - 1) mem _ (omega (arith, d .few-nodes, d .live)) in
-      let h : headOf (putHeader 2 xs m′) ≡ over header (fromPlace 2 xs) mem 0 = head-low 2 xs m′ mem fit low (omega (arith, d .long)) in
-      ap₂ laidBy h (length-header 2 xs m′ ∙ size)
-      ∙ is-ruled (over header (fromPlace 2 xs) mem 0) (length mem) (record {
-        long = d .long;
-        marked = d .marked;
-        some-node = d .some-node;
-        few-nodes = d .few-nodes;
-        enough = d .enough;
+      let a = cell-back 8 (c - 1) mem 16 (omega (arith, d .size .few-nodes, d .live)) in
+      ap₂ laidBy (head-remove mem (laid-is mem e) i) (length-remove i mem)
+      ∙ is-ruled (over header (fromPlace 2 (bytesOf 8 (c - 1) ∷ [])) mem 0) (length mem) (record {
+        size = d .size;
         live = rw a (omega (arith, d .live));
         low = d .low;
         top = d .top;

@@ -191,6 +191,10 @@ whole k v mem q h =
     let z : k - k ≡ 0 = omega arith in
     rw (length-bytesOf k v, z, append-nil, value-bytes k v) (mod-eq-of-lt h)
 
+-- the same of the cell at a place
+pub cell-back : (k v : ℕ) (mem : List ℕ) (at : ℕ) → v < 256 ^ k → value (bytesOf k v ++ read mem (at + length (bytesOf k v)) (k - length (bytesOf k v))) ≡ v
+cell-back k v mem at h = whole k v mem _ h
+
 -- a mount's numbers are within their widths
 pub record MountFits (m : Mount) : Type 0 where
   pub index : 1 ≤ m .index
@@ -271,6 +275,13 @@ low-slots : (m′ mem : List ℕ) → Low m′ mem → slotsOf m′ ≡ slotsOf 
 unfolding slotsOf slotAt
 low-slots m′ mem low = tab-same _ _ 0 256 (λ j a b. ap slotFrom (row-low 256 slotTable m′ mem j 8192 b slots-beneath low))
 
+-- so they are where a row is put, and where rows close up
+pub put-low : (n : ℕ) (cells : List (List ℕ)) (mem : List ℕ) (i : ℕ) → Low (putRow (nodeTable n) cells mem i) mem
+put-low n cells mem i q w h = put-below (nodeTable n) cells mem i 8192 q w (nodes-above n 8192 (omega arith)) h
+
+pub closed-low : (n : ℕ) (mem : List ℕ) (i k : ℕ) → Low (closeUp (nodeTable n) mem i k) mem
+closed-low n mem i k q w h = close-below (nodeTable n) mem i k 8192 q w (nodes-above n 8192 (omega arith)) h
+
 -- and then fields of the header are written
 module _ (k : ℕ) (xs : List (List ℕ)) (m′ mem : List ℕ) (f : Fit header (fromPlace k xs)) (low : Low m′ mem) (l : 8192 ≤ length m′) where
   abbrev J : List (List ℕ)
@@ -287,6 +298,9 @@ module _ (k : ℕ) (xs : List (List ℕ)) (m′ mem : List ℕ) (f : Fit header 
 pub two-fields : (c x : ℕ) (mem : List ℕ) → setNext x (setCount c mem) ≡ putHeader 2 (bytesOf 8 c ∷ bytesOf 8 x ∷ []) mem
 unfolding setNext setCount putHeader putRow write
 two-fields c x mem = refl
+
+pub one-fit : (u : ℕ) → Fit header (fromPlace 2 (bytesOf 8 u ∷ []))
+one-fit u = omega (arith, length-bytesOf 8 u)
 
 pub fields-fit : (u v : ℕ) → Fit header (fromPlace 2 (bytesOf 8 u ∷ bytesOf 8 v ∷ []))
 fields-fit u v = omega (arith, length-bytesOf 8 u, length-bytesOf 8 v)
@@ -310,6 +324,15 @@ module _ (mem : List ℕ) (d : Laid mem) where
 
   -- ---- a new node
 
+  pub head-append : (above : ℕ) (p : List ℕ) → headOf (appendNode above p mem) ≡ over header (fromPlace 2 (bytesOf 8 (c + 1) ∷ bytesOf 8 (nextOf mem + 1) ∷ [])) mem 0
+  unfolding appendNode
+  head-append above p =
+      let x = nextOf mem in
+      let cells = nodeCells x above p in
+      let m′ = putRow (nodeTable n) cells mem c in
+      let l : 8192 ≤ length m′ = omega (arith, length-putRow (nodeTable n) cells mem c, d .long) in
+      ap headOf (two-fields (c + 1) (x + 1) m′) ∙ head-low 2 _ m′ mem (fields-fit (c + 1) (x + 1)) (put-low n cells mem c) l
+
   pub view-append : (above : ℕ) (p : List ℕ) → c + 1 < n → nextOf mem < 2 ^ 56 → above < 2 ^ 56 → length p ≤ 255
       → view (appendNode above p mem) ≡ withTree (grown (bare (nextOf mem) above p ∷ []) (view mem .tree)) (view mem)
   unfolding appendNode view nodesOf over row get
@@ -318,17 +341,22 @@ module _ (mem : List ℕ) (d : Laid mem) where
       let cells = nodeCells x above p in
       let m′ = putRow (nodeTable n) cells mem c in
       let xs = bytesOf 8 (c + 1) ∷ bytesOf 8 (x + 1) ∷ [] in
-      let fit : Fit header (fromPlace 2 xs) = fields-fit (c + 1) (x + 1) in
-      let low : Low m′ mem = λ q w h. put-below (nodeTable n) cells mem c 8192 q w (nodes-above n 8192 (omega arith)) h in
       let l : 8192 ≤ length m′ = omega (arith, length-putRow (nodeTable n) cells mem c, d .long) in
-      let a : value (bytesOf 8 (c + 1) ++ read mem (16 + length (bytesOf 8 (c + 1))) (8 - length (bytesOf 8 (c + 1)))) ≡ c + 1 = whole 8 (c + 1) mem _ (omega (arith, d .few-nodes)) in
-      let b : value (bytesOf 8 (x + 1) ++ read mem (24 + length (bytesOf 8 (x + 1))) (8 - length (bytesOf 8 (x + 1)))) ≡ x + 1 = whole 8 (x + 1) mem _ (omega arith) in
+      let a = cell-back 8 (c + 1) mem 16 (omega (arith, d .few-nodes)) in
+      let b = cell-back 8 (x + 1) mem 24 (omega arith) in
       let nodes : nodesFrom n m′ 0 (c + 1) ≡ nodesFrom n mem 0 c ++ (bare x above p ∷ []) =
       nodes-more n cells mem c (omega arith) (cells-fit n x above p len) (d .long)
       ∙ ap (λ (y : Node). nodesFrom n mem 0 c ++ (y ∷ [])) (node-written n x above p mem c top up len) in
-      ap view (two-fields (c + 1) (x + 1) m′) ∙ (view-low 2 xs m′ mem fit low l ∙ rw (a, b) (λ t. withTree (record { next = x + 1; root = view mem .tree .root; nodes = nodes t }) (view mem)))
+      ap view (two-fields (c + 1) (x + 1) m′) ∙ (view-low 2 xs m′ mem (fields-fit (c + 1) (x + 1)) (put-low n cells mem c) l ∙ rw (a, b) (λ t. withTree (record { next = x + 1; root = view mem .tree .root; nodes = nodes t }) (view mem)))
 
   -- ---- a row removed
+
+  pub head-remove : (i : ℕ) → headOf (removeRow i mem) ≡ over header (fromPlace 2 (bytesOf 8 (c - 1) ∷ [])) mem 0
+  unfolding removeRow setCount
+  head-remove i =
+      let k = c - 1 - i in
+      let l : 8192 ≤ length (closeUp (nodeTable n) mem i k) = omega (arith, length-closeUp (nodeTable n) mem i k, d .long) in
+      head-low 2 _ _ mem (one-fit (c - 1)) (closed-low n mem i k) l
 
   pub view-remove : (i : ℕ) → i < c → view (removeRow i mem) ≡ withTree (record { next = view mem .tree .next; root = view mem .tree .root; nodes = removeAt i (view mem .tree .nodes) }) (view mem)
   unfolding removeRow setCount view nodesOf over row get
@@ -336,20 +364,15 @@ module _ (mem : List ℕ) (d : Laid mem) where
       let k = c - 1 - i in
       let m′ = closeUp (nodeTable n) mem i k in
       let xs = bytesOf 8 (c - 1) ∷ [] in
-      let fit : Fit header (fromPlace 2 xs) = one-fit (c - 1) in
-      let low : Low m′ mem = λ q w e. close-below (nodeTable n) mem i k 8192 q w (nodes-above n 8192 (omega arith)) e in
       let l : 8192 ≤ length m′ = omega (arith, length-closeUp (nodeTable n) mem i k, d .long) in
       let fits : i + 1 + k ≤ n = omega (arith, d .live) in
-      let a : value (bytesOf 8 (c - 1) ++ read mem (16 + length (bytesOf 8 (c - 1))) (8 - length (bytesOf 8 (c - 1)))) ≡ c - 1 = whole 8 (c - 1) mem _ (omega (arith, d .few-nodes, d .live)) in
+      let a = cell-back 8 (c - 1) mem 16 (omega (arith, d .few-nodes, d .live)) in
       let e : i + k ≡ c - 1 = omega arith in
       let g : i + suc k ≡ c = omega arith in
       let gone : nodesFrom n m′ 0 (c - 1) ≡ removeAt i (nodesFrom n mem 0 c) =
       subst (λ (z : ℕ). nodesFrom n m′ 0 z ≡ removeAt i (nodesFrom n mem 0 c)) e (subst (λ (z : ℕ). nodesFrom n m′ 0 (i + k) ≡ removeAt i (nodesFrom n mem 0 z)) g (closed i k fits)) in
-      view-low 2 xs m′ mem fit low l ∙ rw a (λ t. withTree (record { next = view mem .tree .next; root = view mem .tree .root; nodes = gone t }) (view mem))
+      view-low 2 xs m′ mem (one-fit (c - 1)) (closed-low n mem i k) l ∙ rw a (λ t. withTree (record { next = view mem .tree .next; root = view mem .tree .root; nodes = gone t }) (view mem))
     where
-      one-fit : (u : ℕ) → Fit header (fromPlace 2 (bytesOf 8 u ∷ []))
-      one-fit u = omega (arith, length-bytesOf 8 u)
-
       closed : (i k : ℕ) → i + 1 + k ≤ n → nodesFrom n (closeUp (nodeTable n) mem i k) 0 (i + k) ≡ removeAt i (nodesFrom n mem 0 (i + suc k))
       closed i k fits = rows-closed n mem i k fits (d .long)
 
@@ -363,7 +386,7 @@ module _ (mem : List ℕ) (d : Laid mem) where
       let m′ = putRow (nodeTable n) cells mem i in
       let below : i < n = omega (arith, d .live) in
       let fit : Fit (nodeTable n) cells = mount-fit m n in
-      let low : Low m′ mem = λ q w e. put-below (nodeTable n) cells mem i 8192 q w (nodes-above n 8192 (omega arith)) e in
+      let low = put-low n cells mem i in
       let heads : headOf m′ ≡ headOf mem = low-head m′ mem low in
       let nodes : nodesFrom n m′ 0 c ≡ set (nodesFrom n mem 0 c) i (withMount m (nodeAt n mem i)) =
       nodes-set n cells mem i below fit (d .long) c h (omega (arith, d .live)) ∙ ap (set (nodesFrom n mem 0 c) i) (mount-written m n mem i f) in
