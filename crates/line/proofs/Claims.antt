@@ -16,7 +16,8 @@ use Rattle.tables.specs.Rule.{laid}
 use Rattle.vfs.specs.Mounting.{mountMem}
 use Rattle.vfs.specs.Unmounting.{unmountMem}
 use Rattle.decimal.proofs.Texts.{small, large}
-use Rattle.line.specs.Reply.{smallText, lineMem, replyText, replyMem}
+use Rattle.line_calls.specs.Answered.{smallText, lineMem}
+use Rattle.line.specs.Reply.{replyText, replyMem}
 use Rattle.line.specs.Claims.{QuestionStill, QuestionStillBytes, NoFormQuestion, OneLine, SmallStill, OneReply}
 
 -- ---- bytes that stand in no text but `?`: no digit, no space, no `r`

@@ -1,22 +1,19 @@
 -- What the places of a line's spaces say of the line.
 use Prim.Native.Nat.{ℕ, _+_, _-_, _≤_, _<_}
 use native.Mathlib.Omega.{arith}
-use mathlib.Core.Path.{_≡_, refl, ap, _∙_}
-use mathlib.Core.Bool.{Bool, true, false, cond}
-use mathlib.Core.List.{List, [], _∷_}
-use mathlib.Core.Option.{Option, none}
+use mathlib.Core.Path.{_≡_, refl, sym, ap, _∙_}
+use mathlib.Core.List.{List, [], _∷_, _++_, append-assoc}
+use mathlib.Core.Option.{none}
 use lib.ListN.{length, drop}
 use borrow.Author.Tests.{lt-ltb, le-ltb}
-use Rattle.rules.specs.Session.{Line, words, anyEmpty, lineOf, parsed}
+use Rattle.rules.specs.Session.{space, words, anyEmpty, lineOf, parsed}
 use Rattle.line.specs.declared.Cut.{Cut}
 use Rattle.line.specs.declared.Cut.the-variants.{Two, Three, Five, Other}
-use Rattle.line.specs.Fields.{Ends, between, formed, twoAt, threeAt, fiveAt, Cuts}
-use Rattle.line.proofs.Fields.{first-field, field-more, field-last}
-
--- fields of no form, whether or not one is empty
-formless : (t : Bool) → cond {A = Option Line} t none none ≡ none
-formless true = refl
-formless false = refl
+use Rattle.line.specs.Fields.{Ends, formed, twoAt, threeAt, fiveAt, Cuts}
+use Rattle.path.specs.Steps.{between}
+use Rattle.path.proofs.Words.{first-part}
+use Rattle.line.proofs.Fields.{field-more, field-last}
+use Rattle.line.proofs.Formed.{either-none}
 
 module _ (s : List ℕ) where
   too-long : 8192 < length s → parsed s ≡ none
@@ -27,88 +24,87 @@ module _ (s : List ℕ) where
   unfolding parsed formed
   short h = rw (le-ltb 8192 (length s) h)
 
-  by-fields : (ws : List (List ℕ)) → length s ≤ 8192 → words s ≡ ws → parsed s ≡ formed ws
-  by-fields ws h e = short h ∙ ap formed e
-
 none-one : (v : List ℕ) → formed (v ∷ []) ≡ none
 unfolding formed lineOf
-none-one v = formless (anyEmpty (v ∷ []))
+none-one v = either-none (anyEmpty (v ∷ []))
 
 none-four : (v a b c : List ℕ) → formed (v ∷ a ∷ b ∷ c ∷ []) ≡ none
 unfolding formed lineOf
-none-four v a b c = formless (anyEmpty (v ∷ a ∷ b ∷ c ∷ []))
+none-four v a b c = either-none (anyEmpty (v ∷ a ∷ b ∷ c ∷ []))
 
 none-six : (v a b c d e : List ℕ) (ws : List (List ℕ)) → formed (v ∷ a ∷ b ∷ c ∷ d ∷ e ∷ ws) ≡ none
 unfolding formed lineOf
-none-six v a b c d e ws = formless (anyEmpty (v ∷ a ∷ b ∷ c ∷ d ∷ e ∷ ws))
+none-six v a b c d e ws = either-none (anyEmpty (v ∷ a ∷ b ∷ c ∷ d ∷ e ∷ ws))
 
 pub long : (s : List ℕ) → 8192 < length s → Cuts s Other
 unfolding Cuts
 long s h = too-long s h
 
-module _ (s : List ℕ) (h : length s ≤ 8192) (a : ℕ) (ea : Ends s 0 a) where
-  pub one : a ≡ length s → Cuts s Other
+-- a line up to a place: it is not too long, and these are its fields before the place, each with a space behind it
+pub record Before (s : List ℕ) (i : ℕ) (ws : List (List ℕ)) : Type 0 where
+  pub small : length s ≤ 8192
+  pub fields : words s ≡ ws ++ words (drop i s)
+
+-- the fields by the places of their spaces
+abbrev pub w₁ : List ℕ → ℕ → List (List ℕ)
+w₁ s a = between s 0 a ∷ []
+
+abbrev pub w₂ : List ℕ → ℕ → ℕ → List (List ℕ)
+w₂ s a b = between s 0 a ∷ between s (a + 1) b ∷ []
+
+abbrev pub w₃ : List ℕ → ℕ → ℕ → ℕ → List (List ℕ)
+w₃ s a b c = between s 0 a ∷ between s (a + 1) b ∷ between s (b + 1) c ∷ []
+
+abbrev pub w₄ : List ℕ → ℕ → ℕ → ℕ → ℕ → List (List ℕ)
+w₄ s a b c d = between s 0 a ∷ between s (a + 1) b ∷ between s (b + 1) c ∷ between s (c + 1) d ∷ []
+
+module _ (s : List ℕ) where
+  pub start : length s ≤ 8192 → Before s 0 []
+  start h = record { small = h; fields = refl }
+
+  module _ (i e : ℕ) (ws : List (List ℕ)) (b : Before s i ws) (f : Ends s i e) where
+    -- one field more
+    pub onward : (e ≡ length s → ⊥) → Before s (e + 1) (ws ++ (between s i e ∷ []))
+    onward h = record {
+      small = b .small;
+      fields =
+          b .fields
+          ∙ (ap (λ (r : List (List ℕ)). ws ++ r) (field-more s i e f h) ∙ sym (append-assoc ws (between s i e ∷ []) (words (drop (e + 1) s))));
+    }
+
+    -- the last one
+    ending : e ≡ length s → parsed s ≡ formed (ws ++ (between s i (length s) ∷ []))
+    ending h = short s (b .small) ∙ ap formed (b .fields ∙ ap (λ (r : List (List ℕ)). ws ++ r) (field-last s i e f h))
+
+  -- one field, four, or more than five: no form
+  pub one : (e : ℕ) → Before s 0 [] → Ends s 0 e → e ≡ length s → Cuts s Other
   unfolding Cuts
-  one e = by-fields s _ h (field-last s 0 a ea e) ∙ none-one _
+  one e p f h = ending 0 e [] p f h ∙ none-one _
 
-  module _ (na : a ≡ length s → ⊥) (b : ℕ) (eb : Ends s (a + 1) b) where
-    pub two : b ≡ length s → Cuts s (Two a)
-    unfolding Cuts twoAt
-    two e = (
-      omega (arith, ea .within),
-      by-fields s _ h (field-more s 0 a ea na ∙ ap (λ (ws : List (List ℕ)). between s 0 a ∷ ws) (field-last s (a + 1) b eb e)),
-    )
+  pub four : (v x y : List ℕ) (i e : ℕ) → Before s i (v ∷ x ∷ y ∷ []) → Ends s i e → e ≡ length s → Cuts s Other
+  unfolding Cuts
+  four v x y i e p f h = ending i e (v ∷ x ∷ y ∷ []) p f h ∙ none-four _ _ _ _
 
-    module _ (nb : b ≡ length s → ⊥) (c : ℕ) (ec : Ends s (b + 1) c) where
-      first-two : words s ≡ between s 0 a ∷ between s (a + 1) b ∷ words (drop (b + 1) s)
-      first-two = field-more s 0 a ea na ∙ ap (λ (ws : List (List ℕ)). between s 0 a ∷ ws) (field-more s (a + 1) b eb nb)
+  pub six : (v x y z : List ℕ) (i e : ℕ) → Before s i (v ∷ x ∷ y ∷ z ∷ []) → Ends s i e → (e ≡ length s → ⊥) → Cuts s Other
+  unfolding Cuts
+  six v x y z i e p f h =
+      let q = onward i e (v ∷ x ∷ y ∷ z ∷ []) p f h in
+      short s (p .small) ∙ (ap formed (q .fields ∙ ap (λ (r : List (List ℕ)). v ∷ x ∷ y ∷ z ∷ between s i e ∷ r) (first-part space (drop (e + 1) s))) ∙ none-six _ _ _ _ _ _ _)
 
-      pub three : c ≡ length s → Cuts s (Three a b)
-      unfolding Cuts threeAt
-      three e = (
-        omega (arith, eb .from),
-        (
-          omega (arith, eb .within),
-          by-fields s _ h (first-two ∙ ap (λ (ws : List (List ℕ)). between s 0 a ∷ between s (a + 1) b ∷ ws) (field-last s (b + 1) c ec e)),
-        ),
-      )
+  -- two, three or five: by the places of the spaces
+  pub two : (a e : ℕ) → Before s (a + 1) (w₁ s a) → Ends s (a + 1) e → e ≡ length s → Cuts s (Two a)
+  unfolding Cuts twoAt
+  two a e p f h = (omega (arith, f .from, f .within), ending (a + 1) e (w₁ s a) p f h)
 
-      module _ (nc : c ≡ length s → ⊥) (d : ℕ) (ed : Ends s (c + 1) d) where
-        first-three : words s ≡ between s 0 a ∷ between s (a + 1) b ∷ between s (b + 1) c ∷ words (drop (c + 1) s)
-        first-three = first-two ∙ ap (λ (ws : List (List ℕ)). between s 0 a ∷ between s (a + 1) b ∷ ws) (field-more s (b + 1) c ec nc)
+  module _ (a b : ℕ) (eb : Ends s (a + 1) b) where
+    pub three : (e : ℕ) → Before s (b + 1) (w₂ s a b) → Ends s (b + 1) e → e ≡ length s → Cuts s (Three a b)
+    unfolding Cuts threeAt
+    three e p f h = (omega (arith, eb .from), (omega (arith, f .from, f .within), ending (b + 1) e (w₂ s a b) p f h))
 
-        pub four : d ≡ length s → Cuts s Other
-        unfolding Cuts
-        four e =
-            by-fields s _ h (first-three ∙ ap (λ (ws : List (List ℕ)). between s 0 a ∷ between s (a + 1) b ∷ between s (b + 1) c ∷ ws) (field-last s (c + 1) d ed e))
-            ∙ none-four _ _ _ _
-
-        module _ (nd : d ≡ length s → ⊥) (f : ℕ) (ef : Ends s (d + 1) f) where
-          first-four : words s ≡ between s 0 a ∷ between s (a + 1) b ∷ between s (b + 1) c ∷ between s (c + 1) d ∷ words (drop (d + 1) s)
-          first-four = first-three ∙ ap (λ (ws : List (List ℕ)). between s 0 a ∷ between s (a + 1) b ∷ between s (b + 1) c ∷ ws) (field-more s (c + 1) d ed nd)
-
-          pub five : f ≡ length s → Cuts s (Five a b c d)
-          unfolding Cuts fiveAt
-          five e = (
-            omega (arith, eb .from),
-            (
-              omega (arith, ec .from),
-              (
-                omega (arith, ed .from),
-                (
-                  omega (arith, ed .within),
-                  by-fields s _ h (first-four ∙ ap (λ (ws : List (List ℕ)). between s 0 a ∷ between s (a + 1) b ∷ between s (b + 1) c ∷ between s (c + 1) d ∷ ws) (field-last s (d + 1) f ef e)),
-                ),
-              ),
-            ),
-          )
-
-          pub six : (f ≡ length s → ⊥) → Cuts s Other
-          unfolding Cuts
-          six nf =
-              by-fields s _ h (first-four ∙ ap (λ (ws : List (List ℕ)). between s 0 a ∷ between s (a + 1) b ∷ between s (b + 1) c ∷ between s (c + 1) d ∷ ws)
-              (field-more s (d + 1) f ef nf ∙ ap (λ (ws : List (List ℕ)). between s (d + 1) f ∷ ws) (first-field (drop (f + 1) s))))
-              ∙ none-six _ _ _ _ _ _ _
+    pub five : (c d e : ℕ) → Ends s (b + 1) c → Ends s (c + 1) d → Before s (d + 1) (w₄ s a b c d) → Ends s (d + 1) e → e ≡ length s → Cuts s (Five a b c d)
+    unfolding Cuts fiveAt
+    five c d e ec ed p f h =
+        (omega (arith, eb .from), (omega (arith, ec .from), (omega (arith, ed .from), (omega (arith, f .from, f .within), ending (d + 1) e (w₄ s a b c d) p f h))))
 
 -- ---- the places, and the line
 

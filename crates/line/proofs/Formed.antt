@@ -44,7 +44,8 @@ or-true : (t : Bool) → (t || true) ≡ true
 or-true true = refl
 or-true false = refl
 
-either-none : (t : Bool) → cond {A = Option Line} t none none ≡ none
+-- fields of no form, whether or not one is empty
+pub either-none : (t : Bool) → cond {A = Option Line} t none none ≡ none
 either-none true = refl
 either-none false = refl
 

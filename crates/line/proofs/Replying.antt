@@ -6,6 +6,7 @@ use mathlib.Core.List.{List, [], _∷_}
 use mathlib.Core.Option.{Option, none, some}
 use lib.Dec.{lit≤}
 use lib.ListN.{length}
+use borrow.Author.Tests.{not-true, not-false}
 use Rattle.rules.specs.Bytes.{same, ascii}
 use Rattle.rules.specs.Instance.{Instance}
 use Rattle.rules.specs.Outcome.{Answer, nothing, mounted, restored, unmounted, walked, rootfs, toTree, toBackend, entry, ids, wrote, settings, truth, Outcome}
@@ -22,9 +23,10 @@ use Rattle.decimal.specs.declared.Number.the-variants.{Value, Bad}
 use Rattle.decimal.proofs.Texts.{wrote-wider}
 use Rattle.line.specs.declared.forms.Request.{Request}
 use Rattle.line.specs.declared.forms.Request.the-variants.{Numbers, Bad as BadRequest}
-use Rattle.line.specs.Reply.{smallText, lineText, lineMem, replyText, replyMem, Replies, Answered}
+use Rattle.line_calls.specs.Answered.{smallText, lineText, lineMem, Answered}
+use Rattle.line.specs.Reply.{replyText, replyMem, Replies}
 use Rattle.line.specs.Fields.{formed, requestFrom}
-use Rattle.line.proofs.Writes.{wrote-as}
+use Rattle.line_text.proofs.Writes.{wrote-as}
 use Rattle.line.proofs.Verbs.{of-64}
 use Rattle.line.proofs.Formed.{two-empty, two-umount, two-walk, two-other, three-empty, three-other, three-bad, three-look, five-empty, five-other, five-bad, five-mount}
 
@@ -84,14 +86,6 @@ look-word = 108 ∷ 111 ∷ 111 ∷ 107 ∷ []
 
 abbrev mount-word : List ℕ
 mount-word = 109 ∷ 111 ∷ 117 ∷ 110 ∷ 116 ∷ []
-
-not-true : (b : Bool) → not b ≡ true → b ≡ false
-not-true true e = sym e
-not-true false e = refl
-
-not-false : (b : Bool) → not b ≡ false → b ≡ true
-not-false true e = refl
-not-false false e = sym e
 
 module _ (mem was left : List ℕ) (at r : ℕ) where
   by-line : (l k : Option Line) (after : List ℕ) → k ≡ l → Answered mem l was at r left after → Answered mem k was at r left after

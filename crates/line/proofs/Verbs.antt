@@ -1,15 +1,16 @@
 -- Laws of the words of a line, and of its numbers.
-use Prim.Native.Nat.{ℕ, suc, _+_, _-_, _≤_, _<_}
+use Prim.Native.Nat.{ℕ, _≤_}
 use native.Mathlib.Omega.{arith}
-use mathlib.Core.Path.{_≡_, refl, sym, ap, _∙_}
+use mathlib.Core.Path.{_≡_, refl, sym, ap, ap₂, _∙_}
 use mathlib.Core.Bool.{Bool, true, false, cond, not, _&&_}
-use mathlib.Core.List.{List, [], _∷_}
+use mathlib.Core.List.{List, []}
 use mathlib.Core.Option.{none, some}
-use lib.ListN.{length, getD, drop, drop-of-length-le}
-use lib.Dec.{eqb, leb}
-use borrow.Author.Tests.{eq-eqb, ne-eqb, leb-true}
-use Rattle.path.proofs.Places.{here}
+use lib.ListN.{length}
+use lib.Dec.{leb}
+use borrow.Author.Tests.{leb-true}
 use Rattle.rules.specs.Bytes.{same}
+use Rattle.rules.specs.Fields.{read}
+use Rattle.rules.proofs.Fields.{read-all}
 use Rattle.rules.specs.Session.{allDigits, spelt, number}
 use Rattle.decimal.specs.Read.{valueIn, numberTo}
 use Rattle.decimal.specs.declared.Number.{Number}
@@ -20,38 +21,9 @@ use Rattle.line.specs.Fields.{requestFrom}
 
 -- ---- words
 
-pub same-nil : same [] [] ≡ true
-unfolding same
-same-nil = refl
-
-same-cons : (x y : ℕ) (xs ys : List ℕ) → same (x ∷ xs) (y ∷ ys) ≡ (eqb x y && same xs ys)
-unfolding same
-same-cons x y xs ys = refl
-
--- of two lengths
-pub other-length : (s w : List ℕ) → (length s ≡ length w → ⊥) → false ≡ same s w
-unfolding same
-other-length [] [] h = absurd (h refl)
-other-length [] (y ∷ ys) h = refl
-other-length (x ∷ xs) [] h = refl
-other-length (x ∷ xs) (y ∷ ys) h = go (eqb x y) (other-length xs ys (λ (e : length xs ≡ length ys). h (ap suc e)))
-  where
-    go : (t : Bool) → false ≡ same xs ys → false ≡ (t && same xs ys)
-    go true e = e
-    go false e = refl
-
-module _ (s w : List ℕ) (i : ℕ) (h : i < length s) (k : i < length w) where
-  at-place : same (drop i s) (drop i w) ≡ (eqb (getD s i 0) (getD w i 0) && same (drop (i + 1) s) (drop (i + 1) w))
-  at-place = rw (here s i h, here w i k) (same-cons (getD s i 0) (getD w i 0) (drop (i + 1) s) (drop (i + 1) w))
-
-  pub word-other : (getD s i 0 ≡ getD w i 0 → ⊥) → same (drop i s) (drop i w) ≡ false
-  word-other e = at-place ∙ rw (ne-eqb (getD s i 0) (getD w i 0) e)
-
-  pub word-more : getD s i 0 ≡ getD w i 0 → same (drop i s) (drop i w) ≡ same (drop (i + 1) s) (drop (i + 1) w)
-  word-more e = at-place ∙ rw (eq-eqb (getD s i 0) (getD w i 0) e)
-
-pub word-end : (s w : List ℕ) (i : ℕ) → length s ≤ i → length w ≤ i → same (drop i s) (drop i w) ≡ true
-word-end s w i h k = rw (drop-of-length-le s h, drop-of-length-le w k) same-nil
+-- all bytes of two words of one length
+pub all-bytes : (s w : List ℕ) → length s ≡ length w → same (read s 0 (length s)) (read w 0 (length s)) ≡ same s w
+all-bytes s w e = ap₂ same (read-all s) (ap (read w 0) e ∙ read-all w)
 
 -- ---- numbers
 

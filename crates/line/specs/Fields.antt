@@ -1,37 +1,26 @@
 -- A line cut into its fields, by the places of its spaces.
-use Prim.Native.Nat.{ℕ, _+_, _-_, _≤_, _<_}
+use Prim.Native.Nat.{ℕ, _+_, _≤_, _<_}
 use mathlib.Core.Bool.{cond}
 use mathlib.Core.List.{List, [], _∷_}
 use mathlib.Core.Option.{Option, none, some}
 use mathlib.Core.Path.{_≡_}
-use lib.ListN.{length, take, drop}
-use Rattle.rules.specs.Session.{Line, words, anyEmpty, lineOf, parsed}
+use lib.ListN.{length}
+use Rattle.rules.specs.Session.{space, Line, anyEmpty, lineOf, parsed}
+use Rattle.path.specs.Steps.{between, partEnd}
 use Rattle.line.specs.declared.Cut.{Cut}
 use Rattle.line.specs.declared.Cut.the-variants.{Two, Three, Five, Other}
 use Rattle.line.specs.declared.forms.Request.{Request}
 use Rattle.line.specs.declared.forms.Request.the-variants.{Numbers, Bad}
 
-abbrev pub firstLength : List (List ℕ) → ℕ
-firstLength [] = 0
-firstLength (w ∷ ws) = length w
-
--- how many bytes stand before the next space
-unfoldable pub fieldLength : List ℕ → ℕ
-fieldLength s = firstLength (words s)
-
 -- where the field that stands at a place ends
-unfoldable pub fieldEnd : List ℕ → ℕ → ℕ
-fieldEnd s at = at + fieldLength (drop at s)
+abbrev pub fieldEnd : List ℕ → ℕ → ℕ
+fieldEnd s at = partEnd space s at
 
 -- a field's end is behind its start and within the line
 pub record Ends (s : List ℕ) (at r : ℕ) : Type 0 where
   pub end : r ≡ fieldEnd s at
   pub from : at ≤ r
   pub within : r ≤ length s
-
--- the bytes of s from one place to another
-abbrev pub between : List ℕ → ℕ → ℕ → List ℕ
-between s at end = take (end - at) (drop at s)
 
 -- a line of these fields (R138 to R141, R145, R146)
 unfoldable pub formed : List (List ℕ) → Option Line

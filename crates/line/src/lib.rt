@@ -2,11 +2,11 @@
 ghost use mathlib.Core.Path.{_≡_};
 ghost use Prim.Native.Nat.{_+_, _≤_, _<_};
 ghost use lib.ListN.{length};
-ghost use Rattle.line.specs.Reply.{Replies, Answered};
+ghost use Rattle.line_calls.specs.Answered.{Answered};
+ghost use Rattle.line.specs.Reply.{Replies};
 ghost use Rattle.line.specs.Fields.{Ends, Cuts, twoAt, threeAt, fiveAt};
 
 pub mod forms;
-pub mod text;
 
 // The places of a line's spaces, where it has two, three or five fields.
 enum Cut {
@@ -31,14 +31,7 @@ fn field_end(line: &[u8], at: usize) -> usize
     requires { ⌜ at ≤ length (now line) ⌝ }
     ensures { λ r. ⌜ Ends (now (line .entry)) at r ⌝ }
 {
-    let mut i = at;
-    while i < line.len() {
-        if line[i] == b' ' {
-            return i;
-        }
-        i += 1;
-    }
-    i
+    path::components::part_end(line, at, b' ')
 }
 
 // Where the line is cut; a line over 8,192 bytes, or of another number of fields, has no form (R145, R146, R150).
@@ -136,6 +129,6 @@ pub fn answer(s: &mut [u8], line: &[u8], out: &mut [u8], at: usize) -> usize
         Cut::Two { a } => at_two(s, line, a, out, at),
         Cut::Three { a, b } => at_three(s, line, a, b, out, at),
         Cut::Five { a, b, c, d } => at_five(s, line, a, b, c, d, out, at),
-        Cut::Other => text::put_question(out, at),
+        Cut::Other => line_text::put_question(out, at),
     }
 }

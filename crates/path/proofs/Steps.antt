@@ -10,31 +10,31 @@ use lib.ListN.{length, getD, take, drop, drop-of-length-le, length-drop}
 use lib.Seq.{drop-drop, length-take-le}
 use lib.Dec.{eqb}
 use Rattle.rules.specs.Bytes.{same}
-use Rattle.rules.specs.Path.{slash, dot, isDot, isDots, Part, name, parent, onto, pieces, sorted, kept, components}
+use Rattle.rules.specs.Path.{slash, dot, isDot, isDots, Part, name, parent, onto, partsBy, pieces, sorted, kept, components}
 use Rattle.path.specs.declared.components.Component.{Component}
 use Rattle.path.specs.declared.components.Component.the-variants.{Name, Parent, End}
 use Rattle.path.specs.Steps.{part, between, wordLength, wordEnd, stepOf, nextAt, onStep, stepped}
 use Rattle.path.proofs.Places.{here, between-length}
 use Rattle.path.proofs.Naming.{same-eq, same-length}
-use Rattle.path.proofs.Words.{word-nil, word-cons, word-le, end-length, behind, first-piece}
+use Rattle.path.proofs.Words.{part-nil, part-cons, part-le, end-length, behind, first-part}
 
 -- ---- the components: what the first part is, and those from its end on
 
-rest-kept : (k : ℕ) (s : List ℕ) → kept (k + 1) (behind (drop (wordLength s) s)) ≡ components k (drop (wordLength s) s)
-unfolding components sorted kept pieces same
-rest-kept k [] = rw word-nil
-rest-kept k (b ∷ s) = rw (word-cons b s) (go (eqb b slash) refl (rest-kept k s))
+rest-kept : (k : ℕ) (s : List ℕ) → kept (k + 1) (behind slash (drop (wordLength s) s)) ≡ components k (drop (wordLength s) s)
+unfolding components sorted kept partsBy same
+rest-kept k [] = rw (part-nil slash)
+rest-kept k (b ∷ s) = rw (part-cons slash b s) (go (eqb b slash) refl (rest-kept k s))
   where
-    go : (t : Bool) → eqb b slash ≡ t → kept (k + 1) (behind (drop (wordLength s) s)) ≡ components k (drop (wordLength s) s)
-        → kept (k + 1) (behind (drop (cond t 0 (suc (wordLength s))) (b ∷ s))) ≡ components k (drop (cond t 0 (suc (wordLength s))) (b ∷ s))
+    go : (t : Bool) → eqb b slash ≡ t → kept (k + 1) (behind slash (drop (wordLength s) s)) ≡ components k (drop (wordLength s) s)
+        → kept (k + 1) (behind slash (drop (cond t 0 (suc (wordLength s))) (b ∷ s))) ≡ components k (drop (cond t 0 (suc (wordLength s))) (b ∷ s))
     go true q e = rw (q, add-zero)
     go false q e = e
 
-first-part : (at : ℕ) (s : List ℕ) → components at s ≡ sorted at (take (wordLength s) s) (components (at + wordLength s) (drop (wordLength s) s))
+first-sorted : (at : ℕ) (s : List ℕ) → components at s ≡ sorted at (take (wordLength s) s) (components (at + wordLength s) (drop (wordLength s) s))
 unfolding components kept
-first-part at s =
-    let e = length-take-le (wordLength s) s (word-le s) in
-    rw (first-piece s, e) (ap (sorted at (take (wordLength s) s)) (rest-kept (at + wordLength s) s))
+first-sorted at s =
+    let e = length-take-le (wordLength s) s (part-le slash s) in
+    rw (first-part slash s, e) (ap (sorted at (take (wordLength s) s)) (rest-kept (at + wordLength s) s))
 
 module _ (s : List ℕ) (at : ℕ) where
   -- the part that stands at a place
@@ -42,21 +42,21 @@ module _ (s : List ℕ) (at : ℕ) where
   word = part s at (wordLength (drop at s))
 
   pub word-length : length word ≡ wordLength (drop at s)
-  word-length = length-take-le (wordLength (drop at s)) (drop at s) (word-le (drop at s))
+  word-length = length-take-le (wordLength (drop at s)) (drop at s) (part-le slash (drop at s))
 
   pub word-between : {end : ℕ} → end ≡ wordEnd s at → between s at end ≡ word
-  word-between e = rw (e, end-length s at)
+  word-between e = rw (e, end-length slash s at)
 
   -- the components from its end on
   abbrev after : List Part
   after = components (at + wordLength (drop at s)) (drop (at + wordLength (drop at s)) s)
 
   part-first : components at (drop at s) ≡ sorted at word after
-  part-first = rw (← drop-drop (wordLength (drop at s)) at s) (first-part at (drop at s))
+  part-first = rw (← drop-drop (wordLength (drop at s)) at s) (first-sorted at (drop at s))
 
   slash-first : at < length s → wordLength (drop at s) ≡ 0 → components at (drop at s) ≡ components (at + 1) (drop (at + 1) s)
-  unfolding components sorted kept pieces same
-  slash-first h e = rw (here s at h) (go (eqb (getD s at 0) slash) refl (sym (word-cons (getD s at 0) (drop (at + 1) s)) ∙ rw (here s at h) at e))
+  unfolding components sorted kept partsBy same
+  slash-first h e = rw (here s at h) (go (eqb (getD s at 0) slash) refl (sym (part-cons slash (getD s at 0) (drop (at + 1) s)) ∙ rw (here s at h) at e))
     where
       go : (t : Bool) → eqb (getD s at 0) slash ≡ t → cond t 0 (suc (wordLength (drop (at + 1) s))) ≡ 0
           → kept at (cond t ([] ∷ pieces (drop (at + 1) s)) (onto (getD s at 0) (pieces (drop (at + 1) s)))) ≡ kept (at + 1) (pieces (drop (at + 1) s))
@@ -155,7 +155,7 @@ module _ (s : List ℕ) (i : ℕ) (h : i < length s) where
     next-name e = found (λ z. absurd (let f : _≡_ {A = ℕ} 0 1 = cc told in omega arith)) ∙ sym told
 
 pub next-end : (s : List ℕ) (i : ℕ) → length s ≤ i → nextAt s i ≡ End
-unfolding nextAt stepOf components kept sorted pieces same
+unfolding nextAt stepOf components kept sorted partsBy same
 next-end s i h = rw (drop-of-length-le s h)
 
 -- ---- the theorem: each answer is a step along the components
@@ -189,7 +189,7 @@ module _ (s : List ℕ) (at : ℕ) (h : at < length s) where
   step-here g = go (sort (word s at))
     where
       fits : at + wordLength (drop at s) ≤ length s
-      fits = omega (arith, word-le (drop at s), length-drop at s)
+      fits = omega (arith, part-le slash (drop at s), length-drop at s)
 
       by : (ps : List Part) → components at (drop at s) ≡ ps → Step s at (stepOf ps) → Step s at (nextAt s at)
       by ps e p = subst (λ (ps : List Part). Step s at (stepOf ps)) (sym e) p
@@ -211,7 +211,7 @@ module _ (s : List ℕ) (at : ℕ) (h : at < length s) where
           (rw n (record { parts = e; from = omega arith; some = omega arith; end = refl; further = omega arith; within = fits }))
 
 steps-by : (k : ℕ) (s : List ℕ) (at : ℕ) → length s ≤ at + k → Step s at (nextAt s at)
-unfolding components kept pieces sorted same
+unfolding components kept partsBy sorted same
 steps-by zero s at h =
     let l : length s ≤ at = omega arith in
     rw (next-end s at l, drop-of-length-le s l)
@@ -233,7 +233,7 @@ step-of s at e f = subst (Step s at) (sym e ∙ f) (steps s at)
 -- ---- the theorem: stepping through a path yields its components
 
 pub stepped-from : (k : ℕ) (s : List ℕ) (at : ℕ) → length s < at + k → stepped k s at ≡ components at (drop at s)
-unfolding components kept pieces sorted same
+unfolding components kept partsBy sorted same
 stepped-from zero s at h = let l : length s ≤ at = omega arith in rw (drop-of-length-le s l)
 stepped-from (suc k) s at h = go (nextAt s at) (steps s at) (λ (next : ℕ) (l : at < next). stepped-from k s next (omega arith))
   where

@@ -1,4 +1,4 @@
--- Laws of the parts between slashes: where a part ends, what the pieces are from a place on, and the limits. Assumes nothing.
+-- Laws of the parts between one byte, whatever it is: where a part ends, and what the parts are; and of the limits. Assumes nothing.
 use mathlib.Core.Path.{_≡_, refl, _∙_}
 use mathlib.Core.Bool.{Bool, true, false, cond, _||_}
 use mathlib.Core.List.{List, [], _∷_}
@@ -9,80 +9,81 @@ use lib.ListN.{length, getD, take, drop, drop-of-length-le, length-drop}
 use lib.Seq.{drop-drop, length-take-le}
 use lib.Dec.{eqb, ltb}
 use borrow.Author.Tests.{eq-eqb, ne-eqb, lt-ltb, le-ltb}
-use Rattle.rules.specs.Path.{slash, onto, pieces, rooted, anyLonger, tooLong}
-use Rattle.path.specs.Steps.{firstLength, wordLength, wordEnd}
+use Rattle.rules.specs.Path.{slash, onto, partsBy, pieces, rooted, anyLonger, tooLong}
+use Rattle.path.specs.Steps.{firstLength, partLength, partEnd, wordLength, wordEnd}
 use Rattle.path.proofs.Places.{here}
 
--- ---- how many bytes stand before the next slash
+module _ (sep : ℕ) where
+  -- ---- how many bytes stand before the next one that parts
 
-pub word-nil : wordLength [] ≡ 0
-unfolding wordLength pieces
-word-nil = refl
+  pub part-nil : partLength sep [] ≡ 0
+  unfolding partLength partsBy
+  part-nil = refl
 
-pub word-cons : (b : ℕ) (s : List ℕ) → wordLength (b ∷ s) ≡ cond (eqb b slash) 0 (suc (wordLength s))
-unfolding wordLength pieces
-word-cons b s = go (eqb b slash) (pieces s)
-  where
-    go : (t : Bool) (ps : List (List ℕ)) → firstLength (cond t ([] ∷ ps) (onto b ps)) ≡ cond t 0 (suc (firstLength ps))
-    go true ps = refl
-    go false [] = refl
-    go false (p ∷ ps) = refl
+  pub part-cons : (b : ℕ) (s : List ℕ) → partLength sep (b ∷ s) ≡ cond (eqb b sep) 0 (suc (partLength sep s))
+  unfolding partLength partsBy
+  part-cons b s = go (eqb b sep) (partsBy sep s)
+    where
+      go : (t : Bool) (ps : List (List ℕ)) → firstLength (cond t ([] ∷ ps) (onto b ps)) ≡ cond t 0 (suc (firstLength ps))
+      go true ps = refl
+      go false [] = refl
+      go false (p ∷ ps) = refl
 
-pub word-le : (s : List ℕ) → wordLength s ≤ length s
-word-le [] = rw word-nil zero-le
-word-le (b ∷ s) = rw (word-cons b s) (go (eqb b slash) (word-le s))
-  where
-    go : (t : Bool) → wordLength s ≤ length s → cond t 0 (suc (wordLength s)) ≤ suc (length s)
-    go true h = zero-le
-    go false h = suc-le-suc h
+  pub part-le : (s : List ℕ) → partLength sep s ≤ length s
+  part-le [] = rw part-nil zero-le
+  part-le (b ∷ s) = rw (part-cons b s) (go (eqb b sep) (part-le s))
+    where
+      go : (t : Bool) → partLength sep s ≤ length s → cond t 0 (suc (partLength sep s)) ≤ suc (length s)
+      go true h = zero-le
+      go false h = suc-le-suc h
 
-module _ (s : List ℕ) (i : ℕ) where
-  pub end-past : length s ≤ i → wordEnd s i ≡ i
-  unfolding wordEnd
-  end-past h = rw (drop-of-length-le s h, word-nil, add-zero)
+  module _ (s : List ℕ) (i : ℕ) where
+    pub end-past : length s ≤ i → partEnd sep s i ≡ i
+    unfolding partEnd
+    end-past h = rw (drop-of-length-le s h, part-nil, add-zero)
 
-  pub end-slash : i < length s → getD s i 0 ≡ slash → wordEnd s i ≡ i
-  unfolding wordEnd
-  end-slash h e = rw (here s i h, word-cons (getD s i 0) (drop (i + 1) s), eq-eqb (getD s i 0) slash e, add-zero)
+    pub end-here : i < length s → getD s i 0 ≡ sep → partEnd sep s i ≡ i
+    unfolding partEnd
+    end-here h e = rw (here s i h, part-cons (getD s i 0) (drop (i + 1) s), eq-eqb (getD s i 0) sep e, add-zero)
 
-  pub end-more : i < length s → (getD s i 0 ≡ slash → ⊥) → wordEnd s i ≡ wordEnd s (i + 1)
-  unfolding wordEnd
-  end-more h e = rw (here s i h, word-cons (getD s i 0) (drop (i + 1) s), ne-eqb (getD s i 0) slash e) (omega arith)
+    pub end-more : i < length s → (getD s i 0 ≡ sep → ⊥) → partEnd sep s i ≡ partEnd sep s (i + 1)
+    unfolding partEnd
+    end-more h e = rw (here s i h, part-cons (getD s i 0) (drop (i + 1) s), ne-eqb (getD s i 0) sep e) (omega arith)
 
-  pub end-from : i ≤ wordEnd s i
-  unfolding wordEnd
-  end-from = omega arith
+    pub end-from : i ≤ partEnd sep s i
+    unfolding partEnd
+    end-from = omega arith
 
-  pub end-within : i ≤ length s → wordEnd s i ≤ length s
-  unfolding wordEnd
-  end-within h = omega (arith, word-le (drop i s), length-drop i s)
+    pub end-within : i ≤ length s → partEnd sep s i ≤ length s
+    unfolding partEnd
+    end-within h = omega (arith, part-le (drop i s), length-drop i s)
 
-  pub end-length : wordEnd s i - i ≡ wordLength (drop i s)
-  unfolding wordEnd
-  end-length = add-sub-cancel-left i (wordLength (drop i s))
+    pub end-length : partEnd sep s i - i ≡ partLength sep (drop i s)
+    unfolding partEnd
+    end-length = add-sub-cancel-left i (partLength sep (drop i s))
 
-  -- the bytes behind the slash that ends the part
-  behind-end : drop (wordLength (drop i s) + 1) (drop i s) ≡ drop (wordEnd s i + 1) s
-  unfolding wordEnd
-  behind-end =
-      let e : i + (wordLength (drop i s) + 1) ≡ i + wordLength (drop i s) + 1 = omega arith in
-      rw (drop-drop (wordLength (drop i s) + 1) i s, e)
+    -- the bytes behind the one that ends the part
+    behind-end : drop (partLength sep (drop i s) + 1) (drop i s) ≡ drop (partEnd sep s i + 1) s
+    unfolding partEnd
+    behind-end =
+        let e : i + (partLength sep (drop i s) + 1) ≡ i + partLength sep (drop i s) + 1 = omega arith in
+        rw (drop-drop (partLength sep (drop i s) + 1) i s, e)
 
--- ---- the first piece, and those behind its slash
+  -- ---- the first part, and those behind its end
 
-abbrev pub behind : List ℕ → List (List ℕ)
-behind [] = []
-behind (b ∷ s) = pieces s
+  abbrev pub behind : List ℕ → List (List ℕ)
+  behind [] = []
+  behind (b ∷ s) = partsBy sep s
 
-pub first-piece : (s : List ℕ) → pieces s ≡ take (wordLength s) s ∷ behind (drop (wordLength s) s)
-unfolding pieces
-first-piece [] = rw word-nil
-first-piece (b ∷ s) = rw (word-cons b s) (go (eqb b slash) (first-piece s))
-  where
-    go : (t : Bool) → pieces s ≡ take (wordLength s) s ∷ behind (drop (wordLength s) s)
-        → cond t ([] ∷ pieces s) (onto b (pieces s)) ≡ take (cond t 0 (suc (wordLength s))) (b ∷ s) ∷ behind (drop (cond t 0 (suc (wordLength s))) (b ∷ s))
-    go true e = refl
-    go false e = rw e
+  pub first-part : (s : List ℕ) → partsBy sep s ≡ take (partLength sep s) s ∷ behind (drop (partLength sep s) s)
+  unfolding partsBy
+  first-part [] = rw part-nil
+  first-part (b ∷ s) = rw (part-cons b s) (go (eqb b sep) (first-part s))
+    where
+      go : (t : Bool) → partsBy sep s ≡ take (partLength sep s) s ∷ behind (drop (partLength sep s) s)
+          → cond t ([] ∷ partsBy sep s) (onto b (partsBy sep s)) ≡ take (cond t 0 (suc (partLength sep s))) (b ∷ s) ∷ behind (drop (cond t 0 (suc (partLength sep s))) (b ∷ s))
+      go true e = refl
+      go false e = rw e
 
 -- ---- the leading slash
 
@@ -98,21 +99,21 @@ rooted-first (b ∷ s) h = refl
 
 -- ---- the limits
 
-longer-behind : (k : ℕ) (s : List ℕ) → anyLonger k (behind s) ≡ anyLonger k (pieces (drop 1 s))
-unfolding anyLonger pieces
+longer-behind : (k : ℕ) (s : List ℕ) → anyLonger k (behind slash s) ≡ anyLonger k (pieces (drop 1 s))
+unfolding anyLonger partsBy
 longer-behind k [] = rw (le-ltb k 0 zero-le)
 longer-behind k (b ∷ s) = refl
 
 longer-first : (k : ℕ) (s : List ℕ) → anyLonger k (pieces s) ≡ (ltb k (wordLength s) || anyLonger k (pieces (drop (wordLength s + 1) s)))
 unfolding anyLonger
-longer-first k s = rw (first-piece s, length-take-le (wordLength s) s (word-le s), longer-behind k (drop (wordLength s) s), drop-drop 1 (wordLength s) s)
+longer-first k s = rw (first-part slash s, length-take-le (wordLength s) s (part-le slash s), longer-behind k (drop (wordLength s) s), drop-drop 1 (wordLength s) s)
 
 module _ (k : ℕ) (s : List ℕ) (i : ℕ) where
   longer-at : anyLonger k (pieces (drop i s)) ≡ (ltb k (wordEnd s i - i) || anyLonger k (pieces (drop (wordEnd s i + 1) s)))
-  longer-at = rw (end-length s i, ← behind-end s i) (longer-first k (drop i s))
+  longer-at = rw (end-length slash s i, ← behind-end slash s i) (longer-first k (drop i s))
 
   pub longer-end : length s ≤ i → anyLonger k (pieces (drop i s)) ≡ false
-  unfolding anyLonger pieces
+  unfolding anyLonger partsBy
   longer-end h = rw (drop-of-length-le s h, le-ltb k 0 zero-le)
 
   pub longer-yes : k < wordEnd s i - i → anyLonger k (pieces (drop i s)) ≡ true

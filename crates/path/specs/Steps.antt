@@ -2,7 +2,7 @@
 use Prim.Native.Nat.{ℕ, zero, suc, _+_, _-_}
 use mathlib.Core.List.{List, [], _∷_}
 use lib.ListN.{length, take, drop}
-use Rattle.rules.specs.Path.{Part, name, parent, pieces, components}
+use Rattle.rules.specs.Path.{slash, Part, name, parent, partsBy, components}
 use Rattle.path.specs.declared.components.Component.{Component}
 use Rattle.path.specs.declared.components.Component.the-variants.{Name, Parent, End}
 
@@ -18,13 +18,20 @@ abbrev pub firstLength : List (List ℕ) → ℕ
 firstLength [] = 0
 firstLength (p ∷ ps) = length p
 
--- how many bytes stand before the next slash: the first part between slashes
-unfoldable pub wordLength : List ℕ → ℕ
-wordLength s = firstLength (pieces s)
+-- how many bytes stand before the next byte `sep`: the first part
+unfoldable pub partLength : ℕ → List ℕ → ℕ
+partLength sep s = firstLength (partsBy sep s)
 
 -- where the part that stands at a place ends
-unfoldable pub wordEnd : List ℕ → ℕ → ℕ
-wordEnd path at = at + wordLength (drop at path)
+unfoldable pub partEnd : ℕ → List ℕ → ℕ → ℕ
+partEnd sep s at = at + partLength sep (drop at s)
+
+-- between slashes
+abbrev pub wordLength : List ℕ → ℕ
+wordLength s = partLength slash s
+
+abbrev pub wordEnd : List ℕ → ℕ → ℕ
+wordEnd path at = partEnd slash path at
 
 -- the first of these components, with the place where it starts and the place behind it
 unfoldable pub stepOf : List Part → Component

@@ -6,7 +6,7 @@ ghost use mathlib.Core.List.{[]};
 ghost use Prim.Native.Nat.{_≤_};
 ghost use lib.ListN.{length};
 ghost use Rattle.rules.specs.Path.{sorted, rooted};
-ghost use Rattle.path.specs.Steps.{between, wordEnd, stepOf, nextAt};
+ghost use Rattle.path.specs.Steps.{between, partEnd, wordEnd, stepOf, nextAt};
 
 pub enum Component {
     Name {
@@ -31,18 +31,25 @@ pub fn is_rooted(path: &[u8]) -> bool
     path[0] == b'/'
 }
 
-// Where the bytes from `at` on meet the next slash, or end (R37).
-pub fn word_end(path: &[u8], at: usize) -> usize
-    ensures { λ r. ⌜ r ≡ wordEnd (now (path .entry)) at ⌝ }
+// Where the bytes from `at` on meet the next byte `sep`, or end (R37, R146).
+pub fn part_end(s: &[u8], at: usize, sep: u8) -> usize
+    ensures { λ r. ⌜ r ≡ partEnd sep (now (s .entry)) at ⌝ }
 {
     let mut i = at;
-    while i < path.len() {
-        if path[i] == b'/' {
+    while i < s.len() {
+        if s[i] == sep {
             return i;
         }
         i += 1;
     }
     i
+}
+
+// Where the bytes from `at` on meet the next slash, or end (R37).
+pub fn word_end(path: &[u8], at: usize) -> usize
+    ensures { λ r. ⌜ r ≡ wordEnd (now (path .entry)) at ⌝ }
+{
+    part_end(path, at, b'/')
 }
 
 // The component that the part from `at` to `end` is; End where it is dropped.

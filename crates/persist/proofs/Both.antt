@@ -18,7 +18,8 @@ use Rattle.tables.specs.View.{view}
 use Rattle.tables.specs.Rule.{laid}
 use Rattle.tables.specs.Call.{Told, toldBy, toldSmall, answeredBy}
 use Rattle.storage.proofs.Laid.{told-small, told-by}
-use Rattle.persist.specs.Restoring.{stateTold, stateMem, restoreStateMem}
+use Rattle.restore_parts.specs.Parts.{stateMem}
+use Rattle.persist.specs.Restoring.{stateTold, restoreStateMem}
 use Rattle.persist.specs.Saving.{Saves}
 use Rattle.persist.specs.Both.{Restores, Back, ComesBack, SavedAgain, Unchanged}
 use Rattle.persist.specs.declared.saving.Saved.{Saved}

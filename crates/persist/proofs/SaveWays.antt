@@ -33,7 +33,7 @@ use Rattle.row_name.proofs.Names.{name-short}
 use Rattle.persist.specs.declared.saving.Saved.{Saved}
 use Rattle.persist.specs.declared.saving.Saved.the-variants.{Wrote, Small}
 use Rattle.persist.specs.Saving.{savedTold, saving, Saves, Holds, DoneHolds, SmallLeaves, NeverLonger, Enough}
-use Rattle.persist.proofs.SaveRecords.{records}
+use Rattle.save_parts.proofs.SaveRecords.{records}
 
 -- ---- the answers are known by their meaning
 

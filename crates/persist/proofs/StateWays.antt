@@ -29,12 +29,13 @@ use Rattle.tables.proofs.Places.{nodes-count}
 use Rattle.storage.proofs.Answers.{long}
 use Rattle.storage.proofs.Calls.{does-small, does-nothing, does}
 use Rattle.saved.proofs.Accepted.{accepted-long}
-use Rattle.persist.specs.Restoring.{stateTold, loadNodes, stateMem, restoreStateMem}
+use Rattle.restore_parts.specs.Parts.{loadNodes, stateMem}
+use Rattle.persist.specs.Restoring.{stateTold, restoreStateMem}
 use Rattle.persist.specs.declared.restoring.StateRestored.{StateRestored}
 use Rattle.persist.specs.declared.restoring.StateRestored.the-variants.{Done, NotFresh, BadSave, BadOpt, NoRoom, Small}
-use Rattle.persist.proofs.Records.{count-is, next-low, next-top, all-load}
-use Rattle.persist.proofs.Loads.{AllLoaded, loads-all}
-use Rattle.persist.proofs.StateHead.{become, view-state, state-keeps}
+use Rattle.restore_parts.proofs.Records.{count-is, next-low, next-top, all-load}
+use Rattle.restore_parts.proofs.Loads.{AllLoaded, loads-all}
+use Rattle.restore_parts.proofs.StateHead.{become, view-state, state-keeps}
 
 -- ---- a fresh instance
 

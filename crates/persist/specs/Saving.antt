@@ -5,35 +5,16 @@ use mathlib.Core.Bool.{true}
 use mathlib.Core.List.{List, _++_}
 use lib.ListN.{length, drop}
 use Rattle.rules.specs.Numbers.{DONE}
-use Rattle.rules.specs.Instance.{Options, Instance}
+use Rattle.rules.specs.Instance.{Instance}
 use Rattle.rules.specs.Outcome.{wrote, Outcome}
-use Rattle.rules.specs.Saved.{nodesBytes, encode}
-use Rattle.rules.specs.Restore.{entriesFor, saved, saveRule}
+use Rattle.rules.specs.Saved.{encode}
+use Rattle.rules.specs.Restore.{saved, saveRule}
 use Rattle.le.specs.Mem.{write}
-use Rattle.tables.specs.View.{nodesOf, view}
+use Rattle.tables.specs.View.{view}
 use Rattle.tables.specs.Rule.{laid}
 use Rattle.tables.specs.Call.{Told, toldSmall, answeredBy, writtenBy}
 use Rattle.persist.specs.declared.saving.Saved.{Saved}
 use Rattle.persist.specs.declared.saving.Saved.the-variants.{Wrote, Small}
-
--- how many bytes the node records take, and that they are few (R120, R124)
-pub record Sizes (mem : List ℕ) (n : ℕ) : Type 0 where
-  pub count : n ≡ length (nodesBytes (entriesFor (nodesOf mem)))
-  pub most : n ≤ 279279
-
--- bytes put at the start of d: n is their number, and e holds them and behind them what d held
-pub record Puts (bs d : List ℕ) (n : ℕ) (e : List ℕ) : Type 0 where
-  pub count : n ≡ length bs
-  pub bytes : e ≡ write d 0 bs
-
--- options by their numbers (R27)
-abbrev pub optionsBy : ℕ → ℕ → ℕ → ℕ → ℕ → ℕ → Options
-optionsBy inOpts outOpts internal external range flags = record {
-  inOpts = inOpts;
-  outOpts = outOpts;
-  mapping = record { internal = internal; external = external; range = range };
-  flags = flags;
-}
 
 -- the number of each answer and its values (R15, R16, R125)
 unfoldable pub savedTold : Saved → Told

@@ -1,22 +1,12 @@
 // State restore: saved bytes that are accepted become the state of a fresh instance.
-ghost use mathlib.Core.Path.{_≡_};
-ghost use mathlib.Core.Bool.{true};
-ghost use Prim.Native.Nat.{_+_, _≤_, _<_};
-ghost use lib.ListN.{length};
-ghost use lib.Dec.{ltb};
 ghost use Rattle.rules.specs.Instance.{Instance};
-ghost use Rattle.rules.specs.Create.{unknown};
-ghost use Rattle.rules.specs.Saved.{nodeAt, behind, countOf as recordsOf, stateOf, accepted};
-ghost use Rattle.rules.specs.Restore.{fresh, restoreRule};
-ghost use Rattle.saved.specs.Options.{meant};
-ghost use Rattle.tables.specs.Layout.{capacityOf, countOf};
-ghost use Rattle.tables.specs.View.{view};
-ghost use Rattle.tables.specs.Rule.{laid, Laid};
-ghost use Rattle.tables.specs.Write.{heldByte};
+ghost use Rattle.rules.specs.Restore.{restoreRule};
 ghost use Rattle.tables.specs.Call.{Does};
-ghost use Rattle.persist.specs.Restoring.{hasBits, Loads, loadNode, loadNodes, setOptions, setState, stateMem, stateTold, restoreStateMem};
-use saved::inner::SavedOptions;
-use tables::mounts::MountOn;
+ghost use Rattle.persist.specs.Restoring.{stateTold, restoreStateMem};
+use restore_parts::has_unknown;
+use restore_parts::is_fresh;
+use restore_parts::is_too_many;
+use restore_parts::put_saved;
 
 // What a state restore answers: done, or a refusal.
 pub enum StateRestored {
@@ -26,123 +16,6 @@ pub enum StateRestored {
     BadOpt,
     NoRoom,
     Small,
-}
-
-// Whether there is no node besides the root, and no mount (R132).
-fn is_fresh(s: &[u8]) -> bool
-    requires { ⌜ Laid (now s) ⌝ }
-    ensures { λ r. ⌜ r ≡ fresh (view (now (s .entry))) ⌝ }
-{
-    if 0 < tables::header::count(s) {
-        return false;
-    }
-    match tables::mounts::of_root(s) {
-        MountOn::Point(m) => false,
-        MountOn::Nothing => true,
-    }
-}
-
-// Whether an option bit of the state is outside the mask of the instance (R130).
-fn has_unknown(s: &[u8], b: &[u8]) -> bool
-    requires { ⌜ 8192 ≤ length (now s) ⌝ }
-    requires { ⌜ 56 ≤ length (now b) ⌝ }
-    ensures { λ r. ⌜ r ≡ unknown (view (now (s .entry)) .fixed .known) (stateOf (now (b .entry)) .options) ⌝ }
-{
-    let known = le::fields::get_u64(s, 32);
-    let o = saved::inner::options_of(b);
-    storage::inner::is_unknown(known, o.in_opts, o.out_opts)
-}
-
-// Whether the records and the root are more than N (R131).
-fn is_too_many(s: &[u8], b: &[u8]) -> bool
-    requires { ⌜ Laid (now s) ⌝ }
-    requires { ⌜ 56 ≤ length (now b) ⌝ }
-    ensures { λ r. ⌜ r ≡ ltb (view (now (s .entry)) .fixed .capacity) (1 + length (stateOf (now (b .entry)) .nodes)) ⌝ }
-{
-    let n = tables::header::capacity(s);
-    n <= saved::inner::count_of(b)
-}
-
-// The record at a place goes to the end of the table, with its own number (R134).
-fn load_record(s: &mut [u8], b: &[u8], at: usize)
-    requires { ⌜ Laid (now s) ⌝ }
-    requires { ⌜ countOf (now s) + 1 < capacityOf (now s) ⌝ }
-    requires { ⌜ behind (now b) at ≤ length (now b) ⌝ }
-    requires { ⌜ Loads (nodeAt (now b) at) ⌝ }
-    ensures { λ _. ⌜ now (s .exit) ≡ loadNode (nodeAt (now (b .entry)) at) (now (s .entry)) ⌝ }
-{
-    let start = at + 18;
-    let end = saved::inner::record_end(b, at);
-    let number = saved::inner::number_at(b, at);
-    let above = saved::inner::parent_at(b, at);
-    le::fields::put_u64(s, 24, number);
-    tables::rows::append(s, above, &b[start..end]);
-}
-
-// All records, in their order (R134).
-fn load_records(s: &mut [u8], b: &[u8])
-    requires { ⌜ laid (now s) ≡ true ⌝ }
-    requires { ⌜ accepted (now b) ≡ true ⌝ }
-    requires { ⌜ countOf (now s) + recordsOf (now b) < capacityOf (now s) ⌝ }
-    ensures { λ _. ⌜ now (s .exit) ≡ loadNodes (stateOf (now (b .entry)) .nodes) (now (s .entry)) ⌝ }
-{
-    let count = saved::inner::count_of(b);
-    let mut at = 0;
-    let mut i = 0;
-    while i < count {
-        load_record(s, b, at);
-        at = saved::inner::record_end(b, at);
-        i += 1;
-    }
-}
-
-// The options, with their own mapping and flags (R134).
-fn put_options(s: &mut [u8], o: SavedOptions)
-    requires { ⌜ 8192 ≤ length (now s) ⌝ }
-    ensures { λ _. ⌜ now (s .exit) ≡ setOptions (meant o) (now (s .entry)) ⌝ }
-{
-    le::fields::put_u64(s, 40, o.in_opts);
-    le::fields::put_u64(s, 48, o.out_opts);
-    le::fields::put_u32(s, 68, o.internal);
-    le::fields::put_u32(s, 72, o.external);
-    le::fields::put_u32(s, 76, o.range);
-    le::fields::put_u8(s, 80, o.flags);
-}
-
-// 1 where a bit is set, else 0.
-fn has_bits(bits: u64) -> u8
-    ensures { λ r. ⌜ r ≡ heldByte (hasBits bits) ⌝ }
-{
-    if bits == 0 {
-        return 0;
-    }
-    1
-}
-
-// Next number, options and counter are the state's, and `initialized` says whether in_opts has a bit (R134).
-fn put_state(s: &mut [u8], next: u64, counter: u8, o: SavedOptions)
-    requires { ⌜ 8192 ≤ length (now s) ⌝ }
-    ensures { λ _. ⌜ now (s .exit) ≡ setState next counter (meant o) (now (s .entry)) ⌝ }
-{
-    let initialized = has_bits(o.in_opts);
-    le::fields::put_u64(s, 24, next);
-    put_options(s, o);
-    le::fields::put_u8(s, 81, counter);
-    le::fields::put_u8(s, 83, initialized);
-}
-
-// The state of bytes that are accepted, where there is room for its records (R134).
-fn put_saved(s: &mut [u8], b: &[u8])
-    requires { ⌜ laid (now s) ≡ true ⌝ }
-    requires { ⌜ accepted (now b) ≡ true ⌝ }
-    requires { ⌜ countOf (now s) + recordsOf (now b) < capacityOf (now s) ⌝ }
-    ensures { λ _. ⌜ now (s .exit) ≡ stateMem (stateOf (now (b .entry))) (now (s .entry)) ⌝ }
-{
-    let next = saved::inner::next_of(b);
-    let counter = saved::inner::counter_of(b);
-    let o = saved::inner::options_of(b);
-    load_records(s, b);
-    put_state(s, next, counter, o);
 }
 
 // NOTFRESH, BADSAVE, BADOPT, NOROOM, or the state of the bytes in place of the instance's own (R128 to R134).

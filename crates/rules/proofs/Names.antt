@@ -11,7 +11,7 @@ use lib.Dec.{leb, ltb, eqb}
 use borrow.Author.Tests.{eqb-true, le-leb, ltb-false, eq-eqb}
 use Rattle.rules.specs.Bytes.{same, holds}
 use Rattle.rules.specs.Utf8.{Range, _‥_, table, within, fits, firstRow, sequence, onSequence, endFrom, validTo, wellFormed}
-use Rattle.rules.specs.Path.{slash, dot, Part, name, parent, onto, pieces, isDot, isDots, sorted, kept, components, anyLonger, tooLong}
+use Rattle.rules.specs.Path.{slash, dot, Part, name, parent, onto, partsBy, pieces, isDot, isDots, sorted, kept, components, anyLonger, tooLong}
 use Rattle.rules.specs.Saved.{every, goodName}
 use Rattle.rules.proofs.Tests.{known, and-both, or-neither, pass}
 
@@ -150,7 +150,7 @@ past-byte b s zero e w h f = begins (sequence (b ∷ s)) refl w
 past-byte b s (suc k) e w h f = cuts-onto b s (suc k) k (pieces s) e (λ p i v. ap suc v) (f k (suc-inj w) (h .1))
 
 pieces-whole : (s : List ℕ) (k : ℕ) → Whole k s → NoSlash k s → Cuts k s (pieces s)
-unfolding pieces
+unfolding partsBy
 pieces-whole [] k w h = nil-cuts k
 pieces-whole (b ∷ s) k w h = go (eqb b slash) refl (pieces-whole s)
   where
@@ -165,7 +165,7 @@ Free [] = Unit {0}
 Free (p ∷ ps) = (holds slash p ≡ false) × Free ps
 
 pieces-free : (s : List ℕ) → Free (pieces s)
-unfolding Free pieces holds
+unfolding Free partsBy holds
 pieces-free [] = (refl, tt)
 pieces-free (b ∷ s) = go (eqb b slash) refl (pieces s) (pieces-free s)
   where

@@ -2,7 +2,7 @@
 use mathlib.Core.Path.{refl}
 use Rattle.rules.specs.Bytes.{same, holds, ascii}
 use Rattle.rules.specs.Utf8.{table, fits, firstRow, sequence, endFrom, validTo, wellFormed}
-use Rattle.rules.specs.Path.{pieces, sorted, kept, components, rooted, anyLonger, tooLong}
+use Rattle.rules.specs.Path.{partsBy, sorted, kept, components, rooted, anyLonger, tooLong}
 use Rattle.rules.specs.Numbers.{full, indexOf, numberOf}
 use Rattle.rules.specs.Ids.{inside, mapped}
 use Rattle.rules.specs.Round.{goingRound, untilTwice, visited, firstFree, allocate}
@@ -14,14 +14,14 @@ use Rattle.rules.specs.Mount.{planned, needed, noRoom, freed, tagAt, pla
 use Rattle.rules.specs.Unmount.{badPath, reached, walkRule, taken, unmounts, unmountAt, unmountRule}
 use Rattle.rules.specs.Lookup.{routeTag, routeTree, routeRule, entryOf, entryAt, lookupBy, lookupRule}
 use Rattle.rules.specs.Calls.{rule}
-use Rattle.rules.specs.Session.{isDigit, allDigits, spelt, number, digits, decimal, words, anyEmpty, lineOf, parsed, joined, numbers, textOf, values, shown, routed, says, answers, replyTo}
+use Rattle.rules.specs.Session.{isDigit, allDigits, spelt, number, digits, decimal, anyEmpty, lineOf, parsed, joined, numbers, textOf, values, shown, routed, says, answers, replyTo}
 use Rattle.rules.specs.Whole.{linesOf, replies, session}
 use Rattle.rules.specs.Worked.{Worked, said, wanted, results, expected, WorkedWhole, input, output, writes, outputs}
 
 pub worked : Worked
-unfolding same holds ascii table fits firstRow sequence endFrom validTo wellFormed pieces sorted kept components rooted anyLonger tooLong full indexOf numberOf inside mapped goingRound untilTwice visited firstFree allocate isChild childIn nodeIn isKnown parentIn walk step makes mountAt without mountOf setMount firstOf newInstance planned needed noRoom freed tagAt placed allocation mountAs mountRule badPath reached walkRule taken unmounts unmountAt unmountRule routeTag routeTree routeRule entryOf entryAt lookupBy lookupRule rule isDigit allDigits spelt number digits decimal words anyEmpty lineOf parsed joined numbers textOf values shown routed says answers replyTo said wanted results expected
+unfolding same holds ascii table fits firstRow sequence endFrom validTo wellFormed partsBy sorted kept components rooted anyLonger tooLong full indexOf numberOf inside mapped goingRound untilTwice visited firstFree allocate isChild childIn nodeIn isKnown parentIn walk step makes mountAt without mountOf setMount firstOf newInstance planned needed noRoom freed tagAt placed allocation mountAs mountRule badPath reached walkRule taken unmounts unmountAt unmountRule routeTag routeTree routeRule entryOf entryAt lookupBy lookupRule rule isDigit allDigits spelt number digits decimal anyEmpty lineOf parsed joined numbers textOf values shown routed says answers replyTo said wanted results expected
 worked = refl
 
 pub worked-whole : WorkedWhole
-unfolding same holds ascii table fits firstRow sequence endFrom validTo wellFormed pieces sorted kept components rooted anyLonger tooLong full indexOf numberOf inside mapped goingRound untilTwice visited firstFree allocate isChild childIn nodeIn isKnown parentIn walk step makes mountAt without mountOf setMount firstOf newInstance planned needed noRoom freed tagAt placed allocation mountAs mountRule badPath reached walkRule taken unmounts unmountAt unmountRule routeTag routeTree routeRule entryOf entryAt lookupBy lookupRule rule isDigit allDigits spelt number digits decimal words anyEmpty lineOf parsed joined numbers textOf values shown routed says answers replyTo linesOf replies session input output writes outputs
+unfolding same holds ascii table fits firstRow sequence endFrom validTo wellFormed partsBy sorted kept components rooted anyLonger tooLong full indexOf numberOf inside mapped goingRound untilTwice visited firstFree allocate isChild childIn nodeIn isKnown parentIn walk step makes mountAt without mountOf setMount firstOf newInstance planned needed noRoom freed tagAt placed allocation mountAs mountRule badPath reached walkRule taken unmounts unmountAt unmountRule routeTag routeTree routeRule entryOf entryAt lookupBy lookupRule rule isDigit allDigits spelt number digits decimal anyEmpty lineOf parsed joined numbers textOf values shown routed says answers replyTo linesOf replies session input output writes outputs
 worked-whole = refl

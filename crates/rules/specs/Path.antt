@@ -24,10 +24,14 @@ abbrev pub onto : ℕ → List (List ℕ) → List (List ℕ)
 onto b [] = (b ∷ []) ∷ []
 onto b (p ∷ ps) = (b ∷ p) ∷ ps
 
--- the parts between the slashes, empty ones too (R37, R40)
-unfoldable pub pieces : List ℕ → List (List ℕ)
-pieces [] = [] ∷ []
-pieces (b ∷ s) = cond (eqb b slash) ([] ∷ pieces s) (onto b (pieces s))
+-- the parts between the bytes `sep`, empty ones too (R37, R40, R146)
+unfoldable pub partsBy : ℕ → List ℕ → List (List ℕ)
+partsBy sep [] = [] ∷ []
+partsBy sep (b ∷ s) = cond (eqb b sep) ([] ∷ partsBy sep s) (onto b (partsBy sep s))
+
+-- the parts between the slashes (R37, R40)
+abbrev pub pieces : List ℕ → List (List ℕ)
+pieces s = partsBy slash s
 
 -- the part is `.` (R37, R58, R61)
 abbrev pub isDot : List ℕ → Bool

@@ -4,10 +4,10 @@ use mathlib.Core.Bool.{Bool, true, false, cond, not, _&&_, _||_}
 use mathlib.Core.List.{List, [], _∷_, _++_}
 use mathlib.Core.Option.{Option, none, some}
 use lib.ListN.{length}
-use lib.Dec.{eqb, leb, ltb}
+use lib.Dec.{leb, ltb}
 use Rattle.rules.specs.Numbers.{dirMode}
 use Rattle.rules.specs.Bytes.{same, ascii}
-use Rattle.rules.specs.Path.{onto}
+use Rattle.rules.specs.Path.{partsBy}
 use Rattle.rules.specs.Tree.{onward}
 use Rattle.rules.specs.Instance.{Instance}
 use Rattle.rules.specs.Mount.{Request}
@@ -50,9 +50,8 @@ decimal n = digits 20 n
 -- ---- a line in
 
 -- the fields between single spaces (R146)
-unfoldable pub words : List ℕ → List (List ℕ)
-words [] = [] ∷ []
-words (b ∷ s) = cond (eqb b space) ([] ∷ words s) (onto b (words s))
+abbrev pub words : List ℕ → List (List ℕ)
+words s = partsBy space s
 
 -- a field is empty: a leading, trailing or double space (R146)
 unfoldable pub anyEmpty : List (List ℕ) → Bool

@@ -41,7 +41,7 @@ fn end_line(s: &mut [u8], carry: &[u8], kept: usize, out: &mut [u8], at: usize) 
     ensures { λ r. ⌜ Ended (now (s .entry)) (now (carry .entry)) kept (now (out .entry)) at r (now (s .exit)) (now (out .exit)) ⌝ }
 {
     if rules::MAX_LINE < kept {
-        let r = line::text::put_question(out, at);
+        let r = line_text::put_question(out, at);
         return decimal::inner::put_byte(out, r, LINE_END);
     }
     let r = line::answer(s, &carry[0..kept], out, at);

@@ -11,7 +11,7 @@ use Rattle.line.proofs.at_five.Reads as at-five-reads
 use Rattle.line.proofs.at_three.Reads as at-three-reads
 use Rattle.line.proofs.at_two.Reads as at-two-reads
 use Rattle.line.proofs.split.Reads as split-reads
-use Rattle.line.proofs.text.put_question.Reads as put-question-reads
+use Rattle.line_text.proofs.put_question.Reads as put-question-reads
 
 split-requires : tie.Need-split-requires
 split-requires c κs = search needs

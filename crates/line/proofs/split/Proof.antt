@@ -1,115 +1,78 @@
--- `line::split` meets its contract: each return goes by the ends of the fields that led there.
+-- `line::split` meets its contract: each return goes by the fields that were found before it.
 use borrow.Author.Needs.{needs}
-use Rattle.line.proofs.Cutting.{long, one, two, three, four, five, six}
+use Prim.Native.Nat.{ℕ, _+_}
+use mathlib.Core.List.{List, []}
+use denote.Ref.{now}
+use Rattle.line.proofs.Cutting.{long, Before, start, onward, one, two, three, four, five, six, w₁, w₂, w₃, w₄}
 use Rattle.line.proofs.split.Statement.{statement}
 use Rattle.line.proofs.split.Tie as tie
-use Rattle.line.proofs.split.Reads as reads
-use Rattle.line.proofs.split.Lts as lts
-use Rattle.line.proofs.field_end.Reads as field-end-reads
 
-returns : tie.Need-returns
-returns c = search (long, needs)
+-- ---- the fields before each of the places that are sought
 
-field-end-requires : tie.Need-field-end-requires
-field-end-requires c κs = search needs
+abbrev line : tie.Else1 → List ℕ
+line c = now (c .before .before .args .line)
+
+none-yet : (c : tie.Else1) → Before (line c) 0 []
+none-yet c = start _ (c .if1 .left)
+
+one-yet : (c : tie.Else2) → Before (line (c .before .before)) (c .before .field-end .result + 1) (w₁ (line (c .before .before)) (c .before .field-end .result))
+one-yet c = onward _ _ _ _ (none-yet (c .before .before)) (c .before .field-end .ensures) (c .if2 .left)
+
+two-yet : (c : tie.Else3)
+    → let l = c .before .before in Before (line (l .before .before)) (c .before .field-end2 .result + 1) (w₂ (line (l .before .before)) (l .before .field-end .result) (c .before .field-end2 .result))
+two-yet c = onward _ _ _ _ (one-yet (c .before .before)) (c .before .field-end2 .ensures) (c .if3 .left)
+
+three-yet : (c : tie.Else4)
+    → let m = c .before .before in let l = m .before .before in Before (line (l .before .before)) (c .before .field-end3 .result + 1) (w₃ (line (l .before .before)) (l .before .field-end .result) (m .before .field-end2 .result) (c .before .field-end3 .result))
+three-yet c = onward _ _ _ _ (two-yet (c .before .before)) (c .before .field-end3 .ensures) (c .if4 .left)
+
+four-yet : (c : tie.Else5)
+    → let n = c .before .before in let m = n .before .before in let l = m .before .before in Before (line (l .before .before)) (c .before .field-end4 .result + 1) (w₄ (line (l .before .before)) (l .before .field-end .result) (m .before .field-end2 .result) (n .before .field-end3 .result) (c .before .field-end4 .result))
+four-yet c = onward _ _ _ _ (three-yet (c .before .before)) (c .before .field-end4 .ensures) (c .if5 .left)
+
+-- ---- the returns
 
 returns-2 : tie.Need-returns-2
-returns-2 c = search (one, needs)
-
-add-field-end : tie.Need-add-field-end
-add-field-end c = search needs
-
-field-end-requires-2 : tie.Need-field-end-requires-2
-field-end-requires-2 c κs = search needs
+returns-2 c = one _ _ (none-yet (c .before .before)) (c .before .field-end .ensures) (c .if2 .taken)
 
 returns-3 : tie.Need-returns-3
-returns-3 c = search (two, needs)
-
-add-field-end-2 : tie.Need-add-field-end-2
-add-field-end-2 c = search needs
-
-field-end-requires-3 : tie.Need-field-end-requires-3
-field-end-requires-3 c κs = search needs
+returns-3 c = two _ _ _ (one-yet (c .before .before)) (c .before .field-end2 .ensures) (c .if3 .taken)
 
 returns-4 : tie.Need-returns-4
 returns-4 c =
-    let f3 = c .before in
-    let e3 = f3 .before in
-    let f2 = e3 .before in
-    let e2 = f2 .before in
-    let f1 = e2 .before in
-    let e1 = f1 .before in
-    three _ (e1 .if1 .left) _ (f1 .field-end .ensures) (e2 .if2 .left) _ (f2 .field-end2 .ensures) (e3 .if3 .left) _ (f3 .field-end3 .ensures) (c .if4 .taken)
-
-add-field-end-3 : tie.Need-add-field-end-3
-add-field-end-3 c = search needs
-
-field-end-requires-4 : tie.Need-field-end-requires-4
-field-end-requires-4 c κs = search needs
+    let l = c .before .before in
+    three _ _ _ (l .before .field-end2 .ensures) _ (two-yet l) (c .before .field-end3 .ensures) (c .if4 .taken)
 
 returns-5 : tie.Need-returns-5
-returns-5 c =
-    let f4 = c .before in
-    let e4 = f4 .before in
-    let f3 = e4 .before in
-    let e3 = f3 .before in
-    let f2 = e3 .before in
-    let e2 = f2 .before in
-    let f1 = e2 .before in
-    let e1 = f1 .before in
-    four _ (e1 .if1 .left) _ (f1 .field-end .ensures) (e2 .if2 .left) _ (f2 .field-end2 .ensures) (e3 .if3 .left) _ (f3 .field-end3 .ensures) (e4 .if4 .left) _ (f4 .field-end4 .ensures) (c .if5 .taken)
-
-add-field-end-4 : tie.Need-add-field-end-4
-add-field-end-4 c = search needs
-
-field-end-requires-5 : tie.Need-field-end-requires-5
-field-end-requires-5 c κs = search needs
+returns-5 c = four _ _ _ _ _ _ (three-yet (c .before .before)) (c .before .field-end4 .ensures) (c .if5 .taken)
 
 returns-6 : tie.Need-returns-6
 returns-6 c =
-    let f5 = c .before in
-    let e5 = f5 .before in
-    let f4 = e5 .before in
-    let e4 = f4 .before in
-    let f3 = e4 .before in
-    let e3 = f3 .before in
-    let f2 = e3 .before in
-    let e2 = f2 .before in
-    let f1 = e2 .before in
-    let e1 = f1 .before in
-    five _ (e1 .if1 .left) _ (f1 .field-end .ensures) (e2 .if2 .left) _ (f2 .field-end2 .ensures) (e3 .if3 .left) _ (f3 .field-end3 .ensures) (e4 .if4 .left) _ (f4 .field-end4 .ensures) (e5 .if5 .left) _ (f5 .field-end5 .ensures) (c .if6 .taken)
+    let n = c .before .before in
+    let m = n .before .before in
+    let l = m .before .before in
+    five _ _ _ (l .before .field-end2 .ensures) _ _ _ (m .before .field-end3 .ensures) (n .before .field-end4 .ensures) (four-yet n) (c .before .field-end5 .ensures) (c .if6 .taken)
 
 returns-7 : tie.Need-returns-7
-returns-7 c =
-    let f5 = c .before in
-    let e5 = f5 .before in
-    let f4 = e5 .before in
-    let e4 = f4 .before in
-    let f3 = e4 .before in
-    let e3 = f3 .before in
-    let f2 = e3 .before in
-    let e2 = f2 .before in
-    let f1 = e2 .before in
-    let e1 = f1 .before in
-    six _ (e1 .if1 .left) _ (f1 .field-end .ensures) (e2 .if2 .left) _ (f2 .field-end2 .ensures) (e3 .if3 .left) _ (f3 .field-end3 .ensures) (e4 .if4 .left) _ (f4 .field-end4 .ensures) (e5 .if5 .left) _ (f5 .field-end5 .ensures) (c .if6 .left)
+returns-7 c = six _ _ _ _ _ _ _ (four-yet (c .before .before)) (c .before .field-end5 .ensures) (c .if6 .left)
 
 pub split-spec : {M : Type 1} → statement M
 split-spec =
     tie.close
     (tie.spec
-    returns
-    field-end-requires
+    (λ c. search (long, needs))
+    (λ c κs. search needs)
     returns-2
-    add-field-end
-    field-end-requires-2
+    (λ c. search needs)
+    (λ c κs. search needs)
     returns-3
-    add-field-end-2
-    field-end-requires-3
+    (λ c. search needs)
+    (λ c κs. search needs)
     returns-4
-    add-field-end-3
-    field-end-requires-4
+    (λ c. search needs)
+    (λ c κs. search needs)
     returns-5
-    add-field-end-4
-    field-end-requires-5
+    (λ c. search needs)
+    (λ c κs. search needs)
     returns-6
     returns-7)

@@ -7,8 +7,8 @@ use Rattle.line.proofs.forms.three_fields.Reads as reads
 use Rattle.line.proofs.forms.three_fields.Lts as lts
 use Rattle.decimal.proofs.read.Reads as read-reads
 use Rattle.line.proofs.forms.is_word.Reads as is-word-reads
-use Rattle.line.proofs.forms.look_line.Reads as look-line-reads
-use Rattle.line.proofs.text.put_question.Reads as put-question-reads
+use Rattle.line_calls.proofs.look_line.Reads as look-line-reads
+use Rattle.line_text.proofs.put_question.Reads as put-question-reads
 
 put-question-requires : tie.Need-put-question-requires
 put-question-requires c κs = search needs

@@ -6,9 +6,9 @@ use Rattle.line.proofs.forms.two_fields.Tie as tie
 use Rattle.line.proofs.forms.two_fields.Reads as reads
 use Rattle.line.proofs.forms.two_fields.Lts as lts
 use Rattle.line.proofs.forms.is_word.Reads as is-word-reads
-use Rattle.line.proofs.forms.umount_line.Reads as umount-line-reads
-use Rattle.line.proofs.forms.walk_line.Reads as walk-line-reads
-use Rattle.line.proofs.text.put_question.Reads as put-question-reads
+use Rattle.line_calls.proofs.umount_line.Reads as umount-line-reads
+use Rattle.line_calls.proofs.walk_line.Reads as walk-line-reads
+use Rattle.line_text.proofs.put_question.Reads as put-question-reads
 
 put-question-requires : tie.Need-put-question-requires
 put-question-requires c κs = search needs

@@ -6,6 +6,7 @@ use native.Mathlib.Omega.{arith}
 use lib.ListN.{length}
 use denote.Ref.{now}
 use Rattle.path.specs.Steps.{nextAt}
+use Rattle.rules.specs.Path.{slash}
 use Rattle.path.proofs.Words.{end-from, end-within}
 use Rattle.path.proofs.Steps.{next-dropped, next-parent, next-name, next-end}
 use Rattle.path.proofs.components.next_component.Statement.{statement}
@@ -27,7 +28,7 @@ component-at-requires : tie.Need-component-at-requires Inv-loop μ-loop
 component-at-requires c κs =
     let l = c .before .before in
     let s = now (l .before .before .args .path) in
-    omega (arith, c .word-end .ensures, end-from s (l .loop .i), end-within s (l .loop .i) (omega arith))
+    omega (arith, c .word-end .ensures, end-from slash s (l .loop .i), end-within slash s (l .loop .i) (omega arith))
 
 enum-told : tie.Need-enum-told Inv-loop μ-loop
 enum-told c = search needs

@@ -6,7 +6,7 @@ use Prim.Native.Nat.{ℕ, _+_, _-_, _≤_}
 use native.Mathlib.Omega.{arith}
 use lib.ListN.{length, drop}
 use denote.Ref.{now}
-use Rattle.rules.specs.Path.{pieces, anyLonger}
+use Rattle.rules.specs.Path.{slash, pieces, anyLonger}
 use Rattle.path.proofs.Words.{long-path, short-path, longer-end, longer-yes, longer-no, end-from, end-within}
 use Rattle.path.proofs.limits.is_too_long.Statement.{statement}
 use Rattle.path.proofs.limits.is_too_long.Tie as tie
@@ -26,7 +26,7 @@ part : (c : tie.After-word-end Inv-loop μ-loop) → (c .before .before .loop .i
 part c =
     let s = bytes (c .before .before) in
     let i = c .before .before .loop .i in
-    omega (arith, c .word-end .ensures, end-from s i, end-within s i (omega arith))
+    omega (arith, c .word-end .ensures, end-from slash s i, end-within slash s i (omega arith))
 
 returns : tie.Need-returns Inv-loop μ-loop
 returns c = long-path _ (c .if1 .taken)

@@ -1,0 +1,2 @@
+-- What is proved of the lines that call.
+pub mod Lines

@@ -1,0 +1,2 @@
+-- What the lines that call answer.
+pub mod Answered

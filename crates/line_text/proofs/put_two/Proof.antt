@@ -1,0 +1,29 @@
+-- `line_text::put_two` meets its contract.
+use borrow.Author.Needs.{needs}
+use Rattle.line_text.proofs.Writes.{two}
+use Rattle.line_text.proofs.put_two.Statement.{statement}
+use Rattle.line_text.proofs.put_two.Tie as tie
+use Rattle.line_text.proofs.put_two.Reads as reads
+use Rattle.line_text.proofs.put_two.Lts as lts
+use Rattle.decimal.proofs.inner.put.Reads as put-reads
+use Rattle.decimal.proofs.inner.put_byte.Reads as put-byte-reads
+use Rattle.decimal.proofs.inner.put_u8.Reads as put-u8-reads
+
+put-u8-requires : tie.Need-put-u8-requires
+put-u8-requires c κs = search needs
+
+put-byte-requires : tie.Need-put-byte-requires
+put-byte-requires c κs = search needs
+
+put-requires : tie.Need-put-requires
+put-requires c κs = search needs
+
+same-length : tie.Need-same-length
+same-length c = search needs
+
+returns : tie.Need-returns
+returns c = search (two, needs)
+
+pub put-two-spec : {M : Type 1} → statement M
+put-two-spec =
+    tie.close (tie.spec put-u8-requires put-byte-requires put-requires same-length returns)

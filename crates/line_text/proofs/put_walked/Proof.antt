@@ -1,0 +1,77 @@
+-- `line_text::put_walked` meets its contract.
+use borrow.Author.Needs.{needs}
+use Rattle.line_text.proofs.Writes.{walk-node, walk-nothing, walk-inval, walk-small}
+use Rattle.line_text.proofs.put_walked.Statement.{statement}
+use Rattle.line_text.proofs.put_walked.Tie as tie
+use Rattle.line_text.proofs.put_walked.Reads as reads
+use Rattle.line_text.proofs.put_walked.Lts as lts
+use Rattle.line_text.proofs.put_two.Reads as put-two-reads
+
+enum-known-answer : tie.Need-enum-known-answer
+enum-known-answer c = search needs
+
+put-two-requires : tie.Need-put-two-requires
+put-two-requires c κs = search needs
+
+enum-told : tie.Need-enum-told
+enum-told c = search needs
+
+put-two-requires-2 : tie.Need-put-two-requires-2
+put-two-requires-2 c κs = search needs
+
+enum-told-2 : tie.Need-enum-told-2
+enum-told-2 c = search needs
+
+put-two-requires-3 : tie.Need-put-two-requires-3
+put-two-requires-3 c κs = search needs
+
+enum-told-3 : tie.Need-enum-told-3
+enum-told-3 c = search needs
+
+put-two-requires-4 : tie.Need-put-two-requires-4
+put-two-requires-4 c κs = search needs
+
+same-length : tie.Need-same-length
+same-length c = search needs
+
+returns : tie.Need-returns
+returns c = search (walk-node, needs)
+
+same-length-2 : tie.Need-same-length-2
+same-length-2 c = search needs
+
+returns-2 : tie.Need-returns-2
+returns-2 c = search (walk-nothing, needs)
+
+same-length-3 : tie.Need-same-length-3
+same-length-3 c = search needs
+
+returns-3 : tie.Need-returns-3
+returns-3 c = search (walk-inval, needs)
+
+same-length-4 : tie.Need-same-length-4
+same-length-4 c = search needs
+
+returns-4 : tie.Need-returns-4
+returns-4 c = search (walk-small, needs)
+
+pub put-walked-spec : {M : Type 1} → statement M
+put-walked-spec =
+    tie.close
+    (tie.spec
+    enum-known-answer
+    put-two-requires
+    enum-told
+    put-two-requires-2
+    enum-told-2
+    put-two-requires-3
+    enum-told-3
+    put-two-requires-4
+    same-length
+    returns
+    same-length-2
+    returns-2
+    same-length-3
+    returns-3
+    same-length-4
+    returns-4)

@@ -1,0 +1,2 @@
+-- The texts of the answers of a session.
+pub mod Texts

@@ -1,0 +1,138 @@
+// The text of each answer, laid into the lent output from a place on; each function answers the place behind it.
+ghost use mathlib.Core.List.{_∷_, []};
+ghost use Prim.Native.Nat.{_+_, _≤_};
+ghost use lib.ListN.{length};
+ghost use Rattle.rules.specs.Bytes.{ascii};
+ghost use Rattle.rules.specs.Session.{textOf};
+ghost use Rattle.decimal.specs.Wrote.{Wrote};
+ghost use Rattle.pseudo_fs.specs.Told.{pathWalkTold, lookedTold};
+ghost use Rattle.vfs.specs.Mounting.{mountedTold};
+ghost use Rattle.vfs.specs.Unmounting.{unmountedTold};
+ghost use Rattle.line_text.specs.Texts.{valuesText, countText, backendText};
+use decimal::inner::put;
+use decimal::inner::put_byte;
+use decimal::inner::put_u8;
+use pseudo_fs::Looked;
+use pseudo_fs::PathWalk;
+use vfs::mounting::Mounted;
+use vfs::unmounting::Unmounted;
+
+// The numbers that a line can answer (R15).
+pub const DONE: u8 = 0;
+
+pub const NOENT: u8 = 1;
+
+pub const INVAL: u8 = 2;
+
+pub const TOOLONG: u8 = 3;
+
+pub const INODE: u8 = 4;
+
+pub const FULL: u8 = 5;
+
+pub const NOROOM: u8 = 6;
+
+pub const NOTFOUND: u8 = 7;
+
+pub const SMALL: u8 = 12;
+
+// `?`, for a line of no form (R145).
+pub fn put_question(out: &mut [u8], at: usize) -> usize
+    requires { ⌜ at + 64 ≤ length (now out) ⌝ }
+    ensures { λ r. ⌜ Wrote (now (out .entry)) at 1 (ascii "?") r (now (out .exit)) ⌝ }
+{
+    put_byte(out, at, b'?')
+}
+
+// A code and one number (R152).
+pub fn put_two(out: &mut [u8], at: usize, code: u8, x: u64) -> usize
+    requires { ⌜ at + 64 ≤ length (now out) ⌝ }
+    ensures { λ r. ⌜ Wrote (now (out .entry)) at 24 (textOf (code ∷ x ∷ [])) r (now (out .exit)) ⌝ }
+{
+    let i = put_u8(out, at, code);
+    let j = put_byte(out, i, b' ');
+    put(out, j, x)
+}
+
+// A code and two numbers (R152).
+pub fn put_three(out: &mut [u8], at: usize, code: u8, x: u64, y: u64) -> usize
+    requires { ⌜ at + 64 ≤ length (now out) ⌝ }
+    ensures { λ r. ⌜ Wrote (now (out .entry)) at 45 (textOf (code ∷ x ∷ y ∷ [])) r (now (out .exit)) ⌝ }
+{
+    let i = put_two(out, at, code, x);
+    let j = put_byte(out, i, b' ');
+    put(out, j, y)
+}
+
+// `r`, a tag and a number (R141, R143).
+pub fn put_backend(out: &mut [u8], at: usize, tag: u64, number: u64) -> usize
+    requires { ⌜ at + 64 ≤ length (now out) ⌝ }
+    ensures { λ r. ⌜ Wrote (now (out .entry)) at 43 (backendText tag number) r (now (out .exit)) ⌝ }
+{
+    let i = put_byte(out, at, b'r');
+    let j = put_byte(out, i, b' ');
+    let k = put(out, j, tag);
+    let l = put_byte(out, k, b' ');
+    put(out, l, number)
+}
+
+// What a mount answers: code, index, count (R138, R144).
+pub fn put_mounted(out: &mut [u8], at: usize, answer: Mounted) -> usize
+    requires { ⌜ at + 64 ≤ length (now out) ⌝ }
+    ensures { λ r. ⌜ Wrote (now (out .entry)) at 45 (countText (mountedTold answer)) r (now (out .exit)) ⌝ }
+{
+    match answer {
+        Mounted::Done { fs_idx, count, .. } => put_three(
+            out,
+            at,
+            DONE,
+            fs_idx as u64,
+            count as u64,
+        ),
+        Mounted::TooLong => put_three(out, at, TOOLONG, 0, 0),
+        Mounted::Inval { count } => put_three(out, at, INVAL, 0, count as u64),
+        Mounted::Inode { count } => put_three(out, at, INODE, 0, count as u64),
+        Mounted::NoRoom => put_three(out, at, NOROOM, 0, 0),
+        Mounted::Full { count } => put_three(out, at, FULL, 0, count as u64),
+        Mounted::Small => put_three(out, at, SMALL, 0, 0),
+    }
+}
+
+// What an unmount answers: code, node, parent (R139, R144).
+pub fn put_unmounted(out: &mut [u8], at: usize, answer: Unmounted) -> usize
+    requires { ⌜ at + 64 ≤ length (now out) ⌝ }
+    ensures { λ r. ⌜ Wrote (now (out .entry)) at 45 (valuesText 2 (unmountedTold answer)) r (now (out .exit)) ⌝ }
+{
+    match answer {
+        Unmounted::Done { node, parent, .. } => put_three(out, at, DONE, node.0, parent.0),
+        Unmounted::NotFound => put_three(out, at, NOTFOUND, 0, 0),
+        Unmounted::Inval => put_three(out, at, INVAL, 0, 0),
+        Unmounted::Small => put_three(out, at, SMALL, 0, 0),
+    }
+}
+
+// What a walk answers: code, node, 0 for none (R140, R144).
+pub fn put_walked(out: &mut [u8], at: usize, answer: PathWalk) -> usize
+    requires { ⌜ at + 64 ≤ length (now out) ⌝ }
+    ensures { λ r. ⌜ Wrote (now (out .entry)) at 24 (valuesText 1 (pathWalkTold answer)) r (now (out .exit)) ⌝ }
+{
+    match answer {
+        PathWalk::Node(x) => put_two(out, at, DONE, x.0),
+        PathWalk::Nothing => put_two(out, at, DONE, 0),
+        PathWalk::Inval => put_two(out, at, INVAL, 0),
+        PathWalk::Small => put_two(out, at, SMALL, 0),
+    }
+}
+
+// What a lookup answers: code, full number (R141, R144).
+pub fn put_looked(out: &mut [u8], at: usize, answer: Looked) -> usize
+    requires { ⌜ at + 64 ≤ length (now out) ⌝ }
+    ensures { λ r. ⌜ Wrote (now (out .entry)) at 24 (valuesText 1 (lookedTold answer)) r (now (out .exit)) ⌝ }
+{
+    match answer {
+        Looked::Entry(e) => put_two(out, at, DONE, e.inode.0),
+        Looked::NoEnt => put_two(out, at, NOENT, 0),
+        Looked::Inval => put_two(out, at, INVAL, 0),
+        Looked::Small => put_two(out, at, SMALL, 0),
+    }
+}

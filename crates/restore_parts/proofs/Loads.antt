@@ -1,0 +1,162 @@
+-- Records that are loaded one after the other: what the bytes then stand for, and that they keep the layout rule. Assumes nothing.
+use mathlib.Core.Path.{_≡_, refl, sym, ap, ap₂, _∙_}
+use mathlib.Core.Bool.{true}
+use mathlib.Core.List.{List, [], _∷_, _++_, append-assoc, append-nil}
+use Prim.Native.Nat.{ℕ, _+_, _-_, _^_, _≤_, _<_}
+use native.Mathlib.Omega.{arith}
+use lib.ListN.{length, length-append as length-both}
+use Rattle.le.specs.Mem.{read, value, bytesOf, get}
+use Rattle.rules.specs.Tree.{Node, bare}
+use Rattle.rules.specs.Instance.{Instance, withTree}
+use Rattle.rules.specs.Saved.{Entry}
+use Rattle.rules.specs.Restore.{nodesFrom}
+use Rattle.rules.proofs.Fields.{length-bytesOf}
+use Rattle.tables.specs.Table.{row, over, Fit}
+use Rattle.tables.specs.Layout.{header, capacityOf, countOf, nextOf}
+use Rattle.tables.specs.View.{field, headOf, nodesOf, view}
+use Rattle.tables.specs.Rule.{laidBy, laid, Laid}
+use Rattle.tables.specs.Write.{fromPlace, putHeader, setCount, setNext, appendNode}
+use Rattle.tables.proofs.Table.{length-putRow}
+use Rattle.tables.proofs.Refine.{head-put, view-header, cell-back, view-append}
+use Rattle.tables.proofs.Keeps.{ruled, is-ruled, laid-is, open-laid, length-append, keeps-append}
+use Rattle.tables.proofs.Places.{nodes-count}
+use Rattle.restore_parts.specs.Parts.{Loads, loadNode, loadNodes}
+use Rattle.restore_parts.proofs.Records.{AllLoad}
+
+-- ---- the next number is set
+
+module _ (mem : List ℕ) (d : Laid mem) (x : ℕ) (top : x ≤ 2 ^ 56) where
+  abbrev xs : List (List ℕ)
+  xs = bytesOf 8 x ∷ []
+
+  abbrev H : List (List ℕ)
+  H = over header (fromPlace 3 xs) mem 0
+
+  abbrev after : List ℕ
+  after = setNext x mem
+
+  next-fit : Fit header (fromPlace 3 xs)
+  next-fit = omega (arith, length-bytesOf 8 x)
+
+  next-head : headOf after ≡ H
+  unfolding setNext
+  next-head = head-put 3 xs mem next-fit (omega (arith, d .long))
+
+  next-is : value (bytesOf 8 x ++ read mem (24 + length (bytesOf 8 x)) (8 - length (bytesOf 8 x))) ≡ x
+  next-is = cell-back 8 x mem 24 (omega arith)
+
+  pub next-capacity : capacityOf after ≡ capacityOf mem
+  unfolding over row get
+  next-capacity = ap (λ (h : List (List ℕ)). field 1 h) next-head
+
+  pub next-count : countOf after ≡ countOf mem
+  unfolding over row get
+  next-count = ap (λ (h : List (List ℕ)). field 2 h) next-head
+
+  pub next-next : nextOf after ≡ x
+  unfolding over row get
+  next-next = ap (λ (h : List (List ℕ)). field 3 h) next-head ∙ next-is
+
+  pub next-length : length after ≡ length mem
+  unfolding setNext putHeader
+  next-length = length-putRow header (fromPlace 3 xs) mem 0
+
+  pub next-laid : 2 ≤ x → Laid after
+  next-laid low = record {
+    some-node = omega (arith, next-capacity, d .some-node);
+    few-nodes = omega (arith, next-capacity, d .few-nodes);
+    long = omega (arith, next-capacity, next-length, d .long);
+    live = omega (arith, next-capacity, next-count, d .live);
+    low = omega (arith, next-next);
+    top = omega (arith, next-next);
+  }
+
+  pub next-view : view after ≡ withTree (record { next = x; root = view mem .tree .root; nodes = view mem .tree .nodes }) (view mem)
+  unfolding setNext view nodesOf over row
+  next-view = view-header 3 xs mem next-fit (omega (arith, d .long)) ∙ rw next-is
+
+  pub next-keeps : 2 ≤ x → laid mem ≡ true → laid after ≡ true
+  unfolding laid over row
+  next-keeps low e =
+      let r = ruled (headOf mem) (length mem) (open-laid mem e) in
+      ap₂ laidBy next-head next-length
+      ∙ is-ruled H (length mem) (record {
+        size = r .size;
+        live = r .live;
+        low = rw next-is low;
+        top = rw next-is top;
+        bits = r .bits;
+        flags = r .flags;
+        maps = r .maps;
+      })
+
+-- ---- one record more
+
+abbrev pub noded : Entry → Node
+noded e = bare (e .number) (e .above) (e .called)
+
+pub record Loaded (e : Entry) (mem : List ℕ) : Type 0 where
+  pub long : length (loadNode e mem) ≡ length mem
+  pub keeps : laid (loadNode e mem) ≡ true
+  pub stands : view (loadNode e mem) ≡ withTree (record { next = e .number + 1; root = view mem .tree .root; nodes = view mem .tree .nodes ++ (noded e ∷ []) }) (view mem)
+
+pub loads : (e : Entry) (mem : List ℕ) → laid mem ≡ true → Loads e → countOf mem + 1 < capacityOf mem → Loaded e mem
+unfolding loadNode
+loads e mem k f room =
+    let d = laid-is mem k in
+    let top : e .number ≤ 2 ^ 56 = omega (arith, f .top) in
+    let m′ = setNext (e .number) mem in
+    let k′ : laid m′ ≡ true = next-keeps mem d (e .number) top (f .low) k in
+    let x : nextOf m′ ≡ e .number = next-next mem d (e .number) top in
+    let more : countOf m′ + 1 < capacityOf m′ = omega (arith, next-count mem d (e .number) top, next-capacity mem d (e .number) top) in
+    let under : nextOf m′ < 2 ^ 56 = omega (arith, f .top) in
+    let v = next-view mem d (e .number) top in
+    record {
+      long = length-append (e .above) (e .called) m′ ∙ next-length mem d (e .number) top;
+      keeps = keeps-append m′ k′ (e .above) (e .called) more under;
+      stands =
+          view-append m′ (laid-is m′ k′) (e .above) (e .called) more under (f .above) (f .short)
+          ∙ (λ t. withTree (record { next = v t .tree .next + 1; root = v t .tree .root; nodes = v t .tree .nodes ++ (bare (x t) (e .above) (e .called) ∷ []) }) (v t));
+    }
+
+-- the header's numbers then
+module _ (e : Entry) (mem : List ℕ) (l : Loaded e mem) where
+  pub loaded-capacity : capacityOf (loadNode e mem) ≡ capacityOf mem
+  unfolding view row get
+  loaded-capacity = ap (λ (i : Instance). i .fixed .capacity) (l .stands)
+
+  pub loaded-count : countOf (loadNode e mem) ≡ countOf mem + 1
+  unfolding view
+  loaded-count =
+      let n : length (nodesOf (loadNode e mem)) ≡ length (nodesOf mem ++ (noded e ∷ [])) = ap (λ (i : Instance). length (i .tree .nodes)) (l .stands) in
+      omega (arith, nodes-count mem, nodes-count (loadNode e mem), length-both (nodesOf mem) (noded e ∷ []))
+
+-- ---- all of them; the next number is left open
+
+abbrev pub withNext : ℕ → Instance → Instance
+withNext x i = withTree (record { next = x; root = i .tree .root; nodes = i .tree .nodes }) i
+
+pub record AllLoaded (es : List Entry) (mem : List ℕ) : Type 0 where
+  pub long : length (loadNodes es mem) ≡ length mem
+  pub keeps : laid (loadNodes es mem) ≡ true
+  pub stands : (x : ℕ) → withNext x (view (loadNodes es mem)) ≡ withTree (record { next = x; root = view mem .tree .root; nodes = view mem .tree .nodes ++ nodesFrom es }) (view mem)
+
+pub loads-all : (es : List Entry) (mem : List ℕ) → laid mem ≡ true → AllLoad es → countOf mem + length es < capacityOf mem → AllLoaded es mem
+unfolding loadNodes AllLoad nodesFrom
+loads-all [] mem k f room = record {
+  long = refl;
+  keeps = k;
+  stands = λ x t. withTree (record { next = x; root = view mem .tree .root; nodes = sym (append-nil (view mem .tree .nodes)) t }) (view mem);
+}
+loads-all (e ∷ es) mem k f room =
+    let one = loads e mem k (f .0) (omega arith) in
+    let more = loads-all es (loadNode e mem) (one .keeps) (f .1) (omega (arith, loaded-capacity e mem one, loaded-count e mem one)) in
+    let v = one .stands in
+    record {
+      long = more .long ∙ one .long;
+      keeps = more .keeps;
+      stands = λ x.
+          more .stands x
+          ∙ (λ t. withTree (record { next = x; root = v t .tree .root; nodes = v t .tree .nodes ++ nodesFrom es }) (v t))
+          ∙ (λ t. withTree (record { next = x; root = view mem .tree .root; nodes = append-assoc (view mem .tree .nodes) (noded e ∷ []) (nodesFrom es) t }) (view mem));
+    }

@@ -1,0 +1,79 @@
+-- What accepted bytes say of each record and of the rest of the state: all that the storage needs. Assumes nothing.
+use mathlib.Core.Path.{_≡_, refl, ap, subst}
+use mathlib.Core.Bool.{true}
+use mathlib.Core.List.{List, [], _∷_}
+use Prim.Native.Nat.{ℕ, zero, suc, _+_, _^_, _≤_, _<_}
+use native.Mathlib.Nat.{add-zero, zero-add}
+use native.Mathlib.Omega.{arith}
+use lib.ListN.{length}
+use borrow.Author.Tests.{leb-true}
+use Rattle.rules.specs.Saved.{Entry, nodeAt, behind, nodesAt, countOf, stateOf, laidOut, goodName, valid, accepted}
+use Rattle.rules.specs.Driven.{Rises, Below, Named, Shape}
+use Rattle.rules.proofs.Tests.{and-both, passed}
+use Rattle.rules.proofs.Shape.{rises-end, good-shape}
+use Rattle.saved.specs.Scan.{startOf}
+use Rattle.restore_parts.specs.Parts.{Loads}
+
+-- ---- records
+
+unfoldable pub AllLoad : List Entry → Type 0
+AllLoad [] = Unit {0}
+AllLoad (e ∷ es) = Loads e × AllLoad es
+
+name-short : (p : List ℕ) → goodName p ≡ true → length p ≤ 255
+unfolding goodName
+name-short p g = leb-true (length p) 255 (passed _ g .1 .0)
+
+shape-loads : (low next : ℕ) (es : List Entry) → 2 ≤ low → next ≤ 2 ^ 56 → Rises low es next → Below es → Named es → AllLoad es
+unfolding Rises Below Named AllLoad
+shape-loads low next [] l t r b n = tt
+shape-loads low next (e ∷ es) l t r b n =
+    let h = rises-end (e .number + 1) next es (r .1) in (
+      record { low = omega (arith, r .0); top = omega arith; above = omega (arith, b .1); short = name-short (e .called) (n .0) },
+      shape-loads (e .number + 1) next es (omega (arith, r .0)) t (r .1) (b .2) (n .1),
+    )
+
+-- record i, where those from record j on are known
+load-at : (b : List ℕ) (k i j : ℕ) → AllLoad (nodesAt b k (startOf b j)) → i < k → Loads (nodeAt b (startOf b (j + i)))
+unfolding AllLoad nodesAt startOf
+load-at b zero i j a h = absurd (omega arith)
+load-at b (suc k) zero j a h = rw add-zero (a .0)
+load-at b (suc k) (suc i) j a h =
+    let e : suc j + i ≡ j + suc i = omega arith in
+    subst (λ (x : ℕ). Loads (nodeAt b (startOf b x))) e (load-at b k i (suc j) (a .1) (omega arith))
+
+nodes-length : (b : List ℕ) (k at : ℕ) → length (nodesAt b k at) ≡ k
+unfolding nodesAt
+nodes-length b zero at = refl
+nodes-length b (suc k) at = ap suc (nodes-length b k (behind b at))
+
+pub count-is : (b : List ℕ) → length (stateOf b .nodes) ≡ countOf b
+unfolding stateOf
+count-is b = nodes-length b (countOf b) 0
+
+-- ---- of accepted bytes
+
+module _ (b : List ℕ) (a : accepted b ≡ true) where
+  parts : (laidOut b ≡ true) × (valid (stateOf b) ≡ true)
+  unfolding accepted
+  parts = and-both (laidOut b) (valid (stateOf b)) a
+
+  pub next-low : 2 ≤ stateOf b .next
+  unfolding valid
+  next-low = leb-true 2 (stateOf b .next) (passed _ (parts .1) .0)
+
+  pub next-top : stateOf b .next ≤ 2 ^ 56
+  unfolding valid
+  next-top = leb-true (stateOf b .next) (2 ^ 56) (passed _ (parts .1) .1 .0)
+
+  pub all-load : AllLoad (stateOf b .nodes)
+  unfolding valid
+  all-load =
+      let s : Shape (stateOf b .nodes) (stateOf b .next) = good-shape (stateOf b .next) (stateOf b .nodes) next-low (passed _ (parts .1) .1 .1 .0) in
+      shape-loads 2 (stateOf b .next) (stateOf b .nodes) (omega arith) next-top (s .rises) (s .below) (s .named)
+
+  pub record-loads : (i at : ℕ) → at ≡ startOf b i → i < countOf b → Loads (nodeAt b at)
+  unfolding stateOf startOf
+  record-loads i at e h =
+      let z : 0 + i ≡ i = zero-add i in
+      rw (e, ← z) (load-at b (countOf b) i 0 all-load h)

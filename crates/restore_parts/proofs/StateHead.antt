@@ -1,0 +1,160 @@
+-- The header of a restored state: what its writes come to, what the bytes then stand for, and that they keep the layout rule. Assumes nothing.
+use mathlib.Core.Path.{_≡_, refl, ap, ap₂, _∙_}
+use mathlib.Core.Bool.{Bool, true, false, not}
+use mathlib.Core.List.{List, [], _∷_, _++_}
+use Prim.Native.Nat.{ℕ, _+_, _-_, _^_, _≤_, _<_}
+use native.Mathlib.Omega.{arith}
+use lib.ListN.{length}
+use lib.Dec.{eqb}
+use Rattle.le.specs.Mem.{read, write, value, bytesOf, put}
+use Rattle.rules.specs.Instance.{Options, Instance}
+use Rattle.rules.specs.Create.{unknown}
+use Rattle.rules.specs.RoundTrip.{OptionsFit}
+use Rattle.rules.proofs.Fields.{length-bytesOf}
+use Rattle.tables.specs.Table.{row, putRow, over, Fit}
+use Rattle.tables.specs.Layout.{header}
+use Rattle.tables.specs.View.{field, headOf, nodesOf, view}
+use Rattle.tables.specs.Rule.{laidBy, laid}
+use Rattle.tables.specs.Write.{fromPlace, putHeader, setNext, heldByte}
+use Rattle.tables.proofs.Table.{length-putRow}
+use Rattle.tables.proofs.Refine.{head-put, view-header, cell-back}
+use Rattle.tables.proofs.Keeps.{ruled, is-ruled, open-laid}
+use Rattle.restore_parts.specs.Parts.{hasBits, optionCells, setOptions, setState}
+
+-- ---- what the writes come to
+
+pub options-put : (mem : List ℕ) (o : Options)
+    → put 1 (put 4 (put 4 (put 4 (put 8 (put 8 mem 40 (o .inOpts)) 48 (o .outOpts)) 68 (o .mapping .internal)) 72 (o .mapping .external)) 76 (o .mapping .range)) 80 (o .flags) ≡ setOptions o mem
+unfolding put write putHeader putRow setOptions
+options-put mem o = refl
+
+pub next-put : (mem : List ℕ) (x : ℕ) → put 8 mem 24 x ≡ setNext x mem
+unfolding put write putHeader putRow setNext
+next-put mem x = refl
+
+pub state-put : (mem : List ℕ) (next counter : ℕ) (o : Options) → put 1 (put 1 (setOptions o (put 8 mem 24 next)) 81 counter) 83 (heldByte (hasBits (o .inOpts))) ≡ setState next counter o mem
+unfolding put write putHeader putRow setNext setState
+state-put mem next counter o = refl
+
+-- ---- what the bytes then stand for
+
+-- next number, counter and options are the state's
+abbrev pub become : ℕ → ℕ → Options → Instance → Instance
+become next counter o i = record {
+  fixed = i .fixed;
+  removal = i .removal;
+  initialized = hasBits (o .inOpts);
+  options = o;
+  indexes = record { slots = i .indexes .slots; counter = counter };
+  tree = record { next = next; root = i .tree .root; nodes = i .tree .nodes };
+}
+
+module _ (next counter : ℕ) (o : Options) (mem : List ℕ) where
+  abbrev init : ℕ
+  init = heldByte (hasBits (o .inOpts))
+
+  abbrev cells : List (List ℕ)
+  cells = bytesOf 8 next ∷ [] ∷ (optionCells o ++ (bytesOf 1 counter ∷ [] ∷ bytesOf 1 init ∷ []))
+
+  abbrev H : List (List ℕ)
+  H = over header (fromPlace 3 cells) mem 0
+
+  one-row : setState next counter o mem ≡ putHeader 3 cells mem
+  unfolding setState setOptions setNext putHeader putRow write
+  one-row = refl
+
+  cells-fit : Fit header (fromPlace 3 cells)
+  cells-fit =
+      omega (arith, length-bytesOf 8 next, length-bytesOf 8 (o .inOpts), length-bytesOf 8 (o .outOpts), length-bytesOf 4 (o .mapping .internal), length-bytesOf 4 (o .mapping .external), length-bytesOf 4 (o .mapping .range), length-bytesOf 1 (o .flags), length-bytesOf 1 counter, length-bytesOf 1 init)
+
+  module _ (f : OptionsFit o) (top : next ≤ 2 ^ 56) (byte : counter < 256) where
+    next-is : field 3 H ≡ next
+    unfolding over row
+    next-is = cell-back 8 next mem 24 (omega arith)
+
+    in-is : field 5 H ≡ o .inOpts
+    unfolding over row
+    in-is = cell-back 8 (o .inOpts) mem 40 (f .inOpts)
+
+    out-is : field 6 H ≡ o .outOpts
+    unfolding over row
+    out-is = cell-back 8 (o .outOpts) mem 48 (f .outOpts)
+
+    internal-is : field 10 H ≡ o .mapping .internal
+    unfolding over row
+    internal-is = cell-back 4 (o .mapping .internal) mem 68 (f .internal)
+
+    external-is : field 11 H ≡ o .mapping .external
+    unfolding over row
+    external-is = cell-back 4 (o .mapping .external) mem 72 (f .external)
+
+    range-is : field 12 H ≡ o .mapping .range
+    unfolding over row
+    range-is = cell-back 4 (o .mapping .range) mem 76 (f .range)
+
+    flags-is : field 13 H ≡ o .flags
+    unfolding over row
+    flags-is = cell-back 1 (o .flags) mem 80 (let h = f .flags in omega arith)
+
+    counter-is : field 14 H ≡ counter
+    unfolding over row
+    counter-is = cell-back 1 counter mem 81 byte
+
+    flag-back : (b : Bool) → (v : ℕ) → v ≡ heldByte b → not (eqb v 0) ≡ b
+    flag-back true v e = rw e
+    flag-back false v e = rw e
+
+    bit-fits : (b : Bool) → heldByte b < 256
+    bit-fits true = omega arith
+    bit-fits false = omega arith
+
+    init-is : not (eqb (field 16 H) 0) ≡ hasBits (o .inOpts)
+    unfolding over row
+    init-is = flag-back (hasBits (o .inOpts)) _ (cell-back 1 init mem 83 (bit-fits (hasBits (o .inOpts))))
+
+    pub view-state : 256 ≤ length mem → view (setState next counter o mem) ≡ become next counter o (view mem)
+    unfolding view nodesOf over row
+    view-state l =
+        ap view one-row
+        ∙ view-header 3 cells mem cells-fit l
+        ∙ (λ t. record {
+          fixed = view mem .fixed;
+          removal = view mem .removal;
+          initialized = init-is t;
+          options = record {
+            inOpts = in-is t;
+            outOpts = out-is t;
+            mapping = record { internal = internal-is t; external = external-is t; range = range-is t };
+            flags = flags-is t;
+          };
+          indexes = record { slots = view mem .indexes .slots; counter = counter-is t };
+          tree = record { next = next-is t; root = view mem .tree .root; nodes = view mem .tree .nodes };
+        })
+
+    -- ---- the layout rule
+
+    state-length : length (setState next counter o mem) ≡ length mem
+    unfolding putHeader
+    state-length = ap length one-row ∙ length-putRow header (fromPlace 3 cells) mem 0
+
+    pub state-keeps : laid mem ≡ true → 2 ≤ next → unknown (view mem .fixed .known) o ≡ false → laid (setState next counter o mem) ≡ true
+    unfolding laid over row view
+    state-keeps e low u =
+        let r = ruled (headOf mem) (length mem) (open-laid mem e) in
+        ap₂ laidBy (ap headOf one-row ∙ head-put 3 cells mem cells-fit (let l = r .size .long in omega arith)) state-length
+        ∙ is-ruled H (length mem) (record {
+          size = r .size;
+          live = r .live;
+          low = omega (arith, next-is);
+          top = omega (arith, next-is);
+          bits =
+              (λ t. unknown (field 4 (headOf mem)) (record {
+                inOpts = in-is t;
+                outOpts = out-is t;
+                mapping = record { internal = internal-is t; external = external-is t; range = range-is t };
+                flags = flags-is t;
+              }))
+              ∙ u;
+          flags = omega (arith, flags-is, f .flags);
+          maps = r .maps;
+        })

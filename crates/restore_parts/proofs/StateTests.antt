@@ -1,0 +1,123 @@
+-- What the tests of a state restore say, and what one record writes. Assumes nothing.
+use mathlib.Core.Path.{_≡_, refl, sym, ap, _∙_}
+use mathlib.Core.Bool.{Bool, true, false, _||_, and-false}
+use mathlib.Core.Logic.{⊎-elim}
+use mathlib.Core.List.{List, [], _∷_}
+use Prim.Native.Nat.{ℕ, _+_, _-_, _^_, _≤_, _<_}
+use native.Mathlib.Omega.{arith}
+use lib.ListN.{length, take, drop}
+use lib.Dec.{leb, ltb}
+use borrow.Author.Tests.{eq-eqb, ne-eqb, le-leb, lt-leb, lt-ltb, le-ltb}
+use Rattle.le.specs.Mem.{get, put}
+use Rattle.rules.specs.Tree.{Node, isNone}
+use Rattle.rules.specs.Create.{outside, unknown}
+use Rattle.rules.specs.Saved.{nodeAt, behind, optionsAt, optionsIn, countOf as recordsOf, nextOf, counterIn, stateOf}
+use Rattle.rules.specs.Restore.{noNodes, fresh}
+use Rattle.rules.proofs.Tests.{le-or-lt}
+use Rattle.saved.specs.Options.{meant}
+use Rattle.saved.specs.declared.inner.SavedOptions.{SavedOptions}
+use Rattle.saved.proofs.Naming.{name-is}
+use Rattle.tables.specs.Table.{row}
+use Rattle.tables.specs.Layout.{capacityOf, countOf, nextOf as nextIn}
+use Rattle.tables.specs.View.{nodesOf, view}
+use Rattle.tables.specs.Rule.{Laid}
+use Rattle.tables.specs.Write.{heldByte, setNext, appendNode}
+use Rattle.tables.specs.Answer.{mountIn}
+use Rattle.tables.specs.declared.mounts.MountPoint.{MountPoint}
+use Rattle.tables.specs.declared.mounts.MountOn.{MountOn}
+use Rattle.tables.specs.declared.mounts.MountOn.the-variants.{Point, Nothing}
+use Rattle.tables.proofs.Places.{nodes-count}
+use Rattle.restore_parts.specs.Parts.{hasBits, Loads, loadNode, loadNodes, setState, stateMem}
+use Rattle.restore_parts.proofs.Records.{count-is}
+use Rattle.restore_parts.proofs.Loads.{next-capacity, next-count, next-next, next-laid}
+use Rattle.restore_parts.proofs.StateHead.{next-put}
+
+-- ---- the byte of `initialized`
+
+pub no-bits : (bits : ℕ) → bits ≡ 0 → 0 ≡ heldByte (hasBits bits)
+no-bits bits e = rw (eq-eqb bits 0 e)
+
+pub some-bits : (bits : ℕ) → (bits ≡ 0 → ⊥) → 1 ≡ heldByte (hasBits bits)
+some-bits bits h = rw (ne-eqb bits 0 h)
+
+-- ---- fresh
+
+some-nodes : (ns : List Node) → 0 < length ns → noNodes ns ≡ false
+unfolding noNodes
+some-nodes [] h = absurd (omega arith)
+some-nodes (n ∷ ns) h = refl
+
+none-there : (ns : List Node) → length ns ≤ 0 → noNodes ns ≡ true
+unfolding noNodes
+none-there [] h = refl
+none-there (n ∷ ns) h = absurd (omega arith)
+
+module _ (mem : List ℕ) where
+  pub has-nodes : 0 < countOf mem → false ≡ fresh (view mem)
+  unfolding fresh view
+  has-nodes h = rw (some-nodes (nodesOf mem) (omega (arith, nodes-count mem)))
+
+  module _ (r : MountOn) (is : mountIn r ≡ view mem .tree .root) where
+    pub root-mounted : (m : MountPoint) → r ≡ Point m → false ≡ fresh (view mem)
+    unfolding fresh mountIn
+    root-mounted m e =
+        let z : isNone (view mem .tree .root) ≡ false = ap isNone (sym is ∙ ap mountIn e) in
+        rw (z, and-false)
+
+    pub root-bare : r ≡ Nothing → countOf mem ≤ 0 → true ≡ fresh (view mem)
+    unfolding fresh mountIn view
+    root-bare e h =
+        let z : isNone (view mem .tree .root) ≡ true = ap isNone (sym is ∙ ap mountIn e) in
+        rw (none-there (nodesOf mem) (omega (arith, nodes-count mem)), z)
+
+-- ---- the mask, and room
+
+pub bits-by : (mem b : List ℕ) (known : ℕ) (o : SavedOptions) (r : Bool) → known ≡ get 8 mem 32 → meant o ≡ optionsAt b (optionsIn b)
+    → r ≡ (outside known (o .«in_opts») || outside known (o .«out_opts»)) → r ≡ unknown (view mem .fixed .known) (stateOf b .options)
+unfolding unknown view row get stateOf
+bits-by mem b known o r k m e = e ∙ (λ t. outside (k t) (m t .inOpts) || outside (k t) (m t .outOpts))
+
+no-less : (n k : ℕ) → leb n k ≡ ltb n (1 + k)
+no-less n k = ⊎-elim (λ (h : n ≤ k). le-leb n k h ∙ sym (lt-ltb n (1 + k) (omega arith))) (λ (h : k < n). lt-leb n k h ∙ sym (le-ltb n (1 + k) (omega arith))) (le-or-lt n k)
+
+pub many-by : (mem b : List ℕ) (n k : ℕ) → n ≡ capacityOf mem → k ≡ recordsOf b → leb n k ≡ ltb (view mem .fixed .capacity) (1 + length (stateOf b .nodes))
+unfolding view row get
+many-by mem b n k e f = no-less n k ∙ (λ t. ltb (e t) (1 + (f ∙ sym (count-is b)) t))
+
+-- ---- one record
+
+module _ (mem b : List ℕ) (at x : ℕ) (m′ : List ℕ) (i : x ≡ nodeAt b at .number) (p : m′ ≡ put 8 mem 24 x) where
+  set-is : m′ ≡ setNext (nodeAt b at .number) mem
+  set-is = p ∙ next-put mem x ∙ ap (λ (y : ℕ). setNext y mem) i
+
+  pub record Ready : Type 0 where
+    pub laid : Laid m′
+    pub room : countOf m′ + 1 < capacityOf m′
+    pub under : nextIn m′ < 2 ^ 56
+
+  pub ready : Laid mem → countOf mem + 1 < capacityOf mem → Loads (nodeAt b at) → Ready
+  ready d room f =
+      let top : nodeAt b at .number ≤ 2 ^ 56 = omega (arith, f .top) in
+      let y = nodeAt b at .number in
+      record {
+        laid = rw set-is (next-laid mem d y top (f .low));
+        room = rw set-is (omega (arith, next-count mem d y top, next-capacity mem d y top));
+        under = rw set-is (omega (arith, next-next mem d y top, f .top));
+      }
+
+  pub record-put : (end above : ℕ) (after : List ℕ) → end ≡ behind b at → behind b at ≤ length b → above ≡ nodeAt b at .above
+      → after ≡ appendNode above (take (end - (at + 18)) (drop (at + 18) b)) m′ → after ≡ loadNode (nodeAt b at) mem
+  unfolding loadNode
+  record-put end above after e w a h =
+      let name : take (end - (at + 18)) (drop (at + 18) b) ≡ nodeAt b at .called = name-is b at end e w in
+      h ∙ (λ t. appendNode (a t) (name t) (set-is t))
+
+pub short-name : (b : List ℕ) (at end : ℕ) → end ≡ behind b at → behind b at ≤ length b → Loads (nodeAt b at) → length (take (end - (at + 18)) (drop (at + 18) b)) ≤ 255
+short-name b at end e w f = rw (name-is b at end e w) (f .short)
+
+-- ---- all of it
+
+pub saved-put : (mem b : List ℕ) (next counter : ℕ) (o : SavedOptions) (m′ after : List ℕ) → next ≡ nextOf b → counter ≡ counterIn b → meant o ≡ optionsAt b (optionsIn b)
+    → m′ ≡ loadNodes (stateOf b .nodes) mem → after ≡ setState next counter (meant o) m′ → after ≡ stateMem (stateOf b) mem
+unfolding stateMem stateOf
+saved-put mem b next counter o m′ after n k p l h = h ∙ (λ t. setState (n t) (k t) (p t) (l t))

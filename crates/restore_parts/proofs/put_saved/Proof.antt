@@ -1,0 +1,41 @@
+-- The records first, then the header. Assumes nothing.
+use borrow.Author.Needs.{needs}
+use native.Mathlib.Omega.{arith}
+use Rattle.storage.proofs.Answers.{long}
+use Rattle.saved.proofs.Accepted.{accepted-long}
+use Rattle.restore_parts.proofs.StateTests.{saved-put}
+use Rattle.restore_parts.proofs.put_saved.Statement.{statement}
+use Rattle.restore_parts.proofs.put_saved.Tie as tie
+
+next-of-requires : tie.Need-next-of-requires
+next-of-requires c κs = omega (arith, accepted-long _ (c .before .before .pre .1 .0))
+
+counter-of-requires : tie.Need-counter-of-requires
+counter-of-requires c κs = omega (arith, accepted-long _ (c .before .before .before .pre .1 .0))
+
+options-of-requires : tie.Need-options-of-requires
+options-of-requires c κs = accepted-long _ (c .before .before .before .before .pre .1 .0)
+
+load-records-requires : tie.Need-load-records-requires
+load-records-requires c κs = search needs
+
+put-state-requires : tie.Need-put-state-requires
+put-state-requires c κs = omega (arith, long _ (c .before .before .before .before .before .before .before .before .before .before .pre .0))
+
+same-length : tie.Need-same-length
+same-length c = search needs
+
+returns : tie.Need-returns
+returns c = saved-put _ _ _ _ _ _ _ (c .before .before .before .before .before .before .before .before .before .before .next-of .ensures) (c .before .before .before .before .before .before .before .before .before .counter-of .ensures) (c .before .before .before .before .before .before .before .before .options-of .ensures) (c .before .before .before .before .before .before .load-records .ensures) (c .before .before .put-state .ensures)
+
+pub put-saved-spec : {M : Type 1} → statement M
+put-saved-spec =
+    tie.close
+    (tie.spec
+    next-of-requires
+    counter-of-requires
+    options-of-requires
+    load-records-requires
+    put-state-requires
+    same-length
+    returns)

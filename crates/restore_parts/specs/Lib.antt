@@ -1,0 +1,2 @@
+-- What the parts of a state restore leave.
+pub mod Parts

@@ -1,0 +1,2 @@
+-- What the parts of a save answer and put.
+pub mod Parts
