@@ -2,5 +2,6 @@
 pub mod Places
 pub mod Table
 pub mod Naming
+pub mod Together
 pub mod Words
 pub mod Steps

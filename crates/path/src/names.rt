@@ -32,8 +32,8 @@ pub fn is_dots(name: &[u8]) -> bool
     name[1] == b'.'
 }
 
-// Whether the byte stands in the name (R57, R61).
-pub fn has_byte(name: &[u8], b: u8) -> bool
+// Whether the byte stands in the name, one by one.
+fn has_by_one(name: &[u8], b: u8) -> bool
     ensures { λ r. ⌜ r ≡ holds b (now (name .entry)) ⌝ }
 {
     let mut i = 0;
@@ -44,6 +44,24 @@ pub fn has_byte(name: &[u8], b: u8) -> bool
         i += 1;
     }
     false
+}
+
+// Whether the byte stands in the name (R57, R61): the last eight bytes are looked at together, whatever was passed before.
+pub fn has_byte(name: &[u8], b: u8) -> bool
+    ensures { λ r. ⌜ r ≡ holds b (now (name .entry)) ⌝ }
+{
+    let n = name.len();
+    if n < 8 {
+        return has_by_one(name, b);
+    }
+    let mut at = 0;
+    while 8 <= n - at {
+        if crate::eight::any_byte(name, at, b) {
+            return true;
+        }
+        at += 8;
+    }
+    crate::eight::any_byte(name, n - 8, b)
 }
 
 // The check of one component: `.`, `..`, a slash or a byte 0 is refused (R61, R62).

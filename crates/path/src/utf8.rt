@@ -4,6 +4,7 @@ ghost use mathlib.Core.Bool.{cond};
 ghost use mathlib.Core.List.{[], _∷_};
 ghost use Prim.Native.Nat.{_<_, _≤_};
 ghost use lib.ListN.{length, drop};
+ghost use Rattle.path.specs.Together.{plainLong};
 ghost use Rattle.rules.specs.Utf8.{_‥_, fits, sequence, validTo, wellFormed};
 
 // Whether the byte at `at` is there and lies between low and high.
@@ -108,9 +109,30 @@ pub fn valid_to(s: &[u8]) -> usize
     i
 }
 
+// Whether there are eight bytes or more, and all are below 128: the last eight are looked at together, whatever was passed before.
+fn is_plain(s: &[u8]) -> bool
+    ensures { λ r. ⌜ r ≡ plainLong (now (s .entry)) ⌝ }
+{
+    let n = s.len();
+    if n < 8 {
+        return false;
+    }
+    let mut i = 0;
+    while 8 <= n - i {
+        if crate::eight::any_high(s, i) {
+            return false;
+        }
+        i += 8;
+    }
+    !crate::eight::any_high(s, n - 8)
+}
+
 // Whether all of the bytes are well formed (R35, R36).
 pub fn is_utf8(s: &[u8]) -> bool
     ensures { λ r. ⌜ r ≡ wellFormed (now (s .entry)) ⌝ }
 {
+    if is_plain(s) {
+        return true;
+    }
     valid_to(s) == s.len()
 }

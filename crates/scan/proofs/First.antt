@@ -1,8 +1,9 @@
 -- The first place where a test holds: passed over where it fails, found where it holds. Assumes nothing.
 use mathlib.Core.Path.{_≡_, refl, sym, ap, _∙_}
-use mathlib.Core.Bool.{Bool, true, false, cond, _||_, true≢false}
+use mathlib.Core.Bool.{Bool, true, false, cond, _||_, true≢false, or-true, or-false, or-assoc}
 use mathlib.Core.List.{List}
 use Prim.Native.Nat.{ℕ, zero, suc, _+_, _-_, _*_, _≤_, _<_}
+use native.Mathlib.Nat.{zero-add}
 use native.Mathlib.Omega.{arith}
 use borrow.Author.Tests.{eq-eqb, ne-eqb}
 use lib.Bits.{bitAnd}
@@ -53,7 +54,7 @@ module _ (f : ℕ → Bool) (i : ℕ) where
 
 -- ---- the first
 
-neither : (a b : Bool) → (a || b) ≡ false → (a ≡ false) × (b ≡ false)
+pub neither : (a b : Bool) → (a || b) ≡ false → (a ≡ false) × (b ≡ false)
 neither true b e = (e, absurd (true≢false e))
 neither false b e = (refl, e)
 
@@ -129,3 +130,34 @@ first-after f i (suc k) = go (f i) (first-after f (i + 1) k)
     go : (b : Bool) → i + 1 ≤ firstOf f (i + 1) k → i ≤ cond b i (firstOf f (i + 1) k)
     go true h = omega arith
     go false h = omega (arith, h)
+
+-- ---- one of many
+
+module _ (f : ℕ → Bool) where
+  -- j places and then k places
+  pub any-add : (i j k : ℕ) → anyOf f i (j + k) ≡ (anyOf f i j || anyOf f (i + j) k)
+  unfolding anyOf
+  any-add i j zero = let z : j + zero ≡ j = omega arith in ap (anyOf f i) z ∙ sym (or-false (anyOf f i j))
+  any-add i j (suc k) =
+      let z : j + suc k ≡ suc (j + k) = omega arith in
+      let y : i + (j + k) ≡ i + j + k = omega arith in
+      ap (anyOf f i) z ∙ ap (λ (b : Bool). b || f (i + (j + k))) (any-add i j k)
+      ∙ ap (λ (m : ℕ). (anyOf f i j || anyOf f (i + j) k) || f m) y
+      ∙ or-assoc (anyOf f i j) (anyOf f (i + j) k) (f (i + j + k))
+
+  -- what is hit in a part is hit in the whole
+  pub any-part : (i k n : ℕ) → i + k ≤ n → anyOf f i k ≡ true → anyOf f 0 n ≡ true
+  any-part i k n h e =
+      let z : n ≡ i + (k + (n - (i + k))) = omega arith in
+      ap (anyOf f 0) z ∙ any-add 0 i (k + (n - (i + k))) ∙ rw zero-add (rw (any-add i k (n - (i + k)), e) (or-true (anyOf f 0 i)))
+
+  -- the last k places decide, where those before i are known, and i reaches them
+  pub any-last : (i k n : ℕ) → anyOf f 0 i ≡ false → k ≤ n → n - k ≤ i → anyOf f (n - k) k ≡ anyOf f 0 n
+  any-last i k n e h l =
+      let z : n ≡ n - k + k = omega arith in
+      let y : i ≡ n - k + (i - (n - k)) = omega arith in
+      let b = neither (anyOf f 0 (n - k)) (anyOf f (0 + (n - k)) (i - (n - k))) (sym (any-add 0 (n - k) (i - (n - k))) ∙ sym (ap (anyOf f 0) y) ∙ e) in
+      sym (ap (anyOf f 0) z ∙ any-add 0 (n - k) k ∙ rw zero-add (rw (b .0) refl))
+
+  pub any-more : (i k : ℕ) → anyOf f 0 i ≡ false → anyOf f i k ≡ false → anyOf f 0 (i + k) ≡ false
+  any-more i k e h = any-add 0 i k ∙ rw zero-add (rw (e, h) refl)

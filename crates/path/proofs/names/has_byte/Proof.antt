@@ -1,39 +1,27 @@
--- `path::names::has_byte` meets its contract. The invariant: the rest has the byte where the whole has it. Assumes nothing.
-use mathlib.Core.Path.{_≡_, refl, sym, _∙_}
+-- Eight bytes at a time, none of them the byte; then the last eight.
+use mathlib.Core.Path.{sym, _∙_}
 use Prim.Native.Nat.{_-_}
-use native.Mathlib.Omega.{arith}
-use lib.ListN.{length, drop}
-use Rattle.rules.specs.Bytes.{holds}
-use Rattle.path.proofs.Naming.{holds-end, holds-here, holds-more}
+use lib.ListN.{length}
+use Rattle.path.specs.Together.{isByte}
+use Rattle.path.proofs.Together.{None, none-yet, none-on, one-there, last-eight, holds-any}
+use borrow.Author.Needs.{needs}
 use Rattle.path.proofs.names.has_byte.Statement.{statement}
 use Rattle.path.proofs.names.has_byte.Tie as tie
 
 abbrev Inv-loop : tie.InvT-loop
-Inv-loop name b i₀ i = holds b (drop i name) ≡ holds b name
+Inv-loop name b n at₀ at = None (isByte b name) (length name) at
 
 abbrev μ-loop : tie.MeasureT-loop
-μ-loop name b i₀ i = length name - i
-
-loop-holds : tie.Need-loop-holds Inv-loop μ-loop
-loop-holds c = refl
-
-shared-slice-read-if1 : tie.Need-shared-slice-read-if1 Inv-loop μ-loop
-shared-slice-read-if1 c = omega arith
-
-returns : tie.Need-returns Inv-loop μ-loop
-returns c = sym (holds-here _ _ _ (c .before .before .loop-test .taken) (c .if1 .taken)) ∙ c .before .before .before .loop .inv
-
-add-i : tie.Need-add-i Inv-loop μ-loop
-add-i c = omega arith
-
-loop-less : tie.Need-loop-less Inv-loop μ-loop
-loop-less c = omega arith
-
-loop-again : tie.Need-loop-again Inv-loop μ-loop
-loop-again c = sym (holds-more _ _ _ (c .before .before .loop-test .taken) (c .if1 .left)) ∙ c .before .before .before .loop .inv
+μ-loop name b n at₀ at = length name - at
 
 returns-2 : tie.Need-returns-2 Inv-loop μ-loop
-returns-2 c = sym (holds-end _ _ _ (c .loop-test .left)) ∙ c .before .loop .inv
+returns-2 c = sym (holds-any _ _ ∙ one-there _ _ _ (c .before .before .before .loop .inv) (search needs) (sym (c .before .any-byte .ensures) ∙ c .if2 .taken))
+
+loop-again : tie.Need-loop-again Inv-loop μ-loop
+loop-again c = none-on _ _ _ (c .before .before .before .loop .inv) (search needs) (sym (c .before .any-byte .ensures) ∙ c .if2 .left)
+
+returns-3 : tie.Need-returns-3 Inv-loop μ-loop
+returns-3 c = c .any-byte2 .ensures ∙ last-eight _ _ _ (c .before .before .loop .inv) (search needs) (search needs) ∙ sym (holds-any _ _)
 
 pub has-byte-spec : {M : Type 1} → statement M
 has-byte-spec =
@@ -41,10 +29,14 @@ has-byte-spec =
     (tie.spec
     Inv-loop
     μ-loop
-    loop-holds
-    shared-slice-read-if1
-    returns
-    add-i
-    loop-less
+    (λ c κs. search needs)
+    (λ c. c .has-by-one .ensures)
+    (λ c. none-yet _ _)
+    (λ c. search needs)
+    (λ c κs. search needs)
+    returns-2
+    (λ c. search needs)
+    (λ c. search needs)
     loop-again
-    returns-2)
+    (λ c κs. search needs)
+    returns-3)

@@ -1,0 +1,38 @@
+// Bytes of a slice looked at eight together, with no branch for each.
+ghost use mathlib.Core.Path.{_≡_};
+ghost use Prim.Native.Nat.{_+_, _≤_};
+ghost use lib.ListN.{length};
+ghost use Rattle.scan.specs.First.{anyOf};
+ghost use Rattle.path.specs.Together.{isHigh, isByte};
+
+// Whether one of the eight bytes at a place is 128 or more.
+pub fn any_high(s: &[u8], at: usize) -> bool
+    requires { ⌜ at + 8 ≤ length (now s) ⌝ }
+    ensures { λ r. ⌜ r ≡ anyOf (isHigh (now (s .entry))) at 8 ⌝ }
+{
+    let mut hit = false;
+    let mut k = 0;
+    while k < 8 {
+        if 127 < s[at + k] {
+            hit = true;
+        }
+        k += 1;
+    }
+    hit
+}
+
+// Whether one of the eight bytes at a place is b.
+pub fn any_byte(s: &[u8], at: usize, b: u8) -> bool
+    requires { ⌜ at + 8 ≤ length (now s) ⌝ }
+    ensures { λ r. ⌜ r ≡ anyOf (isByte b (now (s .entry))) at 8 ⌝ }
+{
+    let mut hit = false;
+    let mut k = 0;
+    while k < 8 {
+        if s[at + k] == b {
+            hit = true;
+        }
+        k += 1;
+    }
+    hit
+}
