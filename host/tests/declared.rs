@@ -1,4 +1,5 @@
-//! The declarations of `src/sys.rs` are those of the C header: names, order and widths.
+//! The declarations of `src/sys.rs` are those of the C header: names, order and widths. Each `unsafe` block says why it is
+//! sound.
 use std::fs;
 use std::path::Path;
 
@@ -105,4 +106,27 @@ fn declarations_are_those_of_the_header() {
     header.sort();
     sys.sort();
     assert_eq!(sys, header);
+}
+
+#[test]
+fn structs_are_laid_out_as_in_c() {
+    let sys = text("src/sys.rs");
+    let parts: Vec<_> = sys.split("pub struct ").collect();
+    assert_eq!(parts.len() - 1, 15, "structs of the header");
+    for before in &parts[..parts.len() - 1] {
+        // The attributes of an item stand behind the last empty line.
+        let attributes = before.rsplit("\n\n").next().expect("one part at least");
+        assert!(attributes.contains("#[repr(C)]"), "a struct without #[repr(C)]: {}", attributes);
+    }
+}
+
+#[test]
+fn every_unsafe_block_says_why_it_is_sound() {
+    let sys = text("src/sys.rs");
+    let lines: Vec<_> = sys.lines().map(str::trim).collect();
+    let blocks: Vec<_> = (1..lines.len()).filter(|k| lines[*k].contains("unsafe {")).collect();
+    assert_eq!(blocks.len(), 20, "one block for each call");
+    for k in blocks {
+        assert!(lines[k - 1].starts_with("// SAFETY: "), "{}", lines[k]);
+    }
 }
