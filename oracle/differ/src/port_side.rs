@@ -4,7 +4,7 @@
 
 use crate::side::{Answer, Backend, Creation, Mount, Node, Options, Side, Tables};
 
-mod calls {
+pub mod calls {
     //! The calls as crates/gateway declares them: a slice is its address and its length.
 
     #[repr(C)]

@@ -80,7 +80,7 @@ fn code_of(e: &io::Error) -> u64 {
 }
 
 pub struct RustSide {
-    vfs: Vfs,
+    pub vfs: Vfs,
     known: u64,
     fates: Arc<Mutex<Fates>>,
 }

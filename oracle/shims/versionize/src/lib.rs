@@ -51,11 +51,20 @@ pub trait Versionize {
     }
 }
 
+fn too_few<E>(_: E) -> VersionizeError {
+    VersionizeError::Deserialize("too few bytes".to_string())
+}
+
+/// So many bytes; room is made ahead for as many as a name has, and not for any length that the bytes claim.
 fn take<R: Read>(from: &mut R, len: u64) -> VersionizeResult<Vec<u8>> {
+    if len <= 256 {
+        let mut bytes = vec![0; len as usize];
+        return from.read_exact(&mut bytes).map(|_| bytes).map_err(too_few);
+    }
     let mut bytes = Vec::new();
     match from.take(len).read_to_end(&mut bytes) {
         Ok(n) if n as u64 == len => Ok(bytes),
-        _ => Err(VersionizeError::Deserialize("too few bytes".to_string())),
+        _ => Err(too_few(())),
     }
 }
 
@@ -68,7 +77,7 @@ macro_rules! number {
 
             fn deserialize<R: Read>(from: &mut R, _: &VersionMap, _: u16) -> VersionizeResult<$t> {
                 let mut bytes = [0; $width];
-                bytes.copy_from_slice(&take(from, $width)?);
+                from.read_exact(&mut bytes).map_err(too_few)?;
                 Ok(<$t>::from_le_bytes(bytes))
             }
 

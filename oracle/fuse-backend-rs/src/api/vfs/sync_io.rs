@@ -74,6 +74,15 @@ impl Vfs {
         })
     }
 
+    /// Whether to a backend, and the number there or in the tree; the backend is let go of. For timing.
+    pub fn probe_route_alone(&self, full: u64) -> Result<(bool, u64)> {
+        let (fs, inode) = self.get_real_rootfs(VfsInode::from(full))?;
+        match fs {
+            Left(_) => Ok((false, inode.ino())),
+            Right(_) => Ok((true, inode.ino())),
+        }
+    }
+
     pub fn probe_lookup(&self, node: u64, name: &CStr) -> Result<Entry> {
         self.lookup_pseudo(&self.root, VfsInode::from(node), &Context::new(), name)
     }
