@@ -114,14 +114,16 @@ impl<'a> Table<'a> {
     fn routes(&mut self) {
         let mut pair = Pair::flat(10);
         let index = pair.mount(&format!("/{}", name(9))).numbers[1];
+        pair.check();
         self.route("route to a backend", 5.0, &mut pair, index << 56 | 5);
         self.route("route to the tree", 1.0, &mut pair, 5);
         self.route("route to an empty index", 5.0, &mut pair, (index + 1) << 56 | 5);
         pair.mount("/");
+        pair.check();
         self.route("route of the mounted root", 5.0, &mut pair, 1);
     }
 
-    fn lookup(&mut self, title: &str, plot: Plot, pair: &mut Pair, node: u64, name: &str) {
+    fn lookup(&mut self, title: &str, goal: f64, plot: Plot, pair: &mut Pair, node: u64, name: &str) {
         pair.both(&Call::Lookup(node, name.into()));
         let vfs = &pair.rust.vfs;
         let (at, len) = lent(&pair.port);
@@ -129,7 +131,7 @@ impl<'a> Table<'a> {
         let bytes = name.as_bytes();
         self.line(
             title,
-            5.0,
+            goal,
             plot,
             plain(|| vfs.probe_lookup(opaque(node), opaque(&c_name))),
             plain(|| unsafe { galdovar_lookup(at, len, opaque(node), opaque(bytes.as_ptr()), opaque(bytes.len())) }),
@@ -141,17 +143,18 @@ impl<'a> Table<'a> {
             let mut pair = Pair::flat(n);
             let last = name(n - 1);
             let of = |what: &str| format!("lookup {}, {} children", what, n);
-            self.lookup(&of("of the last"), Some(("lookup of the last child", n)), &mut pair, 1, &last);
-            self.lookup(&of("of a missing one"), Some(("lookup of a missing child", n)), &mut pair, 1, &name(n));
+            self.lookup(&of("of the last"), 5.0, Some(("lookup of the last child", n)), &mut pair, 1, &last);
+            self.lookup(&of("of a missing one"), 5.0, Some(("lookup of a missing child", n)), &mut pair, 1, &name(n));
             pair.mount(&format!("/{}", last));
             pair.check();
-            self.lookup(&of("of the last, mounted"), None, &mut pair, 1, &last);
+            self.lookup(&of("of the last, mounted"), 5.0, None, &mut pair, 1, &last);
         }
         let mut pair = Pair::new();
         for k in 0..1000 {
             pair.make(&format!("/{}", alike(k)));
         }
-        self.lookup("lookup of the last, 1000 children, names that end alike", None, &mut pair, 1, &alike(999));
+        pair.check();
+        self.lookup("lookup of the last, 1000 children, names that end alike", 0.0, None, &mut pair, 1, &alike(999));
     }
 
     fn small_directory(&mut self) {
@@ -159,7 +162,7 @@ impl<'a> Table<'a> {
         for (site, which) in [(0, "first"), (20, "21st"), (39, "last")] {
             let node = pair.done(&Call::Walk(format!("/{}", site_name(site)).into())).numbers[2];
             let title = format!("lookup of the last of 24 in the {} directory, tree of 40 x 25", which);
-            self.lookup(&title, None, &mut pair, node, &name(23));
+            self.lookup(&title, 5.0, None, &mut pair, node, &name(23));
         }
         for n in SIZES {
             let mut pair = Pair::flat(n - 10);
@@ -169,18 +172,18 @@ impl<'a> Table<'a> {
             pair.check();
             let node = pair.done(&Call::Walk(format!("/{}", site_name(0)).into())).numbers[2];
             let title = format!("lookup of the last of 9 in a directory made last, tree of {}", n);
-            self.lookup(&title, Some(("lookup in a directory of 9", n)), &mut pair, node, &name(8));
+            self.lookup(&title, 5.0, Some(("lookup in a directory of 9", n)), &mut pair, node, &name(8));
         }
     }
 
-    fn walk(&mut self, title: &str, pair: &mut Pair, path: &str) {
+    fn walk(&mut self, title: &str, goal: f64, pair: &mut Pair, path: &str) {
         pair.done(&Call::Walk(path.into()));
         let vfs = &pair.rust.vfs;
         let (at, len) = lent(&pair.port);
         let bytes = path.as_bytes();
         self.line(
             title,
-            5.0,
+            goal,
             None,
             plain(|| vfs.probe_walk(opaque(path))),
             plain(|| unsafe { galdovar_path_walk(at, len, opaque(bytes.as_ptr()), opaque(bytes.len())) }),
@@ -188,10 +191,10 @@ impl<'a> Table<'a> {
     }
 
     fn walks(&mut self) {
-        for (others, tree) in [(0, "tree of 16"), (984, "tree of 1000, 984 made before")] {
+        for (others, goal, tree) in [(0, 5.0, "tree of 16"), (984, 0.0, "tree of 1000, 984 made before")] {
             let mut pair = Pair::chain(others, 16);
             for depth in [1, 4, 16] {
-                self.walk(&format!("walk of depth {}, {}", depth, tree), &mut pair, &chain_path(depth));
+                self.walk(&format!("walk of depth {}, {}", depth, tree), goal, &mut pair, &chain_path(depth));
             }
         }
     }
