@@ -174,7 +174,7 @@ module _ (d f g p : List ℕ) (n : ℕ) (e : List ℕ) (l : length f ≡ length 
 -- the fixed part of an entry, field by field
 
 -- the lowest k bytes of a number
-low-bytes : (k v : ℕ) → bytesOf k (v % 256 ^ k) ≡ bytesOf k v
+pub low-bytes : (k v : ℕ) → bytesOf k (v % 256 ^ k) ≡ bytesOf k v
 unfolding bytesOf
 low-bytes k v = sym (append-nil (bytesOf k (v % 256 ^ k))) ∙ sym (bytes-add k 0 v) ∙ ap (λ (n : ℕ). bytesOf n v) (add-zero k)
 
@@ -182,12 +182,17 @@ row-on : (w v : ℕ) (ws vs d : List ℕ) (at : ℕ) (e : List ℕ) → e ≡ pu
 unfolding fields
 row-on w v ws vs d at e q = ap (λ (m : List ℕ). write m (at + w) (fields ws vs)) q ∙ put-write w d at v (fields ws vs)
 
-front-fields : (d : List ℕ) (ino off n : ℕ) (e₁ e₂ e₃ e₄ : List ℕ)
-    → e₁ ≡ put 8 d 0 ino → e₂ ≡ put 8 e₁ 8 off → e₃ ≡ put 4 e₂ 16 (n % 256 ^ 4) → e₄ ≡ put 4 e₃ 20 0 → e₄ ≡ write d 0 (fields direntRow (ino ∷ off ∷ n ∷ 0 ∷ []))
+pub front-fields : (d : List ℕ) (ino off n : ℕ) (e₁ e₂ e₃ e₄ : List ℕ)
+    → e₁ ≡ put 8 d 0 ino → e₂ ≡ put 8 e₁ 8 off → e₃ ≡ put 4 e₂ 16 n → e₄ ≡ put 4 e₃ 20 0 → e₄ ≡ write d 0 (fields direntRow (ino ∷ off ∷ n ∷ 0 ∷ []))
 unfolding write fields put
 front-fields d ino off n e₁ e₂ e₃ e₄ q₁ q₂ q₃ q₄ =
-    row-on 4 0 [] [] e₃ 20 e₄ q₄ ∙ row-on 4 n (4 ∷ []) (0 ∷ []) e₂ 16 e₃ (q₃ ∙ ap (write e₂ 16) (low-bytes 4 n))
+    row-on 4 0 [] [] e₃ 20 e₄ q₄ ∙ row-on 4 n (4 ∷ []) (0 ∷ []) e₂ 16 e₃ q₃
     ∙ row-on 8 off (4 ∷ 4 ∷ []) (n ∷ 0 ∷ []) e₁ 8 e₂ q₂ ∙ row-on 8 ino (8 ∷ 4 ∷ 4 ∷ []) (off ∷ n ∷ 0 ∷ []) d 0 e₁ q₁
+
+-- the name length stands in four bytes
+front-low : (ino off n : ℕ) → fields direntRow (ino ∷ off ∷ n % 256 ^ 4 ∷ 0 ∷ []) ≡ fields direntRow (ino ∷ off ∷ n ∷ 0 ∷ [])
+unfolding fields
+front-low ino off n = rw (low-bytes 4 n)
 
 -- an entry whose name is laid behind the 24 bytes that stood there
 module _ (d : List ℕ) (ino off : ℕ) (name : List ℕ) (n : ℕ) (e : List ℕ) (w : Lays d (length d) (recordOf (read d 0 24) name ∷ []) n e) where
@@ -200,10 +205,10 @@ module _ (d : List ℕ) (ino off : ℕ) (name : List ℕ) (n : ℕ) (e : List �
   pub entry-room : (n ≡ 0 → ⊥) → 24 ≤ length e
   entry-room z = omega (arith, length-read d 0 24, front-room d before (frontOf ino off name) name n e as-before w z)
 
-  pub entry-in : (e₁ e₂ e₃ e₄ : List ℕ) → (n ≡ 0 → ⊥) → e₁ ≡ put 8 e 0 ino → e₂ ≡ put 8 e₁ 8 off → e₃ ≡ put 4 e₂ 16 (length name % 256 ^ 4) → e₄ ≡ put 4 e₃ 20 0
-      → Lays d (length d) (entry ino off name ∷ []) n e₄
+  pub entry-in : (e₁ : List ℕ) → (n ≡ 0 → ⊥) → e₁ ≡ write e 0 (fields direntRow (ino ∷ off ∷ length name % 256 ^ 4 ∷ 0 ∷ []))
+      → Lays d (length d) (entry ino off name ∷ []) n e₁
   unfolding entry
-  entry-in e₁ e₂ e₃ e₄ z q₁ q₂ q₃ q₄ = rw (front-fields e ino off (length name) e₁ e₂ e₃ e₄ q₁ q₂ q₃ q₄) (front-in d before (frontOf ino off name) name n e as-before w z)
+  entry-in e₁ z q = rw (q ∙ ap (write e 0) (front-low ino off (length name))) (front-in d before (frontOf ino off name) name n e as-before w z)
 
   pub entry-out : n ≡ 0 → Lays d (length d) (entry ino off name ∷ []) 0 e
   unfolding entry

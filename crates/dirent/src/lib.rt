@@ -5,6 +5,8 @@ ghost use Rattle.le.specs.Mem.{read};
 ghost use Rattle.rules.specs.Listing.{recordOf};
 ghost use Rattle.dirent.specs.Entry.{entry, Lays};
 
+pub mod inner;
+
 // The bytes of an entry in front of its name: number, offset, name length, type (R64).
 const FRONT: usize = 24;
 
@@ -41,9 +43,6 @@ pub fn write_dirent(out: &mut [u8], ino: u64, off: u64, name: &[u8]) -> usize
     if size == 0 {
         return 0;
     }
-    le::fields::put_u64(out, 0, ino);
-    le::fields::put_u64(out, 8, off);
-    le::fields::put_u32(out, 16, (name.len() % TWO_32) as u32);
-    le::fields::put_u32(out, 20, 0);
+    inner::put_front(out, ino, off, (name.len() % TWO_32) as u32);
     size
 }

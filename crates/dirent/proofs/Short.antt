@@ -1,0 +1,88 @@
+-- An entry whose name has 1 to 7 bytes and comes as a number: name and zeros are the bytes of one number. Assumes nothing.
+use mathlib.Core.Path.{_≡_, refl, sym, ap, ap₂, _∙_}
+use mathlib.Core.List.{List, [], _∷_, _++_}
+use Prim.Native.Nat.{ℕ, zero, suc, _+_, _-_, _*_, _/_, _%_, _^_, _≤_, _<_}
+use native.Mathlib.Nat.{pow-zero, pow-suc, mod-lt, div-eq-of-lt, one-le-pow}
+use native.Mathlib.Omega.{arith}
+use lib.ListN.{length, replicate, length-append}
+use lib.Dec.{lit<}
+use lib.Pow.{pow-add, shl-exact}
+use Rattle.rules.specs.Fields.{bytesOf, fields}
+use Rattle.rules.specs.Listing.{padding, recordOf, direntRow}
+use Rattle.rules.proofs.Fields.{length-bytesOf}
+use Rattle.le.specs.Mem.{write, put}
+use Rattle.le.proofs.Lens.{bytes-add, write-append}
+use Rattle.dirent.specs.Entry.{entry, Lays}
+use Rattle.dirent.proofs.Records.{frontOf, front-length, entry-length, lays-in, lays-out, low-bytes}
+
+-- ---- the mask
+
+eights : (l : ℕ) → 2 ^ (8 * l) ≡ 256 ^ l
+eights zero = pow-zero 2 ∙ sym (pow-zero 256)
+eights (suc l) =
+    let e : 8 * suc l ≡ 8 * l + 8 = omega arith in
+    ap (λ (k : ℕ). 2 ^ k) e ∙ pow-add 2 (8 * l) 8 ∙ ap (λ (k : ℕ). k * 256) (eights l) ∙ sym (pow-suc 256 l)
+
+-- one above l bytes, as the shift gives it
+pub above : (l m : ℕ) → l ≤ 7 → m ≡ 1 * 2 ^ (8 * l) % 2 ^ 64 → m ≡ 256 ^ l
+above l m h e =
+    let s : 1 * 2 ^ (8 * l) % 2 ^ 64 ≡ 1 * 2 ^ (8 * l) = shl-exact 1 (8 * l) 64 (omega arith) (omega arith) in
+    let t : 2 ^ (8 * l) ≡ 256 ^ l = eights l in
+    omega arith
+
+pub above-some : (l m : ℕ) → l ≤ 7 → m ≡ 1 * 2 ^ (8 * l) % 2 ^ 64 → 0 < m
+above-some l m h e = let p : 1 ≤ 256 ^ l = one-le-pow l 256 (lit< tt) in omega (arith, above l m h e)
+
+-- ---- the bytes of a number that is masked
+
+zeros : (k : ℕ) → bytesOf k 0 ≡ replicate k 0
+unfolding bytesOf
+zeros zero = refl
+zeros (suc k) = ap (λ (bs : List ℕ). 0 ∷ bs) (zeros k)
+
+masked : (l k w : ℕ) → bytesOf (l + k) (w % 256 ^ l) ≡ bytesOf l w ++ replicate k 0
+masked l k w =
+    let v : ℕ = w % 256 ^ l in
+    let p : 1 ≤ 256 ^ l = one-le-pow l 256 (lit< tt) in
+    let z : v / 256 ^ l ≡ 0 = div-eq-of-lt (mod-lt w p) in
+    bytes-add l k v
+    ∙ ap₂ (λ (a b : List ℕ). a ++ b) (low-bytes l v ∙ low-bytes l w) (ap (bytesOf k) z ∙ zeros k)
+
+-- ---- the entry
+
+module _ (d : List ℕ) (ino off l w : ℕ) (some : 1 ≤ l) (few : l ≤ 7) where
+  abbrev name : List ℕ
+  name = bytesOf l w
+
+  size : length name ≡ l
+  size = length-bytesOf l w
+
+  long : length (entry ino off name) ≡ 32
+  long = omega (arith, entry-length ino off name, size)
+
+  -- fixed part, and the number
+  spelt : entry ino off name ≡ frontOf ino off name ++ bytesOf 8 (w % 256 ^ l)
+  unfolding entry recordOf
+  spelt =
+      let k : padding (length (frontOf ino off name) + length name) ≡ 8 - l = omega (arith, front-length ino off name, size) in
+      let e : l + (8 - l) ≡ 8 = omega arith in
+      ap (λ (n : ℕ). frontOf ino off name ++ (name ++ replicate n 0)) k
+      ∙ ap (λ (bs : List ℕ). frontOf ino off name ++ bs) (sym (masked l (8 - l) w) ∙ ap (λ (n : ℕ). bytesOf n (w % 256 ^ l)) e)
+
+  pub short-in : (m : ℕ) (e f : List ℕ) → 32 ≤ length d → m ≡ 1 * 2 ^ (8 * l) % 2 ^ 64 → e ≡ write d 0 (fields direntRow (ino ∷ off ∷ l ∷ 0 ∷ []))
+      → f ≡ put 8 e 24 (w % m) → Lays d (length d) (entry ino off name ∷ []) 32 f
+  unfolding put
+  short-in m e f h q a b =
+      let front : List ℕ = frontOf ino off name in
+      let g : e ≡ write d 0 front = a ∙ ap (λ (n : ℕ). write d 0 (fields direntRow (ino ∷ off ∷ n ∷ 0 ∷ []))) (sym size) in
+      let r : f ≡ write e 24 (bytesOf 8 (w % 256 ^ l)) = b ∙ ap (λ (n : ℕ). write e 24 (bytesOf 8 (w % n))) (above l m few q) in
+      let t : write d 0 (front ++ bytesOf 8 (w % 256 ^ l)) ≡ write (write d 0 front) (0 + length front) (bytesOf 8 (w % 256 ^ l)) =
+      write-append d 0 front (bytesOf 8 (w % 256 ^ l)) in
+      let at : 0 + length front ≡ 24 = omega (arith, front-length ino off name) in
+      let all : f ≡ write d 0 (entry ino off name) =
+      r ∙ ap (λ (x : List ℕ). write x 24 (bytesOf 8 (w % 256 ^ l))) g
+      ∙ sym (t ∙ ap (λ (n : ℕ). write (write d 0 front) n (bytesOf 8 (w % 256 ^ l))) at) ∙ ap (write d 0) (sym spelt) in
+      lays-in d (length d) (entry ino off name) 32 f (record { fits = omega (arith, long); count = sym long; bytes = all })
+
+  pub short-out : length d < 32 → Lays d (length d) (entry ino off name ∷ []) 0 d
+  short-out h = lays-out d (length d) (entry ino off name) 0 d (record { short = omega (arith, long); count = refl; bytes = refl })
