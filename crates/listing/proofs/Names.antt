@@ -5,6 +5,7 @@ use Prim.Native.Nat.{ℕ, _≤_}
 use native.Mathlib.Omega.{arith}
 use lib.ListN.{length, take, drop}
 use lib.Seq.{take-at}
+use Rattle.le.specs.Mem.{bytesOf}
 use Rattle.le.proofs.Lens.{length-write}
 use Rattle.dirent.specs.Entry.{entry, Lays}
 use Rattle.dirent.proofs.Writes.{write-over}
@@ -21,3 +22,8 @@ module _ (name d : List ℕ) (n : ℕ) (e : List ℕ) (c : Copied name d 0 n e) 
   -- its record
   pub named : (x y off : ℕ) → x ≡ y → (b : List ℕ) (m : ℕ) (f : List ℕ) → Lays b (length b) (entry x off (take n e) ∷ []) m f → Lays b (length b) (entry y off name ∷ []) m f
   named x y off h b m f w = rw (h, name-back) at w
+
+-- a name that is the l bytes of a number
+pub short-named : (name : List ℕ) (l v x y off : ℕ) → name ≡ bytesOf l v → x ≡ y → (b : List ℕ) (m : ℕ) (f : List ℕ) → Lays b (length b) (entry x off (bytesOf l v) ∷ []) m f
+    → Lays b (length b) (entry y off name ∷ []) m f
+short-named name l v x y off e h b m f w = rw (e, ← h) w

@@ -1,14 +1,15 @@
 -- The name of a row, copied from its two cells. Assumes nothing.
 use mathlib.Core.Path.{_≡_, refl, sym, ap, _∙_}
-use mathlib.Core.List.{List, _++_}
-use Prim.Native.Nat.{ℕ, _+_, _-_, _≤_, _<_, min}
+use mathlib.Core.List.{List, _∷_, _++_}
+use Prim.Native.Nat.{ℕ, zero, suc, _+_, _-_, _*_, _/_, _%_, _^_, _≤_, _<_, min}
+use native.Mathlib.Nat.{suc-add}
 use native.Mathlib.Decide.{decLe}
 use native.Mathlib.Omega.{arith}
 use lib.ListN.{length, getD, take, length-append}
 use lib.Seq.{take-all}
-use Rattle.rules.proofs.Fields.{length-read}
-use Rattle.le.specs.Mem.{read, get, write}
-use Rattle.le.proofs.Lens.{get-one, take-read, write-append}
+use Rattle.rules.proofs.Fields.{length-read, bytes-back, get-fits}
+use Rattle.le.specs.Mem.{read, bytesOf, get, write, Bytes}
+use Rattle.le.proofs.Lens.{get-one, get-add, take-read, write-append}
 use Rattle.tables.specs.Table.{row}
 use Rattle.tables.specs.Layout.{lastAt, firstAt}
 use Rattle.tables.specs.View.{nameFrom, nodeFrom, nodeAt}
@@ -21,6 +22,12 @@ take-least mem p k w = go (decLe w k)
     go : Dec (w ≤ k) → take w (read mem p k) ≡ read mem p (min w k)
     go (yes h) = let e : min w k ≡ w = omega arith in rw e (take-read mem p k w h)
     go (no h) = let e : min w k ≡ k = omega arith in rw e (take-all w (read mem p k) (omega (arith, length-read mem p k)))
+
+-- the lowest l of l + j bytes of a number
+take-bytes : (l j v : ℕ) → take l (bytesOf (l + j) v) ≡ bytesOf l v
+unfolding bytesOf
+take-bytes zero j v = refl
+take-bytes (suc l) j v = rw suc-add (ap (λ (bs : List ℕ). v % 256 ∷ bs) (take-bytes l j (v / 256)))
 
 module _ (n : ℕ) (mem : List ℕ) (i : ℕ) where
   abbrev name : List ℕ
@@ -57,6 +64,33 @@ module _ (n : ℕ) (mem : List ℕ) (i : ℕ) where
       let a : min (byte - 7) 248 ≡ l - 7 = omega (arith, size) in
       let b : min (min byte 7) 7 ≡ min l 7 = omega (arith, size) in
       by-byte ∙ rw (a, b)
+
+  -- ---- its cell as a number
+
+  module _ (v : ℕ) (e : v ≡ get 8 mem (lastAt n i)) (b : Bytes mem) where
+    -- the cell's bytes: the lowest, and the seven above it
+    apart : (v % 256 ≡ byte) × (bytesOf 7 (v / 256) ≡ read mem (lastAt n i + 1) 7)
+    apart =
+        let one : v ≡ byte + 256 ^ 1 * get 7 mem (lastAt n i + 1) = e ∙ get-add 1 7 mem (lastAt n i) in
+        let few : byte < 256 ^ 1 = get-fits 1 mem (lastAt n i) b in
+        let high : v / 256 ≡ get 7 mem (lastAt n i + 1) = omega arith in
+        (omega arith, ap (bytesOf 7) high ∙ bytes-back 7 mem (lastAt n i + 1) b)
+
+    -- the lowest is the length
+    pub cell-size : v % 256 ≡ length name
+    cell-size = name-size (v % 256) (apart .0) (omega arith)
+
+    -- a name of up to seven bytes is the number above it
+    pub cell-name : v % 256 ≤ 7 → name ≡ bytesOf (v % 256) (v / 256)
+    unfolding read
+    cell-name h =
+        let l : ℕ = v % 256 in
+        let z : l - 7 ≡ 0 = omega arith in
+        let m : min l 7 ≡ l = omega arith in
+        let j : l + (7 - l) ≡ 7 = omega arith in
+        let low : take l (bytesOf 7 (v / 256)) ≡ bytesOf l (v / 256) = ap (λ (k : ℕ). take l (bytesOf k (v / 256))) (sym j) ∙ take-bytes l (7 - l) (v / 256) in
+        let all : name ≡ read mem (lastAt n i + 1) l = two l cell-size ∙ rw (z, m) in
+        all ∙ sym (sym low ∙ ap (take l) (apart .1) ∙ take-read mem (lastAt n i + 1) 7 l h)
 
   -- ---- its l bytes into d at a place
 
