@@ -35,7 +35,7 @@ above-some l m h e = let p : 1 ≤ 256 ^ l = one-le-pow l 256 (lit< tt) in omega
 
 -- ---- the bytes of a number that is masked
 
-zeros : (k : ℕ) → bytesOf k 0 ≡ replicate k 0
+pub zeros : (k : ℕ) → bytesOf k 0 ≡ replicate k 0
 unfolding bytesOf
 zeros zero = refl
 zeros (suc k) = ap (λ (bs : List ℕ). 0 ∷ bs) (zeros k)

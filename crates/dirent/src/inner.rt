@@ -1,12 +1,15 @@
-// What a record is made of where there is room for it: its fixed part, and a short name as one number.
+// Entries laid word by word: their fixed part, and the name by its length.
 ghost use mathlib.Core.Path.{_≡_};
-ghost use mathlib.Core.List.{[], _∷_};
-ghost use Prim.Native.Nat.{_≤_};
+ghost use mathlib.Core.List.{[], _∷_, _++_};
+ghost use Prim.Native.Nat.{_+_, _-_, _*_, _^_, _≤_, _<_};
 ghost use lib.ListN.{length};
 ghost use Rattle.rules.specs.Fields.{bytesOf, fields};
 ghost use Rattle.rules.specs.Listing.{direntRow};
-ghost use Rattle.le.specs.Mem.{write};
+ghost use Rattle.le.specs.Mem.{read, write};
 ghost use Rattle.dirent.specs.Entry.{entry, Lays};
+
+// The bytes of an entry in front of its name (R64).
+const FRONT: usize = 24;
 
 // The length of an entry whose name has 1 to 7 bytes (R64).
 const SHORT: usize = 32;
@@ -35,4 +38,38 @@ pub fn write_short(out: &mut [u8], ino: u64, off: u64, len: u64, word: u64) -> u
     put_front(out, ino, off, len as u32);
     le::fields::put_u64(out, 24, word % (1 << (8 * len)));
     SHORT
+}
+
+// Copies n words of src at `from` into dst at a place, the first of them outside the loop.
+fn copy_words(dst: &mut [u8], at: usize, src: &[u8], from: usize, n: usize)
+    requires { ⌜ 1 ≤ n ⌝ }
+    requires { ⌜ at + 8 * n ≤ length (now dst) ⌝ }
+    requires { ⌜ from + 8 * n ≤ length (now src) ⌝ }
+    ensures { λ _. ⌜ now (dst .exit) ≡ write (now (dst .entry)) at (read (now (src .entry)) from (8 * n)) ⌝ }
+{
+    le::fields::put_u64(dst, at, le::fields::get_u64(src, from));
+    let mut i = 1;
+    while i < n {
+        le::fields::put_u64(dst, at + 8 * i, le::fields::get_u64(src, from + 8 * i));
+        i += 1;
+    }
+}
+
+// Lays a directory entry as `write_dirent` does, where its name has `len` bytes, 8 to 255 of them, in two parts: those of src at `from`, and the lowest
+// seven bytes of `last`. The zeros are written first, then whole words of the first part, and at the end the last eight bytes (R64, R65).
+pub fn write_long(out: &mut [u8], ino: u64, off: u64, src: &[u8], from: usize, len: usize, last: u64) -> usize
+    requires { ⌜ (8 ≤ len) × (len ≤ 255) × (last < 2 ^ 56) ⌝ }
+    requires { ⌜ from + len ≤ length (now src) ⌝ }
+    ensures { λ r. ⌜ Lays (now (out .entry)) (length (now (out .entry))) (entry ino off (read (now (src .entry)) from (len - 7) ++ bytesOf 7 last) ∷ []) r (now (out .exit)) ⌝ }
+{
+    let size = FRONT + (len + 7) / 8 * 8;
+    if out.len() < size {
+        return 0;
+    }
+    put_front(out, ino, off, len as u32);
+    le::fields::put_u64(out, size - 8, 0);
+    copy_words(out, FRONT, src, from, len / 8);
+    let byte = le::fields::get_u8(src, from + (len - 8)) as u64;
+    le::fields::put_u64(out, FRONT + (len - 8), last * 256 + byte);
+    size
 }
