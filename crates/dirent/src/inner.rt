@@ -57,7 +57,15 @@ fn copy_words(dst: &mut [u8], at: usize, src: &[u8], from: usize, n: usize)
 
 // Lays a directory entry as `write_dirent` does, where its name has `len` bytes, 8 to 255 of them, in two parts: those of src at `from`, and the lowest
 // seven bytes of `last`. The zeros are written first, then whole words of the first part, and at the end the last eight bytes (R64, R65).
-pub fn write_long(out: &mut [u8], ino: u64, off: u64, src: &[u8], from: usize, len: usize, last: u64) -> usize
+pub fn write_long(
+    out: &mut [u8],
+    ino: u64,
+    off: u64,
+    src: &[u8],
+    from: usize,
+    len: usize,
+    last: u64,
+) -> usize
     requires { ⌜ (8 ≤ len) × (len ≤ 255) × (last < 2 ^ 56) ⌝ }
     requires { ⌜ from + len ≤ length (now src) ⌝ }
     ensures { λ r. ⌜ Lays (now (out .entry)) (length (now (out .entry))) (entry ino off (read (now (src .entry)) from (len - 7) ++ bytesOf 7 last) ∷ []) r (now (out .exit)) ⌝ }

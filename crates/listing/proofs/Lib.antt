@@ -1,4 +1,4 @@
--- The laws that belong to no one function: `Names` of a name that was copied, `Rest` of the children that are left, `Answers` of what is answered.
+-- The laws that belong to no one function: `Names` of a record by its name, `Rest` of the children that are left, `Answers` of what is answered.
 pub mod Names
 pub mod Rest
 pub mod Answers

@@ -18,33 +18,24 @@ pub enum Listed {
     Small,
 }
 
-// The longest name (R10).
-const NAME: usize = 255;
-
-// Lays the record of row i as `lay_row` does, whatever its name; this is brought together in local bytes first (R64, R65).
-fn lay_any(s: &[u8], i: usize, off: u64, out: &mut [u8]) -> usize
-    requires { ⌜ Laid (now s) ⌝ }
-    requires { ⌜ i < countOf (now s) ⌝ }
-    ensures { λ r. ⌜ Lays (now (out .entry)) (length (now (out .entry))) (entry (nodeAt (capacityOf (now (s .entry))) (now (s .entry)) i .number) off (nodeAt (capacityOf (now (s .entry))) (now (s .entry)) i .called) ∷ []) r (now (out .exit)) ⌝ }
-{
-    let mut name = [0u8; NAME];
-    let len = row_name::copy_name(s, i, &mut name, 0);
-    dirent::write_dirent(out, tables::rows::number(s, i), off, &name[..len])
-}
-
-// Lays the record of row i with that offset at the start of the lent bytes: its length, or 0 and all as it was where it does not fit. A name of
-// 1 to 7 bytes stands whole in its cell and goes over as a number (R64, R65).
+// Lays the record of row i with that offset at the start of the lent bytes: its length, or 0 and all as it was where it does not fit. The last
+// seven bytes of the name go over as a number (R64, R65).
 fn lay_row(s: &[u8], i: usize, off: u64, out: &mut [u8]) -> usize
     requires { ⌜ Laid (now s) ⌝ }
     requires { ⌜ i < countOf (now s) ⌝ }
     ensures { λ r. ⌜ Lays (now (out .entry)) (length (now (out .entry))) (entry (nodeAt (capacityOf (now (s .entry))) (now (s .entry)) i .number) off (nodeAt (capacityOf (now (s .entry))) (now (s .entry)) i .called) ∷ []) r (now (out .exit)) ⌝ }
 {
+    let x = tables::rows::number(s, i);
     let cell = row_name::name_cell(s, i);
     let len = cell % 256;
-    if len == 0 || 7 < len {
-        return lay_any(s, i, off, out);
+    if len == 0 {
+        return dirent::write_dirent(out, x, off, &s[..0]);
     }
-    dirent::inner::write_short(out, tables::rows::number(s, i), off, len, cell / 256)
+    if len <= 7 {
+        return dirent::inner::write_short(out, x, off, len, cell / 256);
+    }
+    let from = row_name::first_at(s, i);
+    dirent::inner::write_long(out, x, off, s, from, len as usize, cell / 256)
 }
 
 // Lays the records of a node's children from a place on into the first `end` of the lent bytes, each into the rest that is unwritten: how many bytes (R65, R66).

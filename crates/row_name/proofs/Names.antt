@@ -92,6 +92,12 @@ module _ (n : ℕ) (mem : List ℕ) (i : ℕ) where
         let all : name ≡ read mem (lastAt n i + 1) l = two l cell-size ∙ rw (z, m) in
         all ∙ sym (sym low ∙ ap (take l) (apart .1) ∙ take-read mem (lastAt n i + 1) 7 l h)
 
+    -- a longer one has seven bytes there
+    pub cell-names : 7 < v % 256 → name ≡ read mem (firstAt n i) (v % 256 - 7) ++ bytesOf 7 (v / 256)
+    cell-names h =
+        let m : min (v % 256) 7 ≡ 7 = omega arith in
+        two (v % 256) cell-size ∙ rw (m, apart .1)
+
   -- ---- its l bytes into d at a place
 
   module _ (l : ℕ) (d : List ℕ) (to : ℕ) (e : l ≡ length name) where

@@ -1,9 +1,9 @@
-// The name of a row of the node table: how long it is, its cell as a number, and its bytes brought together where a caller wants them.
+// The name of a row of the node table: how long it is, its two cells, and its bytes brought together where a caller wants them.
 ghost use mathlib.Core.Path.{_≡_};
 ghost use Prim.Native.Nat.{_+_, _≤_, _<_};
 ghost use lib.ListN.{length};
 ghost use Rattle.le.specs.Mem.{get};
-ghost use Rattle.tables.specs.Layout.{capacityOf, countOf, lastAt};
+ghost use Rattle.tables.specs.Layout.{capacityOf, countOf, lastAt, firstAt};
 ghost use Rattle.tables.specs.View.{nodeAt};
 ghost use Rattle.tables.specs.Rule.{Laid};
 ghost use Rattle.row_name.specs.Copied.{Copied};
@@ -26,6 +26,16 @@ pub fn name_cell(s: &[u8], i: usize) -> u64
 {
     let n = tables::header::capacity(s);
     le::fields::get_u64(s, tables::rows::TABLE + 24 * n + 8 * i)
+}
+
+// Where the bytes before the last seven of the name of row i stand (R10).
+pub fn first_at(s: &[u8], i: usize) -> usize
+    requires { ⌜ Laid (now s) ⌝ }
+    requires { ⌜ i < countOf (now s) ⌝ }
+    ensures { λ r. ⌜ r ≡ firstAt (capacityOf (now (s .entry))) i ⌝ }
+{
+    let n = tables::header::capacity(s);
+    tables::rows::TABLE + 44 * n + 248 * i
 }
 
 // Copies the name of row i into the lent bytes at a place: its length. Its last seven bytes stand apart from those before them (R10).
