@@ -6,7 +6,7 @@ use native.Mathlib.Nat.{pow-zero, pow-suc, mod-lt, div-eq-of-lt, one-le-pow}
 use native.Mathlib.Omega.{arith}
 use lib.ListN.{length, replicate, length-append}
 use lib.Dec.{lit<}
-use lib.Pow.{pow-add, shl-exact}
+use lib.Pow.{pow-pos, pow-add, shl-exact}
 use Rattle.rules.specs.Fields.{bytesOf, fields}
 use Rattle.rules.specs.Listing.{padding, recordOf, direntRow}
 use Rattle.rules.proofs.Fields.{length-bytesOf}
@@ -23,15 +23,19 @@ eights (suc l) =
     let e : 8 * suc l ≡ 8 * l + 8 = omega arith in
     ap (λ (k : ℕ). 2 ^ k) e ∙ pow-add 2 (8 * l) 8 ∙ ap (λ (k : ℕ). k * 256) (eights l) ∙ sym (pow-suc 256 l)
 
--- one above l bytes, as the shift gives it
-pub above : (l m : ℕ) → l ≤ 7 → m ≡ 1 * 2 ^ (8 * l) % 2 ^ 64 → m ≡ 256 ^ l
-above l m h e =
+-- a bit below the top
+pub bit-some : (k : ℕ) → k < 64 → 0 < 1 * 2 ^ k % 2 ^ 64
+bit-some k h =
+    let s : 1 * 2 ^ k % 2 ^ 64 ≡ 1 * 2 ^ k = shl-exact 1 k 64 (omega arith) (omega arith) in
+    let p : 0 < 2 ^ k = pow-pos k in
+    omega arith
+
+-- the bit above l bytes
+above : (l : ℕ) → l ≤ 7 → 1 * 2 ^ (8 * l) % 2 ^ 64 ≡ 256 ^ l
+above l h =
     let s : 1 * 2 ^ (8 * l) % 2 ^ 64 ≡ 1 * 2 ^ (8 * l) = shl-exact 1 (8 * l) 64 (omega arith) (omega arith) in
     let t : 2 ^ (8 * l) ≡ 256 ^ l = eights l in
     omega arith
-
-pub above-some : (l m : ℕ) → l ≤ 7 → m ≡ 1 * 2 ^ (8 * l) % 2 ^ 64 → 0 < m
-above-some l m h e = let p : 1 ≤ 256 ^ l = one-le-pow l 256 (lit< tt) in omega (arith, above l m h e)
 
 -- ---- the bytes of a number that is masked
 
@@ -69,13 +73,13 @@ module _ (d : List ℕ) (ino off l w : ℕ) (some : 1 ≤ l) (few : l ≤ 7) whe
       ap (λ (n : ℕ). frontOf ino off name ++ (name ++ replicate n 0)) k
       ∙ ap (λ (bs : List ℕ). frontOf ino off name ++ bs) (sym (masked l (8 - l) w) ∙ ap (λ (n : ℕ). bytesOf n (w % 256 ^ l)) e)
 
-  pub short-in : (m : ℕ) (e f : List ℕ) → 32 ≤ length d → m ≡ 1 * 2 ^ (8 * l) % 2 ^ 64 → e ≡ write d 0 (fields direntRow (ino ∷ off ∷ l ∷ 0 ∷ []))
-      → f ≡ put 8 e 24 (w % m) → Lays d (length d) (entry ino off name ∷ []) 32 f
+  pub short-in : (e f : List ℕ) → 32 ≤ length d → e ≡ write d 0 (fields direntRow (ino ∷ off ∷ l ∷ 0 ∷ []))
+      → f ≡ put 8 e 24 (w % (1 * 2 ^ (8 * l) % 2 ^ 64)) → Lays d (length d) (entry ino off name ∷ []) 32 f
   unfolding put
-  short-in m e f h q a b =
+  short-in e f h a b =
       let front : List ℕ = frontOf ino off name in
       let g : e ≡ write d 0 front = a ∙ ap (λ (n : ℕ). write d 0 (fields direntRow (ino ∷ off ∷ n ∷ 0 ∷ []))) (sym size) in
-      let r : f ≡ write e 24 (bytesOf 8 (w % 256 ^ l)) = b ∙ ap (λ (n : ℕ). write e 24 (bytesOf 8 (w % n))) (above l m few q) in
+      let r : f ≡ write e 24 (bytesOf 8 (w % 256 ^ l)) = b ∙ ap (λ (n : ℕ). write e 24 (bytesOf 8 (w % n))) (above l few) in
       let t : write d 0 (front ++ bytesOf 8 (w % 256 ^ l)) ≡ write (write d 0 front) (0 + length front) (bytesOf 8 (w % 256 ^ l)) =
       write-append d 0 front (bytesOf 8 (w % 256 ^ l)) in
       let at : 0 + length front ≡ 24 = omega (arith, front-length ino off name) in

@@ -1,6 +1,5 @@
 -- One law where the entry fits, one where it does not.
-use mathlib.Core.Path.{refl}
-use Rattle.dirent.proofs.Short.{above-some, short-in, short-out}
+use Rattle.dirent.proofs.Short.{bit-some, short-in, short-out}
 use borrow.Author.Needs.{needs}
 use Rattle.dirent.proofs.inner.write_short.Statement.{statement}
 use Rattle.dirent.proofs.inner.write_short.Tie as tie
@@ -9,12 +8,12 @@ returns : tie.Need-returns
 returns c = short-out _ _ _ _ _ (search needs) (search needs) (c .if1 .taken)
 
 rem-put-u64 : tie.Need-rem-put-u64
-rem-put-u64 c = above-some _ _ (search needs) refl
+rem-put-u64 c = bit-some _ (search needs)
 
 returns-2 : tie.Need-returns-2
 returns-2 c =
     let f = c .before .before .before .before .before .before in
-    short-in _ _ _ _ _ (search needs) (search needs) _ _ _ (search needs) refl (f .put-front .ensures) (c .before .before .put-u64 .ensures)
+    short-in _ _ _ _ _ (search needs) (search needs) _ _ (search needs) (f .put-front .ensures) (c .before .before .put-u64 .ensures)
 
 pub write-short-spec : {M : Type 1} → statement M
 write-short-spec =
