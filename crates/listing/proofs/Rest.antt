@@ -91,6 +91,10 @@ listing-start mem x offset end c d e h =
     record { rows = omega arith; few = omega arith; going = rw all (going-start d end (allOf mem x offset) h) }
 
 module _ (mem : List ℕ) (x offset end c : ℕ) (d₀ d : List ℕ) (at place i : ℕ) (l : Listing mem x offset end c d₀ d at place i) where
+  -- under other names
+  pub listing-as : (e : List ℕ) (at' place' : ℕ) → e ≡ d → place' ≡ place → at' ≡ at → Listing mem x offset end c d₀ e at' place' i
+  listing-as e at' place' q r s = rw (q, r, s) l
+
   -- no row is left
   pub listing-done : c ≤ i → Lays d₀ end (allOf mem x offset) at d
   listing-done h =

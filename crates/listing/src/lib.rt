@@ -49,20 +49,17 @@ fn lay_children(s: &[u8], x: u64, offset: u64, end: usize, out: &mut [u8]) -> us
     let mut at = 0;
     let mut i = 0;
     while i < c {
-        let row = i;
+        if tables::rows::parent(s, i) == x {
+            place += 1;
+            if offset < place {
+                let n = lay_row(s, i, place, &mut out[at..end]);
+                if n == 0 {
+                    return at;
+                }
+                at += n;
+            }
+        }
         i += 1;
-        if tables::rows::parent(s, row) != x {
-            continue;
-        }
-        place += 1;
-        if place <= offset {
-            continue;
-        }
-        let n = lay_row(s, row, place, &mut out[at..end]);
-        if n == 0 {
-            return at;
-        }
-        at += n;
     }
     at
 }

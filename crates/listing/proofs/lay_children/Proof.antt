@@ -1,8 +1,9 @@
--- After i rows, the children among the others are to be laid behind what is written; a law for each way round.
+-- After i rows, the children among the others are to be laid behind what is written; a law for each way round, and where the ways meet one for all.
 use mathlib.Core.Path.{sym, _∙_}
+use mathlib.Core.Logic.{⊎-elim}
 use Prim.Native.Nat.{_-_}
 use native.Mathlib.Omega.{arith}
-use Rattle.listing.proofs.Rest.{Listing, listing-start, listing-done, listing-not, listing-skip, listing-laid, listing-full}
+use Rattle.listing.proofs.Rest.{Listing, listing-start, listing-done, listing-not, listing-skip, listing-laid, listing-full, listing-as}
 use borrow.Author.Needs.{needs}
 use Rattle.listing.proofs.lay_children.Statement.{statement}
 use Rattle.listing.proofs.lay_children.Tie as tie
@@ -16,33 +17,37 @@ abbrev μ-loop : tie.MeasureT-loop
 loop-holds : tie.Need-loop-holds Inv-loop μ-loop
 loop-holds c = listing-start _ _ _ _ _ _ (c .count .ensures) (search needs)
 
-loop-again : tie.Need-loop-again Inv-loop μ-loop
-loop-again c =
-    listing-not _ _ _ _ _ _ _ _ _ _ (c .before .before .before .loop .inv) (c .before .before .loop-test .taken)
-    (λ e. c .if1 .taken (c .before .parent .ensures ∙ e))
-
-loop-again-2 : tie.Need-loop-again-2 Inv-loop μ-loop
-loop-again-2 c =
-    let p = c .before .before in
-    listing-skip _ _ _ _ _ _ _ _ _ _ (p .before .before .loop .inv) (p .before .loop-test .taken)
-    (sym (p .parent .ensures) ∙ c .before .if1 .left) (c .if2 .taken)
-
 returns : tie.Need-returns Inv-loop μ-loop
 returns c =
     let w = c .before .before .before in
     let p = w .before .before .before .before in
     listing-full _ _ _ _ _ _ _ _ _ _ (p .before .before .loop .inv) (p .before .loop-test .taken)
-    (sym (p .parent .ensures) ∙ w .before .before .before .if1 .left) (search needs) _ _ (w .lay-row .ensures) (c .if3 .taken)
-
-loop-again-3 : tie.Need-loop-again-3 Inv-loop μ-loop
-loop-again-3 c =
-    let w = c .before .before .before in
-    let p = w .before .before .before .before in
-    listing-laid _ _ _ _ _ _ _ _ _ _ (p .before .before .loop .inv) (p .before .loop-test .taken)
-    (sym (p .parent .ensures) ∙ w .before .before .before .if1 .left) (search needs) _ _ (w .lay-row .ensures) (c .if3 .left)
+    (sym (p .parent .ensures) ∙ w .before .before .before .if1 .taken) (search needs) _ _ (w .lay-row .ensures) (c .if3 .taken)
 
 add-at : tie.Need-add-at Inv-loop μ-loop
-add-at c = omega (arith, loop-again-3 c .going .within)
+add-at c =
+    let w = c .before .before .before in
+    let p = w .before .before .before .before in
+    omega (
+      arith,
+      listing-laid _ _ _ _ _ _ _ _ _ _ (p .before .before .loop .inv) (p .before .loop-test .taken)
+          (sym (p .parent .ensures) ∙ w .before .before .before .if1 .taken) (search needs) _ _ (w .lay-row .ensures) (c .if3 .left) .going .within,
+    )
+
+loop-again : tie.Need-loop-again Inv-loop μ-loop
+loop-again c =
+    let p = c .before in
+    let l = p .before .before .loop .inv in
+    let h = p .before .loop-test .taken in
+    let e = p .parent .ensures in
+    ⊎-elim
+    (λ w.
+    listing-as _ _ _ _ _ _ _ _ _ _ (listing-laid _ _ _ _ _ _ _ _ _ _ l h (sym e ∙ w .0 .taken) (w .1 .taken) _ _ (w .3 .ensures) (w .6 .left)) _ _ _ (w .7) (w .8)
+    (w .9))
+    (λ w.
+    ⊎-elim
+    (λ v. listing-as _ _ _ _ _ _ _ _ _ _ (listing-skip _ _ _ _ _ _ _ _ _ _ l h (sym e ∙ v .0 .taken) (v .1 .left)) _ _ _ (v .2) (v .3) (v .4))
+    (λ v. listing-as _ _ _ _ _ _ _ _ _ _ (listing-not _ _ _ _ _ _ _ _ _ _ l h (λ q. v .0 .left (e ∙ q))) _ _ _ (v .1) (v .2) (v .3)) w) (c .if1 .came)
 
 returns-2 : tie.Need-returns-2 Inv-loop μ-loop
 returns-2 c = listing-done _ _ _ _ _ _ _ _ _ _ (c .before .loop .inv) (search needs)
@@ -55,13 +60,8 @@ lay-children-spec =
     μ-loop
     (λ c κs. search needs)
     loop-holds
-    (λ c. search needs)
     (λ c κs. search needs)
     (λ c. search needs)
-    loop-again
-    (λ c. search needs)
-    (λ c. search needs)
-    loop-again-2
     (λ c. search needs)
     (λ c. search needs)
     (λ c. search needs)
@@ -70,6 +70,7 @@ lay-children-spec =
     returns
     add-at
     (λ c. search needs)
-    loop-again-3
+    (λ c. search needs)
+    loop-again
     (λ c. search needs)
     returns-2)
