@@ -1,6 +1,5 @@
 // Calls on the storage and the tree, and what they answer as numbers.
-use crate::regs::ARGS;
-use crate::regs::CELLS;
+use crate::regs::Args;
 use crate::regs::low8;
 use crate::regs::low32;
 use crate::sums;
@@ -25,45 +24,33 @@ pub const SHORT: u8 = 3;
 
 pub const CALL: u8 = 4;
 
+// The most values that an answer has.
+pub const VALUES: usize = 6;
+
 // How a line is told, the number of its answer, and how many values it has, and these.
 pub struct Answer {
     pub way: u8,
     pub code: u64,
-    pub n: u8,
-    pub a: u64,
-    pub b: u64,
-    pub c: u64,
-    pub d: u64,
-    pub e: u64,
-    pub f: u64,
+    pub n: usize,
+    pub values: [u64; VALUES],
 }
 
-pub fn values(n: u8, a: u64, b: u64, c: u64, d: u64) -> Answer {
+pub fn values(n: usize, a: u64, b: u64, c: u64, d: u64) -> Answer {
     Answer {
         way: CALL,
         code: 0,
         n,
-        a,
-        b,
-        c,
-        d,
-        e: 0,
-        f: 0,
+        values: [a, b, c, d, 0, 0],
     }
 }
 
 // A refusal: its number and so many zeros.
-pub fn refused(code: u64, n: u8) -> Answer {
+pub fn refused(code: u64, n: usize) -> Answer {
     Answer {
         way: CALL,
         code,
         n,
-        a: 0,
-        b: 0,
-        c: 0,
-        d: 0,
-        e: 0,
-        f: 0,
+        values: [0; VALUES],
     }
 }
 
@@ -78,27 +65,17 @@ pub fn in_way(way: u8) -> Answer {
         way,
         code: 0,
         n: 0,
-        a: 0,
-        b: 0,
-        c: 0,
-        d: 0,
-        e: 0,
-        f: 0,
+        values: [0; VALUES],
     }
 }
 
 // A number and so many values, at most one.
-pub fn short(code: u64, n: u8, a: u64) -> Answer {
+pub fn short(code: u64, n: usize, a: u64) -> Answer {
     Answer {
         way: SHORT,
         code,
         n,
-        a,
-        b: 0,
-        c: 0,
-        d: 0,
-        e: 0,
-        f: 0,
+        values: [a, 0, 0, 0, 0, 0],
     }
 }
 
@@ -106,22 +83,14 @@ fn truth(b: bool) -> u64 {
     if b { 1 } else { 0 }
 }
 
-fn create(s: &mut [u8], r: &[u64; CELLS]) -> Answer {
+fn create(s: &mut [u8], r: Args) -> Answer {
     let mapping = id_map::IdMapping {
-        internal: low32(r[ARGS + 5]),
-        external: low32(r[ARGS + 6]),
-        range: low32(r[ARGS + 7]),
+        internal: low32(r[5]),
+        external: low32(r[6]),
+        range: low32(r[7]),
     };
-    let flags = low8(r[ARGS + 4]);
-    match storage::create(
-        s,
-        r[ARGS] as usize,
-        r[ARGS + 1],
-        r[ARGS + 2],
-        r[ARGS + 3],
-        flags,
-        mapping,
-    ) {
+    let flags = low8(r[4]);
+    match storage::create(s, r[0] as usize, r[1], r[2], r[3], flags, mapping) {
         Created::Done => refused(0, 0),
         Created::Small => refused(12, 0),
         Created::BadOpt => refused(13, 0),
@@ -151,12 +120,14 @@ fn options(s: &[u8]) -> Answer {
                 way: CALL,
                 code: 0,
                 n: 6,
-                a: o.in_opts,
-                b: o.out_opts,
-                c: m.internal as u64,
-                d: m.external as u64,
-                e: m.range as u64,
-                f: o.flags as u64,
+                values: [
+                    o.in_opts,
+                    o.out_opts,
+                    m.internal as u64,
+                    m.external as u64,
+                    m.range as u64,
+                    o.flags as u64,
+                ],
             }
         }
         OptionsOf::Small => refused(12, 6),
@@ -182,12 +153,14 @@ pub fn looked(l: Looked) -> Answer {
                 way: CALL,
                 code: 0,
                 n: 5,
-                a: x.0,
-                b: e.mode as u64,
-                c: e.uid as u64,
-                d: e.gid as u64,
-                e: e.blksize as u64,
-                f: 0,
+                values: [
+                    x.0,
+                    e.mode as u64,
+                    e.uid as u64,
+                    e.gid as u64,
+                    e.blksize as u64,
+                    0,
+                ],
             }
         }
         Looked::NoEnt => refused(1, 5),
@@ -200,9 +173,9 @@ pub fn looked(l: Looked) -> Answer {
 const BEFORE: u8 = 165;
 
 // A listing into the first bytes of a buffer: how many were written, and the sum of them all.
-fn listed(s: &[u8], r: &[u64; CELLS], out: &mut [u8]) -> Answer {
+fn listed(s: &[u8], r: Args, out: &mut [u8]) -> Answer {
     le::runs::fill_at(out, 0, out.len(), BEFORE);
-    let l = listing::readdir(s, NodeNumber(r[ARGS]), low32(r[ARGS + 1]), r[ARGS + 2], out);
+    let l = listing::readdir(s, NodeNumber(r[0]), low32(r[1]), r[2], out);
     let sum = sums::with_run(sums::START, out, 0, out.len());
     match l {
         Listed::Wrote(n) => values(2, n as u64, sum, 0, 0),
@@ -217,30 +190,25 @@ pub fn with_sum(code: u64, sum: u64) -> Answer {
         way: CALL,
         code,
         n: 2,
-        a: 0,
-        b: sum,
-        c: 0,
-        d: 0,
-        e: 0,
-        f: 0,
+        values: [0, sum, 0, 0, 0, 0],
     }
 }
 
-fn list_small(s: &[u8], r: &[u64; CELLS]) -> Answer {
+fn list_small(s: &[u8], r: Args) -> Answer {
     let mut out = io::buffer();
-    let n = crate::sink::upto(r[ARGS + 3], &out);
+    let n = crate::sink::upto(r[3], &out);
     listed(s, r, &mut out[0..n])
 }
 
-fn list_large(s: &[u8], r: &[u64; CELLS]) -> Answer {
+fn list_large(s: &[u8], r: Args) -> Answer {
     let mut out = io::large_buffer();
-    let n = crate::sink::upto(r[ARGS + 3], &out);
+    let n = crate::sink::upto(r[3], &out);
     listed(s, r, &mut out[0..n])
 }
 
 // Small output is lent from a small buffer, which takes less time to make.
-fn list(s: &[u8], r: &[u64; CELLS]) -> Answer {
-    if r[ARGS + 3] <= 4096 {
+fn list(s: &[u8], r: Args) -> Answer {
+    if r[3] <= 4096 {
         return list_small(s, r);
     }
     list_large(s, r)
@@ -250,7 +218,7 @@ fn laid(s: &[u8]) -> Answer {
     values(1, truth(storage::is_laid(s)), 0, 0, 0)
 }
 
-fn of_storage(verb: u64, s: &mut [u8], r: &[u64; CELLS]) -> Answer {
+fn of_storage(verb: u64, s: &mut [u8], r: Args) -> Answer {
     match verb {
         verbs::CREATE => create(s, r),
         verbs::REMOVE => remove(s),
@@ -260,16 +228,16 @@ fn of_storage(verb: u64, s: &mut [u8], r: &[u64; CELLS]) -> Answer {
     }
 }
 
-fn of_tree(verb: u64, s: &[u8], text: &[u8], r: &[u64; CELLS]) -> Answer {
+fn of_tree(verb: u64, s: &[u8], text: &[u8], r: Args) -> Answer {
     match verb {
         verbs::WALK => walk(s, text),
-        verbs::LOOK => looked(pseudo_fs::lookup(s, NodeNumber(r[ARGS]), text)),
+        verbs::LOOK => looked(pseudo_fs::lookup(s, NodeNumber(r[0]), text)),
         _ => list(s, r),
     }
 }
 
 // A call by its verb.
-pub fn call(verb: u64, s: &mut [u8], text: &[u8], r: &[u64; CELLS]) -> Answer {
+pub fn call(verb: u64, s: &mut [u8], text: &[u8], r: Args) -> Answer {
     match verb {
         verbs::WALK | verbs::LOOK | verbs::LIST => of_tree(verb, s, text, r),
         verbs::MOUNT | verbs::MOUNT_AT | verbs::UMOUNT => crate::mounts::of_mounts(

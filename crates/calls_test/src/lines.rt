@@ -1,9 +1,11 @@
 // One line of a script: a comment, a heading, what steers the run, what sets bytes, or a call.
 use crate::calls::Answer;
+use crate::calls::VALUES;
 use crate::calls::in_way;
 use crate::calls::silent;
 use crate::memory;
 use crate::regs;
+use crate::regs::Args;
 use crate::regs::CELLS;
 use crate::sink;
 use crate::text;
@@ -16,12 +18,11 @@ pub fn line(
     storage: &mut [u8],
     kept: &mut [u8],
     text: &mut [u8],
-    out: &mut [u8],
     regs: &mut [u64; CELLS],
 ) {
     let verb = verb_of(line, text, regs);
     let answer = done(verb, storage, kept, text, regs);
-    told(verb, line, answer, storage, kept, out, regs);
+    told(verb, line, answer, storage, kept, regs);
 }
 
 // The verb of a line, or what stands for a line without one.
@@ -66,22 +67,24 @@ fn done(
     text: &mut [u8],
     regs: &mut [u64; CELLS],
 ) -> Answer {
-    let a = regs[regs::ARGS];
-    let b = regs[regs::ARGS + 1];
-    let c = regs[regs::ARGS + 2];
+    let r = regs::args(regs);
+    let a = r[0];
+    let b = r[1];
+    let c = r[2];
     match verbs::kind_of(verb) {
         Kind::Nothing => silent(),
         Kind::Heading => in_way(crate::calls::ECHO),
         Kind::Bad => in_way(crate::calls::BAD),
         Kind::Steers => crate::steering::steer(verb, a, b, c, text, regs),
         Kind::Sets => memory::verb(verb, storage, kept, a, b, c),
-        Kind::Calls => called(verb, storage, kept, text, regs),
+        Kind::Calls => called(verb, r, storage, kept, text, regs),
     }
 }
 
 // A call on the lent bytes; what stood in those that are watched is kept before.
 fn called(
     verb: u64,
+    r: Args,
     storage: &mut [u8],
     kept: &mut [u8],
     text: &[u8],
@@ -90,113 +93,80 @@ fn called(
     memory::before(kept, storage, regs[regs::WATCH]);
     let lent = sink::upto(regs[regs::LENT], storage);
     match verb {
-        verbs::SAVE => crate::states::save(&storage[0..lent], kept, regs),
-        verbs::RESTORE => crate::states::restore(&mut storage[0..lent], kept, regs[regs::ARGS]),
-        _ => on_tables(verb, &mut storage[0..lent], text, regs),
+        verbs::SAVE => crate::states::save(&storage[0..lent], kept, r, regs),
+        verbs::RESTORE => crate::states::restore(&mut storage[0..lent], kept, r[0]),
+        _ => on_tables(verb, r, &mut storage[0..lent], text, regs[regs::TEXT_LEN]),
     }
 }
 
 // A call that takes no saved bytes.
-fn on_tables(verb: u64, s: &mut [u8], text: &[u8], regs: &[u64; CELLS]) -> Answer {
-    let n = sink::upto(regs[regs::TEXT_LEN], text);
-    crate::calls::call(verb, s, &text[0..n], regs)
+fn on_tables(verb: u64, r: Args, s: &mut [u8], text: &[u8], len: u64) -> Answer {
+    let n = sink::upto(len, text);
+    crate::calls::call(verb, s, &text[0..n], r)
 }
 
 // Tells of the line in its way.
-fn told(
-    verb: u64,
-    line: &[u8],
-    a: Answer,
-    storage: &[u8],
-    kept: &[u8],
-    out: &mut [u8],
-    regs: &mut [u64; CELLS],
-) {
+fn told(verb: u64, line: &[u8], a: Answer, storage: &[u8], kept: &[u8], regs: &mut [u64; CELLS]) {
     let way = a.way;
     match way {
         crate::calls::SILENT => {}
-        crate::calls::ECHO => whole(b"", line, out, regs),
-        crate::calls::BAD => whole(b"! ", line, out, regs),
-        crate::calls::SHORT => short(line, a, out, regs),
-        _ => full(verb, line, a, storage, kept, out, regs),
+        crate::calls::ECHO => whole(b"", line, regs),
+        crate::calls::BAD => whole(b"! ", line, regs),
+        crate::calls::SHORT => short(line, a, regs),
+        _ => full(verb, line, a, storage, kept, regs),
     }
 }
 
-fn whole(before: &[u8], line: &[u8], out: &mut [u8], regs: &mut [u64; CELLS]) {
-    sink::bytes(out, regs, before);
-    sink::bytes(out, regs, line);
-    sink::line_end(out, regs);
+fn whole(before: &[u8], line: &[u8], regs: &mut [u64; CELLS]) {
+    sink::bytes(regs, before);
+    sink::bytes(regs, line);
+    sink::bytes(regs, b"\n");
 }
 
 // The verb, the number of the answer, and its values.
-fn short(line: &[u8], a: Answer, out: &mut [u8], regs: &mut [u64; CELLS]) {
-    answered(line, a, out, regs);
-    sink::line_end(out, regs);
+fn short(line: &[u8], a: Answer, regs: &mut [u64; CELLS]) {
+    answered(line, a, regs);
+    sink::bytes(regs, b"\n");
 }
 
-fn answered(line: &[u8], a: Answer, out: &mut [u8], regs: &mut [u64; CELLS]) {
+fn answered(line: &[u8], a: Answer, regs: &mut [u64; CELLS]) {
     let end = text::word_end(line, 0);
-    sink::bytes(out, regs, &line[0..end]);
-    sink::number(out, regs, a.code);
-    first_values(a, out, regs);
-    last_values(a, out, regs);
+    sink::bytes(regs, &line[0..end]);
+    sink::number(regs, a.code);
+    let v = a.values;
+    values(v, a.n, regs);
 }
 
-fn first_values(a: Answer, out: &mut [u8], regs: &mut [u64; CELLS]) {
-    value(0 < a.n, a.a, out, regs);
-    value(1 < a.n, a.b, out, regs);
-    value(2 < a.n, a.c, out, regs);
-}
-
-fn last_values(a: Answer, out: &mut [u8], regs: &mut [u64; CELLS]) {
-    value(3 < a.n, a.d, out, regs);
-    value(4 < a.n, a.e, out, regs);
-    value(5 < a.n, a.f, out, regs);
-}
-
-fn value(is: bool, n: u64, out: &mut [u8], regs: &mut [u64; CELLS]) {
-    if is {
-        sink::number(out, regs, n);
+// So many of the values.
+fn values(v: [u64; VALUES], n: usize, regs: &mut [u64; CELLS]) {
+    let mut i = 0;
+    while i < VALUES {
+        if n <= i {
+            return;
+        }
+        sink::number(regs, v[i]);
+        i += 1;
     }
 }
 
 // The answer, the counter, what the call left, and the sum of the tables.
-fn full(
-    verb: u64,
-    line: &[u8],
-    a: Answer,
-    storage: &[u8],
-    kept: &[u8],
-    out: &mut [u8],
-    regs: &mut [u64; CELLS],
-) {
-    answered(line, a, out, regs);
-    sink::number(out, regs, crate::sums::byte_at(storage, 81, 0) as u64);
-    left(verb, a.code, storage, kept, out, regs);
-    viewed(storage, out, regs);
-    sink::line_end(out, regs);
+fn full(verb: u64, line: &[u8], a: Answer, storage: &[u8], kept: &[u8], regs: &mut [u64; CELLS]) {
+    answered(line, a, regs);
+    sink::number(regs, crate::sums::byte_at(storage, 81, 0) as u64);
+    left(verb, a.code, storage, kept, regs);
+    viewed(storage, regs);
+    sink::bytes(regs, b"\n");
     let calls = regs[regs::CALLS];
     regs[regs::CALLS] = std::num::wrapping_add_u64(calls, 1);
 }
 
 // What the call left of the watched bytes; `.` where it is done and writes.
-fn left(
-    verb: u64,
-    code: u64,
-    storage: &[u8],
-    kept: &[u8],
-    out: &mut [u8],
-    regs: &mut [u64; CELLS],
-) {
+fn left(verb: u64, code: u64, storage: &[u8], kept: &[u8], regs: &mut [u64; CELLS]) {
     let watch = regs[regs::WATCH];
     if watch != 0 {
-        marked(mark(verb, code, storage, kept, watch), out, regs);
+        let m = [b' ', mark(verb, code, storage, kept, watch)];
+        sink::bytes(regs, &m);
     }
-}
-
-fn marked(b: u8, out: &mut [u8], regs: &mut [u64; CELLS]) {
-    sink::byte(out, regs, b' ');
-    sink::byte(out, regs, b);
 }
 
 fn mark(verb: u64, code: u64, storage: &[u8], kept: &[u8], watch: u64) -> u8 {
@@ -208,9 +178,9 @@ fn mark(verb: u64, code: u64, storage: &[u8], kept: &[u8], watch: u64) -> u8 {
     memory::mark(storage, kept, watch)
 }
 
-fn viewed(storage: &[u8], out: &mut [u8], regs: &mut [u64; CELLS]) {
+fn viewed(storage: &[u8], regs: &mut [u64; CELLS]) {
     if regs[regs::VIEWS] != 0 {
         let lent = sink::upto(regs[regs::LENT], storage);
-        sink::number(out, regs, crate::views::sum(&storage[0..lent]));
+        sink::number(regs, crate::views::sum(&storage[0..lent]));
     }
 }

@@ -34,17 +34,8 @@ fn script(input: &[u8]) {
     let mut storage = large();
     let mut kept = larger();
     let mut text = [0u8; 8192];
-    let mut out = io::large_buffer();
     let mut regs = [0u64; regs::CELLS];
-    run(
-        input,
-        &mut storage,
-        &mut kept,
-        &mut text,
-        &mut out,
-        &mut regs,
-    );
-    sink::flush(&out, &regs);
+    run(input, &mut storage, &mut kept, &mut text, &mut regs);
 }
 
 // Line after line, from the place that the registers name. The turns are counted down from a number that no script uses up.
@@ -53,7 +44,6 @@ fn run(
     storage: &mut [u8],
     kept: &mut [u8],
     text: &mut [u8],
-    out: &mut [u8],
     regs: &mut [u64; regs::CELLS],
 ) {
     let mut turns = u64::MAX;
@@ -64,7 +54,7 @@ fn run(
         }
         let end = text::line_end(input, at);
         regs[regs::PLACE] = end as u64 + 1;
-        lines::line(&input[at..end], storage, kept, text, out, regs);
+        lines::line(&input[at..end], storage, kept, text, regs);
         turns -= 1;
     }
 }

@@ -1,12 +1,10 @@
 // Calls on the mount tables, and what they answer as numbers.
-ghost use Prim.Native.Nat.{_≤_};
 use crate::calls::Answer;
 use crate::calls::CALL;
 use crate::calls::looked;
 use crate::calls::refused;
 use crate::calls::values;
-use crate::regs::ARGS;
-use crate::regs::CELLS;
+use crate::regs::Args;
 use crate::regs::low8;
 use crate::regs::low32;
 use crate::verbs;
@@ -22,17 +20,15 @@ use vfs_query::Remapped;
 use vfs_query::Rootfs;
 use vfs_query::Routed;
 
-// Tag, root, largest number, uid, gid and mode, from a cell on.
-fn backend(r: &[u64; CELLS], k: usize) -> Backend
-    requires { ⌜ k ≤ 41 ⌝ }
-{
+// Tag, root, largest number, uid, gid and mode.
+fn backend(tag: u64, root: u64, max: u64, uid: u64, gid: u64, mode: u64) -> Backend {
     Backend {
-        tag: low32(r[k]),
-        root: BackendNumber(r[k + 1]),
-        max: r[k + 2],
-        uid: low32(r[k + 3]),
-        gid: low32(r[k + 4]),
-        mode: low32(r[k + 5]),
+        tag: low32(tag),
+        root: BackendNumber(root),
+        max,
+        uid: low32(uid),
+        gid: low32(gid),
+        mode: low32(mode),
     }
 }
 
@@ -56,18 +52,14 @@ fn counted(code: u64, count: u32) -> Answer {
         way: CALL,
         code,
         n: 4,
-        a: 0,
-        b: count as u64,
-        c: 0,
-        d: 0,
-        e: 0,
-        f: 0,
+        values: [0, count as u64, 0, 0, 0, 0],
     }
 }
 
 // Index, count, whether a tag was replaced, and that tag.
-fn mount(s: &mut [u8], path: &[u8], r: &[u64; CELLS]) -> Answer {
-    match vfs::mounting::mount(s, path, backend(r, ARGS)) {
+fn mount(s: &mut [u8], path: &[u8], r: Args) -> Answer {
+    let b = backend(r[0], r[1], r[2], r[3], r[4], r[5]);
+    match vfs::mounting::mount(s, path, b) {
         Mounted::Done {
             fs_idx,
             count,
@@ -89,8 +81,9 @@ fn mount(s: &mut [u8], path: &[u8], r: &[u64; CELLS]) -> Answer {
 }
 
 // Whether a tag was replaced, that tag, whether one was displaced, and that tag.
-fn mount_at(s: &mut [u8], path: &[u8], r: &[u64; CELLS]) -> Answer {
-    match vfs::restoring::restore_mount(s, low8(r[ARGS]), path, backend(r, ARGS + 1)) {
+fn mount_at(s: &mut [u8], path: &[u8], r: Args) -> Answer {
+    let b = backend(r[1], r[2], r[3], r[4], r[5], r[6]);
+    match vfs::restoring::restore_mount(s, low8(r[0]), path, b) {
         Restored::Done {
             replaced,
             displaced,
@@ -145,15 +138,15 @@ fn root(s: &[u8], path: &[u8]) -> Answer {
     }
 }
 
-fn ids(s: &[u8], r: &[u64; CELLS]) -> Answer {
-    match vfs_query::remap_attr_id(s, low32(r[ARGS]), low32(r[ARGS + 1]), r[ARGS + 2] != 0) {
+fn ids(s: &[u8], r: Args) -> Answer {
+    match vfs_query::remap_attr_id(s, low32(r[0]), low32(r[1]), r[2] != 0) {
         Remapped::Ids { uid, gid } => values(2, uid as u64, gid as u64, 0, 0),
         Remapped::Small => refused(12, 2),
     }
 }
 
 // Mount, restored mount or unmount.
-pub fn of_mounts(verb: u64, s: &mut [u8], text: &[u8], r: &[u64; CELLS]) -> Answer {
+pub fn of_mounts(verb: u64, s: &mut [u8], text: &[u8], r: Args) -> Answer {
     match verb {
         verbs::MOUNT => mount(s, text, r),
         verbs::MOUNT_AT => mount_at(s, text, r),
@@ -162,11 +155,11 @@ pub fn of_mounts(verb: u64, s: &mut [u8], text: &[u8], r: &[u64; CELLS]) -> Answ
 }
 
 // A query of the mount tables.
-pub fn of_queries(verb: u64, s: &[u8], text: &[u8], r: &[u64; CELLS]) -> Answer {
+pub fn of_queries(verb: u64, s: &[u8], text: &[u8], r: Args) -> Answer {
     match verb {
-        verbs::ROUTE => route(s, r[ARGS]),
+        verbs::ROUTE => route(s, r[0]),
         verbs::ROOT => root(s, text),
-        verbs::LOOKUP => looked(vfs_query::lookup(s, NodeNumber(r[ARGS]), text)),
+        verbs::LOOKUP => looked(vfs_query::lookup(s, NodeNumber(r[0]), text)),
         _ => ids(s, r),
     }
 }

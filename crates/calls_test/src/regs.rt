@@ -21,9 +21,6 @@ pub const SUM: usize = 13;
 
 pub const CALLS: usize = 14;
 
-// How many bytes of output stand in the buffer.
-pub const USED: usize = 15;
-
 // Where the next line starts, how many loops are open, and three cells for each: first line, variable, turns left.
 pub const PLACE: usize = 16;
 
@@ -42,8 +39,21 @@ pub const ARGS: usize = 40;
 
 pub const MOST_ARGS: u64 = 8;
 
+pub type Args = [u64; 8];
+
 // How many cells there are.
 pub const CELLS: usize = 64;
+
+// The numbers of the line at hand.
+pub fn args(r: &[u64; CELLS]) -> Args {
+    let mut a = [0u64; 8];
+    let mut i = 0;
+    while i < 8 {
+        a[i] = r[ARGS + i];
+        i += 1;
+    }
+    a
+}
 
 // A variable, or 0 where there is none.
 pub fn variable(r: &[u64; CELLS], v: u64) -> u64 {

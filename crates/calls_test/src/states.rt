@@ -5,7 +5,7 @@ use crate::calls::values;
 use crate::calls::with_sum;
 use crate::memory;
 use crate::regs;
-use crate::regs::ARGS;
+use crate::regs::Args;
 use crate::regs::CELLS;
 use crate::sink;
 use crate::sums;
@@ -29,10 +29,10 @@ fn saved(s: &[u8], kept: &mut [u8], room: u64) -> Answer {
 }
 
 // A save; the variable that the line names becomes the number of bytes written.
-pub fn save(s: &[u8], kept: &mut [u8], regs: &mut [u64; CELLS]) -> Answer {
-    let v = regs[ARGS];
-    let a = saved(s, kept, regs[ARGS + 1]);
-    regs::assign(regs, v, a.a);
+pub fn save(s: &[u8], kept: &mut [u8], r: Args, regs: &mut [u64; CELLS]) -> Answer {
+    let a = saved(s, kept, r[1]);
+    let written = a.values;
+    regs::assign(regs, r[0], written[0]);
     a
 }
 

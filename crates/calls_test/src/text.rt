@@ -1,18 +1,13 @@
 // The words of a line: numbers, variables and one text.
 use crate::regs;
 use crate::regs::CELLS;
+use decimal::Number;
 ghost use Prim.Native.Nat.{_≤_};
 ghost use lib.ListN.{length};
 
 const LINE_END: u8 = 10;
 
 const SPACE: u8 = 32;
-
-// What a number is read as.
-enum Number {
-    Value(u64),
-    Bad,
-}
 
 // The first place of a byte from `at` on, or the length.
 fn find(s: &[u8], at: usize, b: u8) -> usize
@@ -109,7 +104,7 @@ fn value(w: &[u8], regs: &[u64; CELLS]) -> Number {
             return name(w[1]);
         }
     }
-    decimal(w)
+    decimal::read(w, u64::MAX)
 }
 
 fn name(b: u8) -> Number {
@@ -118,37 +113,6 @@ fn name(b: u8) -> Number {
         return Number::Value(v);
     }
     Number::Bad
-}
-
-fn decimal(w: &[u8]) -> Number {
-    let mut n: u64 = 0;
-    let mut i = 0;
-    while i < w.len() {
-        match one_more(n, w[i]) {
-            Number::Value(v) => {
-                n = v;
-            }
-            Number::Bad => {
-                return Number::Bad;
-            }
-        }
-        i += 1;
-    }
-    Number::Value(n)
-}
-
-fn one_more(n: u64, b: u8) -> Number {
-    if b < b'0' {
-        return Number::Bad;
-    }
-    if b'9' < b {
-        return Number::Bad;
-    }
-    let d = (b - b'0') as u64;
-    if (u64::MAX - d) / 10 < n {
-        return Number::Bad;
-    }
-    Number::Value(n * 10 + d)
 }
 
 // Where a text's decoding stands: at a byte as it is, behind `%`, behind `$`, at a fault, or behind `%` and a digit.

@@ -1,8 +1,9 @@
-use Rattle.replay.proofs.lines.Statement.{statement}
+-- `replay::lines` is safe and ends: each turn goes past a line end. Assumes nothing.
 use borrow.Author.Needs.{needs}
 use Prim.Native.Nat.{_-_, _+_, _≤_, _<_}
 use mathlib.Core.Path.{_≡_}
 use lib.ListN.{length}
+use Rattle.replay.proofs.lines.Statement.{statement}
 use Rattle.replay.proofs.lines.Tie as tie
 
 abbrev Inv-loop : tie.InvT-loop

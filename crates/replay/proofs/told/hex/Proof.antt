@@ -1,8 +1,9 @@
+-- `replay::told::hex` is safe and ends: each turn writes one byte more. Assumes nothing.
 use borrow.Author.Needs.{needs}
-use Rattle.replay.proofs.told.hex.Statement.{statement}
 use Prim.Native.Nat.{_-_, _+_, _≤_, _<_}
 use mathlib.Core.Path.{_≡_}
 use lib.ListN.{length}
+use Rattle.replay.proofs.told.hex.Statement.{statement}
 use Rattle.replay.proofs.told.hex.Tie as tie
 
 abbrev Inv-loop : tie.InvT-loop

@@ -1,8 +1,9 @@
+-- `replay::told::numbers` is safe and ends: each turn writes one number more. Assumes nothing.
 use borrow.Author.Needs.{needs}
-use Rattle.replay.proofs.told.numbers.Statement.{statement}
 use Prim.Native.Nat.{_-_, _+_, _≤_, _<_}
 use mathlib.Core.Path.{_≡_}
 use lib.ListN.{length}
+use Rattle.replay.proofs.told.numbers.Statement.{statement}
 use Rattle.replay.proofs.told.numbers.Tie as tie
 
 abbrev Inv-loop : tie.InvT-loop

@@ -1,3 +1,4 @@
+-- `replay::words::find` meets its contract: the place lies between its start and the length. Assumes nothing.
 use borrow.Author.Needs.{needs}
 use Prim.Native.Nat.{_-_, _+_, _≤_, _<_}
 use mathlib.Core.Path.{_≡_}

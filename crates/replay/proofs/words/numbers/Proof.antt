@@ -1,8 +1,9 @@
+-- `replay::words::numbers` is safe and ends: each turn goes past a word. Assumes nothing.
 use borrow.Author.Needs.{needs}
-use Rattle.replay.proofs.words.numbers.Statement.{statement}
 use Prim.Native.Nat.{_-_, _+_, _≤_, _<_}
 use mathlib.Core.Path.{_≡_}
 use lib.ListN.{length}
+use Rattle.replay.proofs.words.numbers.Statement.{statement}
 use Rattle.replay.proofs.words.numbers.Tie as tie
 
 abbrev Inv-loop : tie.InvT-loop

@@ -1,8 +1,9 @@
+-- `replay::words::pairs` meets its contract: what it writes stands within the bytes. Assumes nothing.
 use borrow.Author.Needs.{needs}
-use Rattle.replay.proofs.words.pairs.Statement.{statement}
 use Prim.Native.Nat.{_-_, _+_, _≤_, _<_}
 use mathlib.Core.Path.{_≡_}
 use lib.ListN.{length}
+use Rattle.replay.proofs.words.pairs.Statement.{statement}
 use Rattle.replay.proofs.words.pairs.Tie as tie
 
 abbrev Inv-loop : tie.InvT-loop
