@@ -6,7 +6,7 @@ use Prim.Native.Nat.{ℕ, zero, suc, _+_, _*_, _^_, _≤_, _<_}
 use lib.ListN.{length, getD}
 use borrow.Author.Tests.{eq-eqb, ne-eqb, le-leb, lt-leb, lt-ltb, le-ltb}
 use Rattle.le.specs.Mem.{get}
-use Rattle.rules.specs.Ids.{badMapping}
+use Rattle.rules.specs.Ids.{Mapping, badMapping}
 use Rattle.rules.specs.Create.{outside, unknown}
 use Rattle.rules.specs.Instance.{Instance}
 use Rattle.rules.specs.Outcome.{Outcome}
@@ -24,6 +24,21 @@ fails zero [] e = e
 fails (suc k) [] e = e
 fails zero (t ∷ ts) e = rw e
 fails (suc k) (t ∷ ts) e = ap (λ (b : Bool). t && b) (fails k ts e) ∙ and-false t
+
+-- ---- the last three
+
+module _ (known i o f : ℕ) (m : Mapping) where
+  pub unknown-bits : (outside known i || outside known o) ≡ true → settingsFit known i o f m ≡ false
+  unfolding settingsFit
+  unknown-bits e = fails 0 _ (rw e)
+
+  pub high-flags : 64 ≤ f → settingsFit known i o f m ≡ false
+  unfolding settingsFit
+  high-flags h = fails 1 _ (le-ltb f 64 h)
+
+  pub by-mapping : (outside known i || outside known o) ≡ false → f < 64 → settingsFit known i o f m ≡ not (badMapping m)
+  unfolding settingsFit every
+  by-mapping e c = rw (e, lt-ltb f 64 c, and-true)
 
 -- ---- the tests of the rule
 
@@ -62,8 +77,8 @@ module _ (mem : List ℕ) where
 
   -- the first eight pass: the last three decide
   pub last-three : 8192 ≤ length mem → get 8 mem 0 ≡ mark → 1 ≤ capacityOf mem → capacityOf mem ≤ 1024 → 512 * capacityOf mem + 8192 ≤ length mem
-      → countOf mem < capacityOf mem → 2 ≤ nextOf mem → nextOf mem ≤ 2 ^ 56 → laid mem ≡ settingsFit (headOf mem)
-  unfolding laid laidBy row get every settingsFit
+      → countOf mem < capacityOf mem → 2 ≤ nextOf mem → nextOf mem ≤ 2 ^ 56 → laid mem ≡ settingsFit (get 8 mem 32) (get 8 mem 40) (get 8 mem 48) (get 1 mem 80) (mappingFrom 7 (headOf mem))
+  unfolding laid laidBy row get every settingsFit unknown
   last-three a b c d e f g h =
       rw (
         le-leb 8192 (length mem) a,
@@ -75,21 +90,6 @@ module _ (mem : List ℕ) where
         le-leb 2 (nextOf mem) g,
         le-leb (nextOf mem) (2 ^ 56) h,
       )
-
-  -- ---- the last three
-
-  pub unknown-bits : (outside (get 8 mem 32) (get 8 mem 40) || outside (get 8 mem 32) (get 8 mem 48)) ≡ true → settingsFit (headOf mem) ≡ false
-  unfolding settingsFit row get unknown
-  unknown-bits e = fails 0 _ (rw e)
-
-  pub high-flags : 64 ≤ get 1 mem 80 → settingsFit (headOf mem) ≡ false
-  unfolding settingsFit row get
-  high-flags h = fails 1 _ (le-ltb (get 1 mem 80) 64 h)
-
-  pub by-mapping : (outside (get 8 mem 32) (get 8 mem 40) || outside (get 8 mem 32) (get 8 mem 48)) ≡ false → get 1 mem 80 < 64
-      → settingsFit (headOf mem) ≡ not (badMapping (mappingFrom 7 (headOf mem)))
-  unfolding settingsFit row get unknown every
-  by-mapping e c = rw (e, lt-ltb (get 1 mem 80) 64 c, and-true)
 
   -- ---- the answer of a call
 

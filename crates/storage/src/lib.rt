@@ -5,8 +5,8 @@ ghost use mathlib.Core.List.{[], _∷_};
 ghost use Prim.Native.Nat.{_+_, _*_, _≤_};
 ghost use lib.ListN.{length};
 ghost use Rattle.le.specs.Mem.{write, bytesOf, put};
+ghost use Rattle.id_map.specs.Mapping.{mappingOf};
 ghost use Rattle.rules.specs.Create.{tooSmall};
-ghost use Rattle.tables.specs.View.{headOf};
 ghost use Rattle.tables.specs.Rule.{laid};
 ghost use Rattle.tables.specs.Write.{putHeader, setRemoval};
 ghost use Rattle.tables.specs.Call.{answeredBy, Does};
@@ -68,20 +68,16 @@ const FLAGS: u8 = 64;
 const TAGS: usize = 512;
 
 // Whether the option bits are within the mask, the flags within theirs, and the mapping in force passes its test.
-fn settings_fit(s: &[u8]) -> bool
-    requires { ⌜ 8192 ≤ length (now s) ⌝ }
-    ensures { λ r. ⌜ r ≡ settingsFit (headOf (now (s .entry))) ⌝ }
+fn settings_fit(known: u64, in_opts: u64, out_opts: u64, flags: u8, m: id_map::IdMapping) -> bool
+    ensures { λ r. ⌜ r ≡ settingsFit known «in_opts» «out_opts» flags (mappingOf m) ⌝ }
 {
-    let known = le::fields::get_u64(s, 32);
-    let in_opts = le::fields::get_u64(s, 40);
-    let out_opts = le::fields::get_u64(s, 48);
     if inner::is_unknown(known, in_opts, out_opts) {
         return false;
     }
-    if FLAGS <= le::fields::get_u8(s, 80) {
+    if FLAGS <= flags {
         return false;
     }
-    !id_map::is_bad(tables::header::mapping(s))
+    !id_map::is_bad(m)
 }
 
 // Whether the bytes keep the layout rule: tests of the header alone (R20, R22).
@@ -114,7 +110,11 @@ pub fn is_laid(s: &[u8]) -> bool
     if TOP < next {
         return false;
     }
-    settings_fit(s)
+    let known = le::fields::get_u64(s, 32);
+    let in_opts = le::fields::get_u64(s, 40);
+    let out_opts = le::fields::get_u64(s, 48);
+    let flags = le::fields::get_u8(s, 80);
+    settings_fit(known, in_opts, out_opts, flags, tables::header::mapping(s))
 }
 
 // Whether N is outside its limits or the bytes are too few for it (R9, R20).

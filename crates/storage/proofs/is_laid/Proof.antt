@@ -2,6 +2,7 @@
 use mathlib.Core.Path.{sym, _∙_}
 use native.Mathlib.Omega.{arith}
 use Rattle.storage.proofs.Laid.{short, unmarked, no-node, many-nodes, few-bytes, crowded, low-next, high-next, last-three}
+use Rattle.storage.specs.Laid.{settingsFit}
 use borrow.Author.Needs.{needs}
 use Rattle.storage.proofs.is_laid.Statement.{statement}
 use Rattle.storage.proofs.is_laid.Tie as tie
@@ -31,7 +32,10 @@ returns-8 : tie.Need-returns-8
 returns-8 c = sym (high-next _ (omega arith))
 
 returns-9 : tie.Need-returns-9
-returns-9 c = c .settings-fit .ensures ∙ sym (last-three _ (omega arith) (omega arith) (omega arith) (omega arith) (omega arith) (omega arith) (omega arith) (omega arith))
+returns-9 c =
+    c .settings-fit .ensures
+    ∙ (λ i. settingsFit (c .before .before .before .before .before .get-u645 .ensures i) (c .before .before .before .before .get-u646 .ensures i) (c .before .before .before .get-u647 .ensures i) (c .before .before .get-u8 .ensures i) (c .before .mapping .ensures i))
+    ∙ sym (last-three _ (omega arith) (omega arith) (omega arith) (omega arith) (omega arith) (omega arith) (omega arith) (omega arith))
 
 pub is-laid-spec : {M : Type 1} → statement M
 is-laid-spec =
@@ -51,5 +55,10 @@ is-laid-spec =
     (λ c κs. search needs)
     returns-7
     returns-8
+    (λ c κs. search needs)
+    (λ c κs. search needs)
+    (λ c κs. search needs)
+    (λ c κs. search needs)
+    (λ c κs. search needs)
     (λ c κs. search needs)
     returns-9)
