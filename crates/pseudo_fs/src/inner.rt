@@ -12,7 +12,7 @@ use path::utf8::is_utf8;
 use scan::names::key_of;
 use tables::header::count;
 use tables::rows::Found;
-use tables::rows::child_is;
+use tables::rows::child_alike;
 use tables::rows::find_child;
 use tables::rows::is_known;
 use tables::rows::next_alike;
@@ -57,16 +57,19 @@ pub fn walk(s: &[u8], path: &[u8]) -> Walked
             }
             Component::Name { start, next, .. } => {
                 let key = key_of(&path[start..next]);
-                let mut j = next_alike(s, 0, key);
-                while j < n {
-                    if child_is(s, j, node, &path[start..next]) {
+                let mut i = 0;
+                loop {
+                    let j = next_alike(s, i, key);
+                    if n <= j {
+                        return Walked::Missing { place: start };
+                    }
+                    if child_alike(s, j, node, &path[start..next]) {
                         node = number(s, j);
                         at = next;
                         continue 'outer;
                     }
-                    j = next_alike(s, j + 1, key);
+                    i = j + 1;
                 }
-                return Walked::Missing { place: start };
             }
         }
     }

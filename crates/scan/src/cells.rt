@@ -45,7 +45,7 @@ fn find_by_eight(s: &[u8], at: usize, from: usize, n: usize, mask: u64, x: u64) 
     let mut i = from;
     while 8 <= n - i {
         if any_of_eight(s, at, i, mask, x) {
-            return find_by_one(s, at, i, n, mask, x);
+            break;
         }
         i += 8;
     }

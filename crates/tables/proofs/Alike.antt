@@ -14,7 +14,7 @@ use lib.Pow.{pow-add}
 use lib.Dec.{eqb, leb}
 use Rattle.le.specs.Mem.{read, value, get, same, Bytes}
 use Rattle.le.proofs.Lens.{get-add}
-use Rattle.le.proofs.Same.{same-eq}
+use Rattle.le.proofs.Same.{same-eq, same-words}
 use Rattle.rules.proofs.Fields.{get-fits}
 use Rattle.rules.specs.Tree.{isChild}
 use Rattle.scan.specs.First.{cellIs, firstOf}
@@ -23,7 +23,7 @@ use Rattle.scan.specs.Key.{maskOf, wordOf}
 use Rattle.tables.specs.Layout.{tableAt, lastAt, firstAt, capacityOf, countOf}
 use Rattle.tables.specs.View.{nodeAt, nodesOf}
 use Rattle.tables.specs.Answer.{placeIn}
-use Rattle.tables.proofs.Cells.{number-at, other-length, short-name, long-name}
+use Rattle.tables.proofs.Cells.{number-at, other-length, short-name, long-name, long-same}
 use Rattle.tables.proofs.Find.{Sought, child-on, Placed, place-begins, place-here, place-on, place-none}
 
 -- ---- the low bytes of a cell
@@ -109,6 +109,35 @@ module _ (n : ℕ) (mem : List ℕ) (i : ℕ) (p : List ℕ) (b : Bytes mem) whe
       go true e = absurd (true≢false (sym (like e) ∙ f))
       go false e = and-false (eqb (nodeAt n mem i .above) here)
 
+  -- where the cell is that of the name, the bytes before the last seven decide
+  module _ (c : Bytes p) (e : cellIs mem (tableAt + 24 * n) (maskOf p) (wordOf p) i ≡ true) (h : l ≡ length p) where
+    last-alike : get (min l 7) mem (lastAt n i + 1) ≡ get (min l 7) p (length p - 7)
+    unfolding cellIs maskOf wordOf
+    last-alike =
+        let m : min (length p) 7 ≡ min l 7 = ap (λ (x : ℕ). min x 7) (sym h) in
+        let few : length p % 256 ≡ l = mod-eq-of-lt (omega (arith, h, byte)) ∙ sym h in
+        let q : l + 256 * get (min l 7) mem (lastAt n i + 1) ≡ l + 256 * get (min l 7) p (length p - 7) =
+        sym (low-bytes mem (lastAt n i) (min l 7) b (omega arith)) ∙ sym (and-mask (get 8 mem (lastAt n i)) (8 * (min l 7 + 1)))
+        ∙ (rw (m, few) at (eqb-true (bitAnd (get 8 mem (lastAt n i)) (2 ^ (8 * (min (length p) 7 + 1)) - 1)) (length p % 256 + 256 * get (min (length p) 7) p (length p - 7)) e)) in
+        omega (arith, q)
+
+    pub alike-named : same (nodeAt n mem i .called) p ≡ same (read mem (firstAt n i) (l - 7)) (read p 0 (l - 7))
+    unfolding read same
+    alike-named = go (leb l 7) refl
+      where
+        go : (t : Bool) → leb l 7 ≡ t → same (nodeAt n mem i .called) p ≡ same (read mem (firstAt n i) (l - 7)) (read p 0 (l - 7))
+        go true q =
+            let few : l ≤ 7 = leb-true l 7 q in
+            let m : min l 7 ≡ l = omega arith in
+            let z : length p - 7 ≡ 0 = omega arith in
+            let y : l - 7 ≡ 0 = omega arith in
+            short-name n mem i l p refl byte h few ∙ same-words l mem p (lastAt n i + 1) 0 b c (rw (m, z) at last-alike) ∙ rw y refl
+        go false q =
+            let many : 7 < l = leb-false l 7 q in
+            let m : min l 7 ≡ 7 = omega arith in
+            let z : length p - 7 ≡ l - 7 = omega arith in
+            long-same n mem i l p refl byte h many (same-words 7 mem p (lastAt n i + 1) (l - 7) b c (rw (m, z) at last-alike))
+
 -- ---- rows passed over
 
 -- rows whose cell is not the one sought are passed over in the search for a child: m and w are the key's numbers
@@ -119,6 +148,12 @@ module _ (mem : List ℕ) (here : ℕ) (p : List ℕ) (c : ℕ) (b : Bytes mem) 
       rw (a, e .0, e .1, ← k)
       (first-passes (cellIs mem (tableAt + 24 * capacityOf mem) (maskOf p) (wordOf p)) (Sought mem here p c) i (c - i)
       (λ j h f q. child-on mem here p c j q (omega (arith, s .0)) (unlike (capacityOf mem) mem j p b here f)) s)
+
+  -- the row that is reached has the cell
+  pub lands : Sought mem here p c i → r < c → cellIs mem (tableAt + 24 * capacityOf mem) (maskOf p) (wordOf p) r ≡ true
+  lands s h =
+      rw (← e .0, ← e .1)
+      (rw a (first-finds (cellIs mem (tableAt + 24 * capacityOf mem) m w) i (countOf mem - i) (omega (arith, a, k, s .0, h))))
 
 -- a search from i on does not go back
 pub further : (mem : List ℕ) (m w i r : ℕ) → r ≡ firstOf (cellIs mem (tableAt + 24 * capacityOf mem) m w) i (countOf mem - i) → i ≤ r

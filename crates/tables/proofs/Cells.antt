@@ -82,9 +82,6 @@ module _ (n : ℕ) (mem : List ℕ) (i l : ℕ) (p : List ℕ) (e : l ≡ get 1 
       ap (λ (s : List ℕ). same s p) (spelt ∙ rw m) ∙ ap (same (read mem (firstAt n i) (l - 7) ++ read mem (lastAt n i + 1) 7)) whole
       ∙ same-append (read mem (firstAt n i) (l - 7)) _ (read p 0 (l - 7)) _ (length-read mem (firstAt n i) (l - 7) ∙ sym (length-read p 0 (l - 7)))
 
-  pub long-other : l ≡ length p → 7 < l → same (read mem (lastAt n i + 1) 7) (read p (l - 7) 7) ≡ false → same (nodeAt n mem i .called) p ≡ false
-  long-other h b f = long-name h b ∙ ap (λ (t : Bool). same (read mem (firstAt n i) (l - 7)) (read p 0 (l - 7)) && t) f ∙ and-false (same (read mem (firstAt n i) (l - 7)) (read p 0 (l - 7)))
-
   pub long-same : l ≡ length p → 7 < l → same (read mem (lastAt n i + 1) 7) (read p (l - 7) 7) ≡ true
       → same (nodeAt n mem i .called) p ≡ same (read mem (firstAt n i) (l - 7)) (read p 0 (l - 7))
   long-same h b f = long-name h b ∙ ap (λ (t : Bool). same (read mem (firstAt n i) (l - 7)) (read p 0 (l - 7)) && t) f ∙ and-true (same (read mem (firstAt n i) (l - 7)) (read p 0 (l - 7)))

@@ -1,10 +1,11 @@
 // The node table: a row for each live node but the root, in creation order.
 use scan::names::NameKey;
 ghost use mathlib.Core.Path.{_≡_};
+ghost use mathlib.Core.Bool.{true};
 ghost use Prim.Native.Nat.{_+_, _-_, _*_, _≤_, _<_, _^_};
 ghost use lib.ListN.{length};
-ghost use Rattle.rules.specs.Bytes.{same};
 ghost use Rattle.scan.specs.First.{cellIs, firstOf};
+ghost use Rattle.scan.specs.Key.{maskOf, wordOf};
 ghost use Rattle.rules.specs.Tree.{isChild, childIn, isKnown, parentIn};
 ghost use Rattle.tables.specs.Table.{putRow, closeUp};
 ghost use Rattle.tables.specs.Layout.{nodeTable, tableAt, capacityOf, countOf, nextOf};
@@ -52,39 +53,6 @@ pub fn parent(s: &[u8], i: usize) -> u64
     le::fields::get_u64(s, TABLE + 8 * n + 8 * i) % NUMBERS
 }
 
-// Whether row i has that name: its length, its last bytes, and the bytes before them.
-pub fn name_is(s: &[u8], i: usize, name: &[u8]) -> bool
-    requires { ⌜ Laid (now s) ⌝ }
-    requires { ⌜ i < countOf (now s) ⌝ }
-    ensures { λ r. ⌜ r ≡ same (nodeAt (capacityOf (now (s .entry))) (now (s .entry)) i .called) (now (name .entry)) ⌝ }
-{
-    let n = crate::header::capacity(s);
-    let at = TABLE + 24 * n + 8 * i;
-    let len = le::fields::get_u8(s, at) as usize;
-    if len != name.len() {
-        return false;
-    }
-    if len <= 7 {
-        return le::runs::same_at(s, at + 1, name, 0, len);
-    }
-    if !le::runs::same_at(s, at + 1, name, len - 7, 7) {
-        return false;
-    }
-    le::runs::same_at(s, TABLE + 44 * n + 248 * i, name, 0, len - 7)
-}
-
-// Whether row i is the child of that name (R45).
-pub fn child_is(s: &[u8], i: usize, here: u64, name: &[u8]) -> bool
-    requires { ⌜ Laid (now s) ⌝ }
-    requires { ⌜ i < countOf (now s) ⌝ }
-    ensures { λ r. ⌜ r ≡ isChild here (now (name .entry)) (nodeAt (capacityOf (now (s .entry))) (now (s .entry)) i) ⌝ }
-{
-    if parent(s, i) != here {
-        return false;
-    }
-    name_is(s, i, name)
-}
-
 // The first row from `from` on whose name's cell is that of the key; the count where there is none. Rows of that name are among them (R45).
 pub fn next_alike(s: &[u8], from: usize, key: NameKey) -> usize
     requires { ⌜ Laid (now s) ⌝ }
@@ -96,6 +64,24 @@ pub fn next_alike(s: &[u8], from: usize, key: NameKey) -> usize
     scan::cells::find_cell(s, TABLE + 24 * n, from, c, key.mask, key.word)
 }
 
+// Whether row i, whose name's cell is that of the name, is the child of that name: parent, length, and the bytes before the last seven (R45).
+pub fn child_alike(s: &[u8], i: usize, here: u64, name: &[u8]) -> bool
+    requires { ⌜ Laid (now s) ⌝ }
+    requires { ⌜ i < countOf (now s) ⌝ }
+    requires { ⌜ cellIs (now s) (tableAt + 24 * capacityOf (now s)) (maskOf (now name)) (wordOf (now name)) i ≡ true ⌝ }
+    ensures { λ r. ⌜ r ≡ isChild here (now (name .entry)) (nodeAt (capacityOf (now (s .entry))) (now (s .entry)) i) ⌝ }
+{
+    if parent(s, i) != here {
+        return false;
+    }
+    let n = crate::header::capacity(s);
+    let len = le::fields::get_u8(s, TABLE + 24 * n + 8 * i) as usize;
+    if len != name.len() {
+        return false;
+    }
+    le::runs::same_at(s, TABLE + 44 * n + 248 * i, name, 0, before_last(len))
+}
+
 // The first child of that name (R45).
 pub fn find_child(s: &[u8], here: u64, name: &[u8]) -> Found
     requires { ⌜ Laid (now s) ⌝ }
@@ -103,14 +89,17 @@ pub fn find_child(s: &[u8], here: u64, name: &[u8]) -> Found
 {
     let c = crate::header::count(s);
     let key = scan::names::key_of(name);
-    let mut i = next_alike(s, 0, key);
-    while i < c {
-        if child_is(s, i, here, name) {
-            return Found::Node(number(s, i));
+    let mut i = 0;
+    loop {
+        let j = next_alike(s, i, key);
+        if c <= j {
+            return Found::Nothing;
         }
-        i = next_alike(s, i + 1, key);
+        if child_alike(s, j, here, name) {
+            return Found::Node(number(s, j));
+        }
+        i = j + 1;
     }
-    Found::Nothing
 }
 
 // The row of the first node of that number (R53).

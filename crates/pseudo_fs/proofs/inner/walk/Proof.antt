@@ -1,16 +1,21 @@
 -- The outer loop: the walk from here on is the walk of the whole path. The inner loop: that again, at the node that is searched, and the rows that are left decide.
-use mathlib.Core.Path.{sym, ap, _∙_}
+use mathlib.Core.Path.{_≡_, sym, ap, _∙_}
+use mathlib.Core.Bool.{true}
 use mathlib.Core.List.{List}
 use mathlib.Core.Option.{some}
-use Prim.Native.Nat.{ℕ, _-_}
+use Prim.Native.Nat.{ℕ, _+_, _-_, _*_, _<_}
 use native.Mathlib.Omega.{arith}
 use lib.ListN.{length}
 use denote.Ref.{now}
 use Rattle.rules.specs.Path.{name, parent}
 use Rattle.path.specs.Steps.{part, between}
 use Rattle.path.proofs.Steps.{step-of, Goes}
+use Rattle.le.specs.Mem.{Bytes}
+use Rattle.scan.specs.First.{cellIs}
+use Rattle.scan.specs.Key.{maskOf, wordOf}
+use Rattle.tables.specs.Layout.{tableAt, capacityOf}
 use Rattle.tables.specs.View.{nodesOf}
-use Rattle.tables.proofs.Alike.{skips, further}
+use Rattle.tables.proofs.Alike.{skips, lands, further}
 use Rattle.tables.proofs.Find.{Sought, child-begins, child-here, child-on, child-none}
 use Rattle.pseudo_fs.proofs.Walks.{Going, begins, arrives, goes-up, goes-to, stops}
 use borrow.Author.Needs.{needs}
@@ -18,10 +23,10 @@ use Rattle.pseudo_fs.proofs.inner.walk.Statement.{statement}
 use Rattle.pseudo_fs.proofs.inner.walk.Tie as tie
 
 abbrev Inv-loop : tie.InvT-loop
-Inv-loop s path n node₀ at₀ start next key j₀ node at j = Going (nodesOf s) path node at₀ × Sought s node (between path start next) n j
+Inv-loop s path n node₀ at₀ start next key i₀ node at i = Going (nodesOf s) path node at₀ × Sought s node (between path start next) n i
 
 abbrev μ-loop : tie.MeasureT-loop
-μ-loop s path n node₀ at₀ start next key j₀ node at j = n - j
+μ-loop s path n node₀ at₀ start next key i₀ node at i = n - i
 
 abbrev Inv-outer : tie.InvT-outer
 Inv-outer s path n node₀ at₀ node at = Going (nodesOf s) path node at
@@ -74,47 +79,61 @@ part-key-of-end : tie.Need-part-key-of-end Inv-loop μ-loop Inv-outer μ-outer
 part-key-of-end c = let s = name-step c in omega (arith, s .end, s .within)
 
 loop-holds : tie.Need-loop-holds Inv-loop μ-loop Inv-outer μ-outer
-loop-holds c =
-    let k = c .before .before .before in (
-      k .before .before .before .before .outer .inv,
-      skips _ _ _ _ (λ j. k .before .before .before .before .before .before .before .shared-slice-known .given j .fits) (k .before .before .before .before .before .count .ensures) _ _ (c .before .key-of .ensures) _ _ (c .next-alike .ensures)
-          (child-begins _ _ _ _ (k .before .before .before .before .before .count .ensures)),
-    )
+loop-holds c = let k = c .before .before in (k .before .before .before .before .outer .inv, child-begins _ _ _ _ (k .before .before .before .before .before .count .ensures))
 
-sub-child-is : tie.Need-sub-child-is Inv-loop μ-loop Inv-outer μ-outer
-sub-child-is c = let s = name-step (c .before .before .before .before .before) in omega (arith, s .end)
+-- the row that the search for a cell comes to
+module _ (c : tie.After-next-alike Inv-loop μ-loop Inv-outer μ-outer) where
+  abbrev k : tie.After-known-told2 Inv-loop μ-loop Inv-outer μ-outer
+  k = c .before .before .before .before
 
-part-child-is-start : tie.Need-part-child-is-start Inv-loop μ-loop Inv-outer μ-outer
-part-child-is-start c = let s = name-step (c .before .before .before .before .before) in omega (arith, s .end, s .within)
+  abbrev mem : List ℕ
+  mem = now (k .before .before .before .before .before .before .before .before .args .s)
 
-part-child-is-end : tie.Need-part-child-is-end Inv-loop μ-loop Inv-outer μ-outer
-part-child-is-end c = let s = name-step (c .before .before .before .before .before) in omega (arith, s .end, s .within)
+  abbrev found : ℕ
+  found = c .next-alike .result
+
+  bytes : Bytes mem
+  bytes = λ j. k .before .before .before .before .before .before .before .shared-slice-known .given j .fits
+
+  reached : Sought mem (c .before .loop .node) (between (path k) (start k) (next k)) (k .before .before .before .before .before .count .result) found
+  reached = skips _ _ _ _ bytes (k .before .before .before .before .before .count .ensures) _ _ (c .before .before .key-of .ensures) _ _ (c .next-alike .ensures) (c .before .loop .inv .1)
+
+  fits : found < k .before .before .before .before .before .count .result → cellIs mem (tableAt + 24 * capacityOf mem) (maskOf (between (path k) (start k) (next k))) (wordOf (between (path k) (start k) (next k))) found ≡ true
+  fits h = lands _ _ _ _ bytes (k .before .before .before .before .before .count .ensures) _ _ (c .before .before .key-of .ensures) _ _ (c .next-alike .ensures) (c .before .loop .inv .1) h
+
+returns-2 : tie.Need-returns-2 Inv-loop μ-loop Inv-outer μ-outer
+returns-2 c =
+    let l = c .before .before .loop in
+    stops _ _ _ _ (l .inv .0) _ _ _ (name-step (c .before .before .before .before .before)) (child-none _ _ _ _ _ (reached (c .before)) (search needs))
+
+sub-child-alike : tie.Need-sub-child-alike Inv-loop μ-loop Inv-outer μ-outer
+sub-child-alike c = let s = name-step (c .before .before .before .before .before) in omega (arith, s .end)
+
+part-child-alike-start : tie.Need-part-child-alike-start Inv-loop μ-loop Inv-outer μ-outer
+part-child-alike-start c = let s = name-step (c .before .before .before .before .before) in omega (arith, s .end, s .within)
+
+part-child-alike-end : tie.Need-part-child-alike-end Inv-loop μ-loop Inv-outer μ-outer
+part-child-alike-end c = let s = name-step (c .before .before .before .before .before) in omega (arith, s .end, s .within)
+
+child-alike-requires : tie.Need-child-alike-requires Inv-loop μ-loop Inv-outer μ-outer
+child-alike-requires c κs = (search needs, (search needs, fits (c .before .before) (search needs)))
 
 outer-less-2 : tie.Need-outer-less-2 Inv-loop μ-loop Inv-outer μ-outer
 outer-less-2 c = let s = name-step (c .before .before .before .before .before .before .before .before .before) in omega (arith, s .further, s .within)
 
 outer-again-2 : tie.Need-outer-again-2 Inv-loop μ-loop Inv-outer μ-outer
 outer-again-2 c =
-    let l = c .before .before .before .before .before .loop in
-    goes-to _ _ _ _ (l .inv .0) _ _ _ (name-step (c .before .before .before .before .before .before .before .before .before)) _
-    (child-here _ _ _ _ _ (l .inv .1) (search needs) (sym (c .before .before .child-is .ensures) ∙ c .before .if1 .taken) ∙ ap some (sym (c .number .ensures)))
+    let a = c .before .before .before .before .before in
+    goes-to _ _ _ _ (a .before .loop .inv .0) _ _ _ (name-step (c .before .before .before .before .before .before .before .before .before)) _
+    (child-here _ _ _ _ _ (reached a) (search needs) (sym (c .before .before .child-alike .ensures) ∙ c .before .if2 .taken) ∙ ap some (sym (c .number .ensures)))
 
 loop-less : tie.Need-loop-less Inv-loop μ-loop Inv-outer μ-outer
-loop-less c = let f = further _ _ _ _ _ (c .next-alike2 .ensures) in omega (arith, f)
+loop-less c = let f = further _ _ _ _ _ (c .before .before .before .before .next-alike .ensures) in omega (arith, f)
 
 loop-again : tie.Need-loop-again Inv-loop μ-loop Inv-outer μ-outer
 loop-again c =
-    let l = c .before .before .before .before .before .loop in
-    let k = c .before .before .before .before .before .before .before .before .before in (
-      l .inv .0,
-      skips _ _ _ _ (λ j. k .before .before .before .before .before .before .before .shared-slice-known .given j .fits) (k .before .before .before .before .before .count .ensures) _ _ (c .before .before .before .before .before .before .before .key-of .ensures) _ _ (c .next-alike2 .ensures)
-          (child-on _ _ _ _ _ (l .inv .1) (search needs) (sym (c .before .before .child-is .ensures) ∙ c .before .if1 .left)),
-    )
-
-returns-2 : tie.Need-returns-2 Inv-loop μ-loop Inv-outer μ-outer
-returns-2 c =
-    let l = c .before .loop in
-    stops _ _ _ _ (l .inv .0) _ _ _ (name-step (c .before .before .before .before .before)) (child-none _ _ _ _ _ (l .inv .1) (search needs))
+    let a = c .before .before .before .before in
+    (a .before .loop .inv .0, child-on _ _ _ _ _ (reached a) (search needs) (sym (c .before .child-alike .ensures) ∙ c .if2 .left))
 
 pub walk-spec : {M : Type 1} → statement M
 walk-spec =
@@ -138,17 +157,16 @@ walk-spec =
     part-key-of-start
     part-key-of-end
     (λ c κs. search needs)
-    (λ c κs. search needs)
     loop-holds
-    sub-child-is
-    part-child-is-start
-    part-child-is-end
     (λ c κs. search needs)
+    returns-2
+    sub-child-alike
+    part-child-alike-start
+    part-child-alike-end
+    child-alike-requires
     (λ c κs. search needs)
     outer-less-2
     outer-again-2
     (λ c. search needs)
-    (λ c κs. search needs)
     loop-less
-    loop-again
-    returns-2)
+    loop-again)

@@ -17,15 +17,12 @@ abbrev μ-loop : tie.MeasureT-loop
 loop-holds : tie.Need-loop-holds Inv-loop μ-loop
 loop-holds c = none-left _ _ _ (search needs)
 
-returns : tie.Need-returns Inv-loop μ-loop
-returns c = c .find-by-one .ensures ∙ sym (c .before .before .before .before .loop .inv .1)
-
 loop-again : tie.Need-loop-again Inv-loop μ-loop
 loop-again c =
     eight-left _ _ _ _ (c .before .before .before .loop .inv) (search needs) (sym (c .before .any-of-eight .ensures) ∙ c .if1 .left)
 
-returns-2 : tie.Need-returns-2 Inv-loop μ-loop
-returns-2 c = c .find-by-one2 .ensures ∙ sym (c .before .before .loop .inv .1)
+returns : tie.Need-returns Inv-loop μ-loop
+returns c = c .find-by-one .ensures ∙ sym (c .before .before .loop .inv .1)
 
 pub find-by-eight-spec : {M : Type 1} → statement M
 find-by-eight-spec =
@@ -36,10 +33,8 @@ find-by-eight-spec =
     loop-holds
     (λ c. search needs)
     (λ c κs. search needs)
-    (λ c κs. search needs)
-    returns
     (λ c. search needs)
     (λ c. search needs)
     loop-again
     (λ c κs. search needs)
-    returns-2)
+    returns)
