@@ -63,9 +63,6 @@ nodeTable n =
 
 -- ---- the header's numbers
 
-abbrev pub markOf : List ℕ → ℕ
-markOf mem = get 8 mem 0
-
 abbrev pub capacityOf : List ℕ → ℕ
 capacityOf mem = get 8 mem 8
 

@@ -1,3 +1,4 @@
+-- `calls_test::run` is free of faults: places within the slices, sums within their widths.
 use borrow.Author.Needs.{needs}
 use Prim.Native.Nat.{_-_, _+_, _≤_, _<_}
 use mathlib.Core.Path.{_≡_}

@@ -1,3 +1,4 @@
+-- `placing::free_old` meets its contract: each way through it by its law.
 use borrow.Author.Needs.{needs}
 use Rattle.placing.proofs.Returns.{frees-point, frees-none}
 use Rattle.placing.proofs.Stands.{long}
@@ -9,31 +10,24 @@ use Rattle.placing.proofs.free_old.Lts as lts
 use Rattle.tables.proofs.slots.free.Reads as free-reads
 use Rattle.tables.proofs.slots.tag_of.Reads as tag-of-reads
 
--- src/lib.rt:20:24
 enum-known-old : tie.Need-enum-known-old
 enum-known-old c = search needs
 
--- src/lib.rt:22:17
 tag-of-requires : tie.Need-tag-of-requires
 tag-of-requires c κs = search (long, laid-is, needs)
 
--- src/lib.rt:23:13
 free-requires : tie.Need-free-requires
 free-requires c κs = search (long, laid-is, needs)
 
--- src/lib.rt:26:29
 enum-told : tie.Need-enum-told
 enum-told c = search needs
 
--- src/lib.rt:15:1
 same-length : tie.Need-same-length
 same-length c = search needs
 
--- src/lib.rt:15:1
 returns : tie.Need-returns
 returns c = search (frees-point, needs)
 
--- src/lib.rt:15:1
 returns-2 : tie.Need-returns-2
 returns-2 c = frees-none _ _ (c .enum-told .given .1)
 

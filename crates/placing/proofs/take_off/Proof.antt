@@ -1,3 +1,4 @@
+-- `placing::take_off` meets its contract: each way through it by its law.
 use borrow.Author.Needs.{needs}
 use Rattle.placing.proofs.Returns.{laid-mounted, takes-off}
 use native.Mathlib.Omega.{arith}
@@ -12,27 +13,21 @@ use Rattle.tables.proofs.mounts.clear.Reads as clear-reads
 use Rattle.tables.proofs.slots.free.Reads as free-reads
 use Rattle.tables.proofs.slots.tag_of.Reads as tag-of-reads
 
--- src/lib.rt:67:9
 tag-of-requires : tie.Need-tag-of-requires
 tag-of-requires c κs = search (long, laid-is, needs)
 
--- src/lib.rt:68:5
 clear-requires : tie.Need-clear-requires
 clear-requires c κs = search (long, laid-is, needs)
 
--- src/lib.rt:69:5
 take-out-requires : tie.Need-take-out-requires
 take-out-requires c κs = search (laid-mounted, needs)
 
--- src/lib.rt:70:5
 free-requires : tie.Need-free-requires
 free-requires c κs = omega (arith, long _ (c .before .before .before .before .before .before .before .before .before .before .before .before .pre))
 
--- src/lib.rt:62:1
 same-length : tie.Need-same-length
 same-length c = search needs
 
--- src/lib.rt:62:1
 returns : tie.Need-returns
 returns c = search (takes-off, needs)
 

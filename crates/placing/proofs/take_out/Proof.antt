@@ -1,3 +1,4 @@
+-- `placing::take_out` meets its contract: each way through it by its law.
 use borrow.Author.Needs.{needs}
 use Rattle.placing.proofs.Returns.{row-of, stays-unset, stays-root, goes, nothing-goes}
 use Rattle.placing.proofs.Stands.{long}
@@ -10,54 +11,42 @@ use Rattle.tables.proofs.header.removes.Reads as removes-reads
 use Rattle.tables.proofs.rows.find_row.Reads as find-row-reads
 use Rattle.tables.proofs.rows.remove.Reads as remove-reads
 
--- src/lib.rt:49:9
 removes-requires : tie.Need-removes-requires
 removes-requires c κs = search (long, laid-is, needs)
 
--- src/lib.rt:50:9
 same-length : tie.Need-same-length
 same-length c = search needs
 
--- src/lib.rt:50:9
 returns : tie.Need-returns
 returns c = search (stays-unset, needs)
 
--- src/lib.rt:53:9
 same-length-2 : tie.Need-same-length-2
 same-length-2 c = search needs
 
--- src/lib.rt:53:9
 returns-2 : tie.Need-returns-2
 returns-2 c = search (stays-root, needs)
 
--- src/lib.rt:55:11
 find-row-requires : tie.Need-find-row-requires
 find-row-requires c κs = search (long, laid-is, needs)
 
--- src/lib.rt:56:17
 enum-known-i : tie.Need-enum-known-i
 enum-known-i c = search needs
 
--- src/lib.rt:56:23
 remove-requires : tie.Need-remove-requires
 remove-requires c κs = search (row-of, laid-is, needs)
 
 enum-told : tie.Need-enum-told
 enum-told c = search needs
 
--- src/lib.rt:45:1
 same-length-3 : tie.Need-same-length-3
 same-length-3 c = search needs
 
--- src/lib.rt:45:1
 returns-3 : tie.Need-returns-3
 returns-3 c = search (goes, needs)
 
--- src/lib.rt:45:1
 same-length-4 : tie.Need-same-length-4
 same-length-4 c = search needs
 
--- src/lib.rt:45:1
 returns-4 : tie.Need-returns-4
 returns-4 c = search (nothing-goes, needs)
 

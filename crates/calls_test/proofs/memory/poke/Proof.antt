@@ -1,3 +1,4 @@
+-- `calls_test::memory::poke` is free of faults: places within the slices, sums within their widths.
 use borrow.Author.Needs.{needs}
 use Prim.Native.Nat.{_-_, _+_, _≤_, _<_}
 use mathlib.Core.Path.{_≡_}
@@ -16,39 +17,30 @@ Inv-loop s₀ from width value at x₀ i₀ s x i = (i ≤ width) × (length s �
 abbrev μ-loop : tie.MeasureT-loop
 μ-loop s₀ from width value at x₀ i₀ s x i = width - i
 
--- src/memory.rt:48:9
 upto-requires : tie.Need-upto-requires Inv-loop μ-loop
 upto-requires c κs = search needs
 
--- src/memory.rt:51:5
 loop-holds : tie.Need-loop-holds Inv-loop μ-loop
 loop-holds c = search needs
 
--- src/memory.rt:52:25
 low8-requires : tie.Need-low8-requires Inv-loop μ-loop
 low8-requires c κs = search needs
 
--- src/memory.rt:52:9
 store-requires : tie.Need-store-requires Inv-loop μ-loop
 store-requires c κs = search needs
 
--- src/memory.rt:54:9
 add-i : tie.Need-add-i Inv-loop μ-loop
 add-i c = search needs
 
--- src/memory.rt:51:5
 loop-less : tie.Need-loop-less Inv-loop μ-loop
 loop-less c = search needs
 
--- src/memory.rt:51:5
 loop-again : tie.Need-loop-again Inv-loop μ-loop
 loop-again c = search needs
 
--- src/memory.rt:47:1
 same-length : tie.Need-same-length Inv-loop μ-loop
 same-length c = search needs
 
--- src/memory.rt:47:1
 returns : tie.Need-returns Inv-loop μ-loop
 returns c = search needs
 

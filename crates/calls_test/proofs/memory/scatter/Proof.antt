@@ -1,3 +1,4 @@
+-- `calls_test::memory::scatter` is free of faults: places within the slices, sums within their widths.
 use borrow.Author.Needs.{needs}
 use Prim.Native.Nat.{_-_, _+_, _≤_, _<_}
 use mathlib.Core.Path.{_≡_}
@@ -17,51 +18,39 @@ Inv-loop s₀ from len seed at n x₀ i₀ s x i = (at + n ≤ length s₀) × (
 abbrev μ-loop : tie.MeasureT-loop
 μ-loop s₀ from len seed at n x₀ i₀ s x i = n - i
 
--- src/memory.rt:26:9
 upto-requires : tie.Need-upto-requires Inv-loop μ-loop
 upto-requires c κs = search needs
 
--- src/memory.rt:27:9
 within-requires : tie.Need-within-requires Inv-loop μ-loop
 within-requires c κs = search needs
 
--- src/memory.rt:30:5
 loop-holds : tie.Need-loop-holds Inv-loop μ-loop
 loop-holds c = search needs
 
--- src/memory.rt:31:9
 following-requires : tie.Need-following-requires Inv-loop μ-loop
 following-requires c κs = search needs
 
--- src/memory.rt:32:21
 low8-requires : tie.Need-low8-requires Inv-loop μ-loop
 low8-requires c κs = search needs
 
--- src/memory.rt:32:11
 add-s : tie.Need-add-s Inv-loop μ-loop
 add-s c = search needs
 
--- src/memory.rt:32:9
 slice-write-s : tie.Need-slice-write-s Inv-loop μ-loop
 slice-write-s c = search needs
 
--- src/memory.rt:33:9
 add-i : tie.Need-add-i Inv-loop μ-loop
 add-i c = search needs
 
--- src/memory.rt:30:5
 loop-less : tie.Need-loop-less Inv-loop μ-loop
 loop-less c = search needs
 
--- src/memory.rt:30:5
 loop-again : tie.Need-loop-again Inv-loop μ-loop
 loop-again c = search needs
 
--- src/memory.rt:25:1
 same-length : tie.Need-same-length Inv-loop μ-loop
 same-length c = search needs
 
--- src/memory.rt:25:1
 returns : tie.Need-returns Inv-loop μ-loop
 returns c = search needs
 

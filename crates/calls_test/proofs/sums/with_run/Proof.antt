@@ -1,3 +1,4 @@
+-- `calls_test::sums::with_run` is free of faults: places within the slices, sums within their widths.
 use borrow.Author.Needs.{needs}
 use Prim.Native.Nat.{_-_, _+_, _≤_, _<_}
 use mathlib.Core.Path.{_≡_}
@@ -15,31 +16,24 @@ Inv-loop sum s at len x₀ i₀ x i = i ≤ len
 abbrev μ-loop : tie.MeasureT-loop
 μ-loop sum s at len x₀ i₀ x i = len - i
 
--- src/sums.rt:29:5
 loop-holds : tie.Need-loop-holds Inv-loop μ-loop
 loop-holds c = search needs
 
--- src/sums.rt:30:21
 byte-at-requires : tie.Need-byte-at-requires Inv-loop μ-loop
 byte-at-requires c κs = search needs
 
--- src/sums.rt:30:9
 with-requires : tie.Need-with-requires Inv-loop μ-loop
 with-requires c κs = search needs
 
--- src/sums.rt:31:9
 add-i : tie.Need-add-i Inv-loop μ-loop
 add-i c = search needs
 
--- src/sums.rt:29:5
 loop-less : tie.Need-loop-less Inv-loop μ-loop
 loop-less c = search needs
 
--- src/sums.rt:29:5
 loop-again : tie.Need-loop-again Inv-loop μ-loop
 loop-again c = search needs
 
--- src/sums.rt:26:1
 returns : tie.Need-returns Inv-loop μ-loop
 returns c = search needs
 

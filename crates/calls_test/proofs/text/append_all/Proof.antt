@@ -1,3 +1,4 @@
+-- `calls_test::text::append_all` is free of faults: places within the slices, sums within their widths.
 use borrow.Author.Needs.{needs}
 use Prim.Native.Nat.{_-_, _+_, _≤_, _<_}
 use mathlib.Core.Path.{_≡_}
@@ -14,35 +15,27 @@ Inv-loop text₀ regs₀ s mode₀ i₀ text regs mode i = (i ≤ length s) × (
 abbrev μ-loop : tie.MeasureT-loop
 μ-loop text₀ regs₀ s mode₀ i₀ text regs mode i = length s - i
 
--- src/text.rt:260:5
 loop-holds : tie.Need-loop-holds Inv-loop μ-loop
 loop-holds c = search needs
 
--- src/text.rt:261:35
 shared-slice-read-append : tie.Need-shared-slice-read-append Inv-loop μ-loop
 shared-slice-read-append c = search needs
 
--- src/text.rt:261:9
 append-requires : tie.Need-append-requires Inv-loop μ-loop
 append-requires c κs = search needs
 
--- src/text.rt:262:9
 add-i : tie.Need-add-i Inv-loop μ-loop
 add-i c = search needs
 
--- src/text.rt:260:5
 loop-less : tie.Need-loop-less Inv-loop μ-loop
 loop-less c = search needs
 
--- src/text.rt:260:5
 loop-again : tie.Need-loop-again Inv-loop μ-loop
 loop-again c = search needs
 
--- src/text.rt:257:1
 same-length : tie.Need-same-length Inv-loop μ-loop
 same-length c = search needs
 
--- src/text.rt:257:1
 returns : tie.Need-returns Inv-loop μ-loop
 returns c = search needs
 

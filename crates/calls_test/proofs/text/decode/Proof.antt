@@ -1,3 +1,4 @@
+-- `calls_test::text::decode` is free of faults: places within the slices, sums within their widths.
 use borrow.Author.Needs.{needs}
 use Prim.Native.Nat.{_-_, _+_, _≤_, _<_}
 use mathlib.Core.Path.{_≡_}
@@ -14,43 +15,33 @@ Inv-loop w text₀ regs₀ mode₀ i₀ text regs mode i = (length text ≡ leng
 abbrev μ-loop : tie.MeasureT-loop
 μ-loop w text₀ regs₀ mode₀ i₀ text regs mode i = length w - i
 
--- src/text.rt:167:5
 element-write-regs : tie.Need-element-write-regs Inv-loop μ-loop
 element-write-regs c = search needs
 
--- src/text.rt:168:5
 element-write-regs-2 : tie.Need-element-write-regs-2 Inv-loop μ-loop
 element-write-regs-2 c = search needs
 
--- src/text.rt:171:5
 loop-holds : tie.Need-loop-holds Inv-loop μ-loop
 loop-holds c = search needs
 
--- src/text.rt:172:43
 shared-slice-read-one-byte : tie.Need-shared-slice-read-one-byte Inv-loop μ-loop
 shared-slice-read-one-byte c = search needs
 
--- src/text.rt:172:9
 one-byte-requires : tie.Need-one-byte-requires Inv-loop μ-loop
 one-byte-requires c κs = search needs
 
--- src/text.rt:173:9
 add-i : tie.Need-add-i Inv-loop μ-loop
 add-i c = search needs
 
--- src/text.rt:171:5
 loop-less : tie.Need-loop-less Inv-loop μ-loop
 loop-less c = search needs
 
--- src/text.rt:171:5
 loop-again : tie.Need-loop-again Inv-loop μ-loop
 loop-again c = search needs
 
--- src/text.rt:166:1
 same-length : tie.Need-same-length Inv-loop μ-loop
 same-length c = search needs
 
--- src/text.rt:166:1
 returns : tie.Need-returns Inv-loop μ-loop
 returns c = search needs
 

@@ -1,3 +1,4 @@
+-- `calls_test::text::find` is free of faults: places within the slices, sums within their widths.
 use borrow.Author.Needs.{needs}
 use Prim.Native.Nat.{_-_, _+_, _≤_, _<_}
 use mathlib.Core.Path.{_≡_}
@@ -13,31 +14,24 @@ Inv-loop s at b i₀ i = (at ≤ i) × (i ≤ length s)
 abbrev μ-loop : tie.MeasureT-loop
 μ-loop s at b i₀ i = length s - i
 
--- src/text.rt:22:5
 loop-holds : tie.Need-loop-holds Inv-loop μ-loop
 loop-holds c = search needs
 
--- src/text.rt:23:12
 shared-slice-read-if1 : tie.Need-shared-slice-read-if1 Inv-loop μ-loop
 shared-slice-read-if1 c = search needs
 
--- src/text.rt:24:13
 returns : tie.Need-returns Inv-loop μ-loop
 returns c = search needs
 
--- src/text.rt:26:9
 add-i : tie.Need-add-i Inv-loop μ-loop
 add-i c = search needs
 
--- src/text.rt:22:5
 loop-less : tie.Need-loop-less Inv-loop μ-loop
 loop-less c = search needs
 
--- src/text.rt:22:5
 loop-again : tie.Need-loop-again Inv-loop μ-loop
 loop-again c = search needs
 
--- src/text.rt:17:1
 returns-2 : tie.Need-returns-2 Inv-loop μ-loop
 returns-2 c = search needs
 

@@ -1,3 +1,4 @@
+-- `calls_test::verbs::verb` is free of faults: places within the slices, sums within their widths.
 use borrow.Author.Needs.{needs}
 use Prim.Native.Nat.{_-_, _+_, _≤_, _<_}
 use mathlib.Core.Path.{_≡_}
@@ -14,35 +15,27 @@ Inv-loop w x₀ i₀ x i = i ≤ length w
 abbrev μ-loop : tie.MeasureT-loop
 μ-loop w x₀ i₀ x i = length w - i
 
--- src/verbs.rt:95:9
 returns : tie.Need-returns Inv-loop μ-loop
 returns c = search needs
 
--- src/verbs.rt:99:5
 loop-holds : tie.Need-loop-holds Inv-loop μ-loop
 loop-holds c = search needs
 
--- src/verbs.rt:100:28
 shared-slice-read-with-letter : tie.Need-shared-slice-read-with-letter Inv-loop μ-loop
 shared-slice-read-with-letter c = search needs
 
--- src/verbs.rt:100:9
 with-letter-requires : tie.Need-with-letter-requires Inv-loop μ-loop
 with-letter-requires c κs = search needs
 
--- src/verbs.rt:101:9
 add-i : tie.Need-add-i Inv-loop μ-loop
 add-i c = search needs
 
--- src/verbs.rt:99:5
 loop-less : tie.Need-loop-less Inv-loop μ-loop
 loop-less c = search needs
 
--- src/verbs.rt:99:5
 loop-again : tie.Need-loop-again Inv-loop μ-loop
 loop-again c = search needs
 
--- src/verbs.rt:93:1
 returns-2 : tie.Need-returns-2 Inv-loop μ-loop
 returns-2 c = search needs
 

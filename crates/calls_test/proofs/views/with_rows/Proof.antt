@@ -1,3 +1,4 @@
+-- `calls_test::views::with_rows` is free of faults: places within the slices, sums within their widths.
 use borrow.Author.Needs.{needs}
 use Prim.Native.Nat.{_-_, _+_, _≤_, _<_}
 use mathlib.Core.Path.{_≡_}
@@ -14,27 +15,21 @@ Inv-loop sum s n count x₀ i₀ x i = (i ≤ count) × (n ≤ 1024) × (count �
 abbrev μ-loop : tie.MeasureT-loop
 μ-loop sum s n count x₀ i₀ x i = count - i
 
--- src/views.rt:75:5
 loop-holds : tie.Need-loop-holds Inv-loop μ-loop
 loop-holds c = search needs
 
--- src/views.rt:76:9
 with-row-requires : tie.Need-with-row-requires Inv-loop μ-loop
 with-row-requires c κs = search needs
 
--- src/views.rt:77:9
 add-i : tie.Need-add-i Inv-loop μ-loop
 add-i c = search needs
 
--- src/views.rt:75:5
 loop-less : tie.Need-loop-less Inv-loop μ-loop
 loop-less c = search needs
 
--- src/views.rt:75:5
 loop-again : tie.Need-loop-again Inv-loop μ-loop
 loop-again c = search needs
 
--- src/views.rt:70:1
 returns : tie.Need-returns Inv-loop μ-loop
 returns c = search needs
 

@@ -1,3 +1,4 @@
+-- `calls_test::views::with_slots` is free of faults: places within the slices, sums within their widths.
 use borrow.Author.Needs.{needs}
 use Prim.Native.Nat.{_-_, _+_, _≤_, _<_}
 use mathlib.Core.Path.{_≡_}
@@ -14,27 +15,21 @@ Inv-loop sum s x₀ k₀ x k = k ≤ 256
 abbrev μ-loop : tie.MeasureT-loop
 μ-loop sum s x₀ k₀ x k = 256 - k
 
--- src/views.rt:37:5
 loop-holds : tie.Need-loop-holds Inv-loop μ-loop
 loop-holds c = search needs
 
--- src/views.rt:38:9
 with-slot-requires : tie.Need-with-slot-requires Inv-loop μ-loop
 with-slot-requires c κs = search needs
 
--- src/views.rt:39:9
 add-k : tie.Need-add-k Inv-loop μ-loop
 add-k c = search needs
 
--- src/views.rt:37:5
 loop-less : tie.Need-loop-less Inv-loop μ-loop
 loop-less c = search needs
 
--- src/views.rt:37:5
 loop-again : tie.Need-loop-again Inv-loop μ-loop
 loop-again c = search needs
 
--- src/views.rt:34:1
 returns : tie.Need-returns Inv-loop μ-loop
 returns c = search needs
 

@@ -1,3 +1,4 @@
+-- `vfs::inner::finish` meets its contract: each way through it by its law.
 use borrow.Author.Needs.{needs}
 use Rattle.vfs.proofs.MountWays.{too-big, places-it}
 use Rattle.vfs.proofs.inner.finish.Statement.{statement}
@@ -6,19 +7,15 @@ use Rattle.vfs.proofs.inner.finish.Reads as reads
 use Rattle.vfs.proofs.inner.finish.Lts as lts
 use Rattle.placing.proofs.place.Reads as place-reads
 
--- src/mounting.rt:51:9
 returns : tie.Need-returns
 returns c = search (too-big, needs)
 
--- src/mounting.rt:60:9
 place-requires : tie.Need-place-requires
 place-requires c κs = search needs
 
--- src/mounting.rt:44:1
 same-length : tie.Need-same-length
 same-length c = search needs
 
--- src/mounting.rt:44:1
 returns-2 : tie.Need-returns-2
 returns-2 c = search (places-it, needs)
 

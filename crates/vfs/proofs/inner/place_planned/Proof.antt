@@ -1,3 +1,4 @@
+-- `vfs::inner::place_planned` meets its contract: each way through it by its law.
 use borrow.Author.Needs.{needs}
 use Rattle.vfs.proofs.PlanWays.{applies, walk-laid, grows}
 use Rattle.vfs.proofs.inner.place_planned.Statement.{statement}
@@ -7,19 +8,15 @@ use Rattle.vfs.proofs.inner.place_planned.Lts as lts
 use Rattle.plan.proofs.apply_plan.Reads as apply-plan-reads
 use Rattle.vfs.proofs.inner.finish.Reads as finish-reads
 
--- src/mounting.rt:110:5
 apply-plan-requires : tie.Need-apply-plan-requires
 apply-plan-requires c κs = let p = c .before .before .before .pre in applies _ _ (p .0) (p .1 .0) _ _ _ (p .1 .1 .0)
 
--- src/mounting.rt:111:5
 finish-requires : tie.Need-finish-requires
 finish-requires c κs = search (walk-laid, needs)
 
--- src/mounting.rt:92:1
 same-length : tie.Need-same-length
 same-length c = search needs
 
--- src/mounting.rt:92:1
 returns : tie.Need-returns
 returns c = search (grows, needs)
 

@@ -1,3 +1,4 @@
+-- `vfs::mounting::mount` meets its contract: each way through it by its law.
 use borrow.Author.Needs.{needs}
 use Rattle.vfs.proofs.UnmountWays.{laid-by}
 use Rattle.vfs.proofs.MountCalls.{small, too-long, bad-bytes, large, no-slash-ends, slash-ends, short-by, slash-by}
@@ -12,75 +13,57 @@ use Rattle.storage.proofs.is_laid.Reads as is-laid-reads
 use Rattle.vfs.proofs.mounting.mount_rooted.Reads as mount-rooted-reads
 use Rattle.vfs.proofs.mounting.unrooted.Reads as unrooted-reads
 
--- src/mounting.rt:142:9
 is-laid-requires : tie.Need-is-laid-requires
 is-laid-requires c κs = search needs
 
--- src/mounting.rt:143:9
 same-length : tie.Need-same-length
 same-length c = search needs
 
--- src/mounting.rt:143:9
 returns : tie.Need-returns
 returns c = search (small, needs)
 
--- src/mounting.rt:145:8
 is-too-long-requires : tie.Need-is-too-long-requires
 is-too-long-requires c κs = search needs
 
--- src/mounting.rt:146:9
 same-length-2 : tie.Need-same-length-2
 same-length-2 c = search needs
 
--- src/mounting.rt:146:9
 returns-2 : tie.Need-returns-2
 returns-2 c = search (too-long, needs)
 
--- src/mounting.rt:148:9
 is-utf8-requires : tie.Need-is-utf8-requires
 is-utf8-requires c κs = search needs
 
--- src/mounting.rt:149:9
 same-length-3 : tie.Need-same-length-3
 same-length-3 c = search needs
 
--- src/mounting.rt:149:9
 returns-3 : tie.Need-returns-3
 returns-3 c = search (bad-bytes, needs)
 
--- src/mounting.rt:152:9
 same-length-4 : tie.Need-same-length-4
 same-length-4 c = search needs
 
--- src/mounting.rt:152:9
 returns-4 : tie.Need-returns-4
 returns-4 c = search (large, needs)
 
--- src/mounting.rt:154:9
 is-rooted-requires : tie.Need-is-rooted-requires
 is-rooted-requires c κs = search needs
 
--- src/mounting.rt:155:9
 unrooted-requires : tie.Need-unrooted-requires
 unrooted-requires c κs = search (laid-by, needs)
 
--- src/mounting.rt:155:9
 same-length-5 : tie.Need-same-length-5
 same-length-5 c = search needs
 
--- src/mounting.rt:155:9
 returns-5 : tie.Need-returns-5
 returns-5 c = search (no-slash-ends, needs)
 
--- src/mounting.rt:157:5
 mount-rooted-requires : tie.Need-mount-rooted-requires
 mount-rooted-requires c κs = (search (laid-by, needs), (search (short-by, needs), search (slash-by, needs)))
 
--- src/mounting.rt:139:1
 same-length-6 : tie.Need-same-length-6
 same-length-6 c = search needs
 
--- src/mounting.rt:139:1
 returns-6 : tie.Need-returns-6
 returns-6 c = search (slash-ends, needs)
 

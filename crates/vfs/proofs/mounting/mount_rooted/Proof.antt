@@ -1,3 +1,4 @@
+-- `vfs::mounting::mount_rooted` meets its contract: each way through it by its law.
 use borrow.Author.Needs.{needs}
 use native.Mathlib.Omega.{arith}
 use Rattle.tables.proofs.Keeps.{laid-is}
@@ -12,77 +13,59 @@ use Rattle.tables.proofs.header.set_counter.Reads as set-counter-reads
 use Rattle.tables.proofs.slots.search.Reads as search-reads
 use Rattle.vfs.proofs.inner.place_planned.Reads as place-planned-reads
 
--- src/mounting.rt:132:11
 plan-mount-requires : tie.Need-plan-mount-requires
 plan-mount-requires c κs = search (laid-is, needs)
 
--- src/mounting.rt:133:28
 enum-told : tie.Need-enum-told
 enum-told c = search needs
 
--- src/mounting.rt:134:25
 enum-known-node : tie.Need-enum-known-node
 enum-known-node c = search needs
 
--- src/mounting.rt:135:17
 search-requires : tie.Need-search-requires
 search-requires c κs = omega (arith, long _ (c .before .before .before .before .before .before .before .before .before .before .before .pre .0))
 
--- src/mounting.rt:136:13
 set-counter-requires : tie.Need-set-counter-requires
 set-counter-requires c κs = omega (arith, long _ (c .before .before .before .before .before .before .before .before .before .before .before .before .before .pre .0))
 
--- src/mounting.rt:139:34
 enum-told-2 : tie.Need-enum-told-2
 enum-told-2 c = search needs
 
--- src/mounting.rt:140:32
 enum-known-answer : tie.Need-enum-known-answer
 enum-known-answer c = search needs
 
--- src/mounting.rt:141:25
 place-planned-requires : tie.Need-place-planned-requires
 place-planned-requires c κs =
     let p = c .before .before .before .before .before .before .before .before .before .before .before .before .before .before .before .before .before .before .before .before .before .before .before .pre in
     (mid-laid _ (p .0) _ _ (c .before .before .before .before .before .before .before .before .before .set-counter .ensures), (p .1 .0, (search (plan-stands _ _ (p .0) (p .1 .0) _ _ (c .before .before .before .before .before .before .before .before .before .before .before .before .before .before .before .before .plan-mount .ensures) _ _ (c .before .before .before .before .before .before .before .before .before .before .before .before .before .before .node .given .1) _ _ (c .before .before .before .before .before .before .before .before .before .set-counter .ensures), needs), search (index-least _ _ (p .0) (p .1 .0) _ _ (c .before .before .before .before .before .before .before .before .before .before .before .before .before .before .before .before .plan-mount .ensures) (λ i. c .before .before .before .before .before .before .before .before .before .before .before .before .before .before .before .before .before .before .before .before .before .before .slice-known .given i .fits), needs))))
 
--- src/mounting.rt:143:45
 enum-told-3 : tie.Need-enum-told-3
 enum-told-3 c = search needs
 
--- src/mounting.rt:144:40
 enum-known-p : tie.Need-enum-known-p
 enum-known-p c = search needs
 
--- src/mounting.rt:123:1
 same-length : tie.Need-same-length
 same-length c = search needs
 
--- src/mounting.rt:123:1
 returns : tie.Need-returns
 returns c = search (no-room-way, needs)
 
--- src/mounting.rt:123:1
 same-length-2 : tie.Need-same-length-2
 same-length-2 c = search needs
 
--- src/mounting.rt:123:1
 returns-2 : tie.Need-returns-2
 returns-2 c = let p = c .before .before .before .before .before .before .before .before .before .before .before .before .before .before .before .before .before .before .pre in search (full-way _ _ (p .0) (p .1 .0) _ _ (c .before .before .before .before .before .before .before .before .before .before .before .plan-mount .ensures) (λ i. c .before .before .before .before .before .before .before .before .before .before .before .before .before .before .before .before .before .slice-known .given i .fits), needs)
 
--- src/mounting.rt:123:1
 same-length-3 : tie.Need-same-length-3
 same-length-3 c = search needs
 
--- src/mounting.rt:123:1
 returns-3 : tie.Need-returns-3
 returns-3 c = let p = c .before .before .before .before .before .before .before .before .before .before .before .before .before .before .before .before .before .before .before .before .before .before .before .before .before .before .before .before .pre in search (large-way _ _ (p .0) (p .1 .0) _ _ (c .before .before .before .before .before .before .before .before .before .before .before .before .before .before .before .before .before .before .before .before .before .plan-mount .ensures) (λ i. c .before .before .before .before .before .before .before .before .before .before .before .before .before .before .before .before .before .before .before .before .before .before .before .before .before .before .before .slice-known .given i .fits), needs)
 
--- src/mounting.rt:123:1
 same-length-4 : tie.Need-same-length-4
 same-length-4 c = search needs
 
--- src/mounting.rt:123:1
 returns-4 : tie.Need-returns-4
 returns-4 c = let p = c .before .before .before .before .before .before .before .before .before .before .before .before .before .before .before .before .before .before .before .before .before .before .before .before .before .before .before .before .before .pre in search (placed-way _ _ (p .0) (p .1 .0) _ _ (c .before .before .before .before .before .before .before .before .before .before .before .before .before .before .before .before .before .before .before .before .before .before .plan-mount .ensures) (λ i. c .before .before .before .before .before .before .before .before .before .before .before .before .before .before .before .before .before .before .before .before .before .before .before .before .before .before .before .before .slice-known .given i .fits), needs)
 

@@ -1,3 +1,4 @@
+-- `vfs::restoring::restore_mount` meets its contract: each way through it by its law.
 use borrow.Author.Needs.{needs}
 use Rattle.vfs.proofs.UnmountWays.{laid-by}
 use Rattle.vfs.proofs.MountCalls.{short-by}
@@ -12,79 +13,60 @@ use Rattle.path.proofs.utf8.is_utf8.Reads as is-utf8-reads
 use Rattle.storage.proofs.is_laid.Reads as is-laid-reads
 use Rattle.vfs.proofs.restoring.restore_rooted.Reads as restore-rooted-reads
 
--- src/restoring.rt:64:9
 is-laid-requires : tie.Need-is-laid-requires
 is-laid-requires c κs = search needs
 
--- src/restoring.rt:65:9
 same-length : tie.Need-same-length
 same-length c = search needs
 
--- src/restoring.rt:65:9
 returns : tie.Need-returns
 returns c = search (small, needs)
 
--- src/restoring.rt:67:8
 is-too-long-requires : tie.Need-is-too-long-requires
 is-too-long-requires c κs = search needs
 
--- src/restoring.rt:68:9
 same-length-2 : tie.Need-same-length-2
 same-length-2 c = search needs
 
--- src/restoring.rt:68:9
 returns-2 : tie.Need-returns-2
 returns-2 c = search (too-long, needs)
 
--- src/restoring.rt:70:9
 is-utf8-requires : tie.Need-is-utf8-requires
 is-utf8-requires c κs = search needs
 
--- src/restoring.rt:71:9
 same-length-3 : tie.Need-same-length-3
 same-length-3 c = search needs
 
--- src/restoring.rt:71:9
 returns-3 : tie.Need-returns-3
 returns-3 c = search (bad-bytes, needs)
 
--- src/restoring.rt:74:9
 same-length-4 : tie.Need-same-length-4
 same-length-4 c = search needs
 
--- src/restoring.rt:74:9
 returns-4 : tie.Need-returns-4
 returns-4 c = search (bad-index, needs)
 
--- src/restoring.rt:77:9
 same-length-5 : tie.Need-same-length-5
 same-length-5 c = search needs
 
--- src/restoring.rt:77:9
 returns-5 : tie.Need-returns-5
 returns-5 c = search (large, needs)
 
--- src/restoring.rt:79:9
 is-rooted-requires : tie.Need-is-rooted-requires
 is-rooted-requires c κs = search needs
 
--- src/restoring.rt:80:9
 same-length-6 : tie.Need-same-length-6
 same-length-6 c = search needs
 
--- src/restoring.rt:80:9
 returns-6 : tie.Need-returns-6
 returns-6 c = search (no-slash-back, needs)
 
--- src/restoring.rt:82:5
 restore-rooted-requires : tie.Need-restore-rooted-requires
 restore-rooted-requires c κs = (search (laid-by, needs), (search (short-by, needs), search (index-by, needs)))
 
--- src/restoring.rt:61:1
 same-length-7 : tie.Need-same-length-7
 same-length-7 c = search needs
 
--- src/restoring.rt:61:1
 returns-7 : tie.Need-returns-7
 returns-7 c = search (slash-back, needs)
 

@@ -1,3 +1,4 @@
+-- `vfs::restoring::restore_rooted` meets its contract: each way through it by its law.
 use borrow.Author.Needs.{needs}
 use Rattle.tables.proofs.Keeps.{laid-is}
 use Rattle.vfs.proofs.RestoreWays.{no-room-back, plan-is, large-back, placed-back}
@@ -8,51 +9,39 @@ use Rattle.vfs.proofs.restoring.restore_rooted.Lts as lts
 use Rattle.plan.proofs.plan_mount.Reads as plan-mount-reads
 use Rattle.vfs.proofs.inner.place_planned.Reads as place-planned-reads
 
--- src/restoring.rt:42:11
 plan-mount-requires : tie.Need-plan-mount-requires
 plan-mount-requires c κs = search (laid-is, needs)
 
--- src/restoring.rt:43:28
 enum-told : tie.Need-enum-told
 enum-told c = search needs
 
--- src/restoring.rt:44:25
 enum-known-node : tie.Need-enum-known-node
 enum-known-node c = search needs
 
--- src/restoring.rt:45:17
 place-planned-requires : tie.Need-place-planned-requires
 place-planned-requires c κs = let p = c .before .before .before .before .before .before .before .before .before .before .before .before .before .before .pre in (p .0, (p .1 .0, (plan-is _ _ (p .0) (p .1 .0) _ _ (c .before .before .before .before .before .before .before .plan-mount .ensures) _ _ (c .before .before .before .before .before .node .given .1), p .1 .1)))
 
--- src/restoring.rt:47:37
 enum-told-2 : tie.Need-enum-told-2
 enum-told-2 c = search needs
 
--- src/restoring.rt:49:21
 enum-known-p : tie.Need-enum-known-p
 enum-known-p c = search needs
 
--- src/restoring.rt:33:1
 same-length : tie.Need-same-length
 same-length c = search needs
 
--- src/restoring.rt:33:1
 returns : tie.Need-returns
 returns c = search (no-room-back, needs)
 
--- src/restoring.rt:33:1
 same-length-2 : tie.Need-same-length-2
 same-length-2 c = search needs
 
--- src/restoring.rt:33:1
 returns-2 : tie.Need-returns-2
 returns-2 c = search (large-back, needs)
 
--- src/restoring.rt:33:1
 same-length-3 : tie.Need-same-length-3
 same-length-3 c = search needs
 
--- src/restoring.rt:33:1
 returns-3 : tie.Need-returns-3
 returns-3 c = search (placed-back, needs)
 
