@@ -5,10 +5,6 @@ use mathlib.Core.Path.{_≡_}
 use lib.ListN.{length}
 use Rattle.calls_test.proofs.run.Statement.{statement}
 use Rattle.calls_test.proofs.run.Tie as tie
-use Rattle.calls_test.proofs.run.Reads as reads
-use Rattle.calls_test.proofs.run.Lts as lts
-use Rattle.calls_test.proofs.lines.line.Reads as line-reads
-use Rattle.calls_test.proofs.text.line_end.Reads as line-end-reads
 
 abbrev Inv-loop : tie.InvT-loop
 Inv-loop input storage₀ kept₀ text₀ regs₀ turns₀ storage kept text regs turns = (length storage ≡ length storage₀) × (length kept ≡ length kept₀) × (length text ≡ length text₀)

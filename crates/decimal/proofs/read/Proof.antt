@@ -11,9 +11,6 @@ use Rattle.decimal.specs.Read.{valueIn, numberTo, readFrom}
 use Rattle.decimal.proofs.Steps.{drop-past, from-none, from-start, from-nil, next-value, next-bad}
 use Rattle.decimal.proofs.read.Statement.{statement}
 use Rattle.decimal.proofs.read.Tie as tie
-use Rattle.decimal.proofs.read.Reads as reads
-use Rattle.decimal.proofs.read.Lts as lts
-use Rattle.decimal.proofs.one_more.Reads as one-more-reads
 
 abbrev Inv-loop : tie.InvT-loop
 Inv-loop s max acc₀ i₀ acc i = (i ≤ length s) × (acc ≤ max) × (numberTo max s ≡ readFrom max acc (drop i s))

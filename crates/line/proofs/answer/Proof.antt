@@ -5,13 +5,6 @@ use Rattle.line.proofs.Cutting.{of-two, of-three, of-five, of-other}
 use Rattle.line.proofs.Replying.{replies, replies-none}
 use Rattle.line.proofs.answer.Statement.{statement}
 use Rattle.line.proofs.answer.Tie as tie
-use Rattle.line.proofs.answer.Reads as reads
-use Rattle.line.proofs.answer.Lts as lts
-use Rattle.line.proofs.at_five.Reads as at-five-reads
-use Rattle.line.proofs.at_three.Reads as at-three-reads
-use Rattle.line.proofs.at_two.Reads as at-two-reads
-use Rattle.line.proofs.split.Reads as split-reads
-use Rattle.line_text.proofs.put_question.Reads as put-question-reads
 
 split-requires : tie.Need-split-requires
 split-requires c κs = search needs

@@ -3,9 +3,6 @@ use borrow.Author.Needs.{needs}
 use Rattle.line.specs.Fields.{fiveAt}
 use Rattle.line.proofs.at_five.Statement.{statement}
 use Rattle.line.proofs.at_five.Tie as tie
-use Rattle.line.proofs.at_five.Reads as reads
-use Rattle.line.proofs.at_five.Lts as lts
-use Rattle.line.proofs.forms.five_fields.Reads as five-fields-reads
 
 sub-five-fields : tie.Need-sub-five-fields
 sub-five-fields c = search needs

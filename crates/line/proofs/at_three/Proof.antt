@@ -3,9 +3,6 @@ use borrow.Author.Needs.{needs}
 use Rattle.line.specs.Fields.{threeAt}
 use Rattle.line.proofs.at_three.Statement.{statement}
 use Rattle.line.proofs.at_three.Tie as tie
-use Rattle.line.proofs.at_three.Reads as reads
-use Rattle.line.proofs.at_three.Lts as lts
-use Rattle.line.proofs.forms.three_fields.Reads as three-fields-reads
 
 sub-three-fields : tie.Need-sub-three-fields
 sub-three-fields c = search needs

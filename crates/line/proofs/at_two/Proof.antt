@@ -3,9 +3,6 @@ use borrow.Author.Needs.{needs}
 use Rattle.line.specs.Fields.{twoAt}
 use Rattle.line.proofs.at_two.Statement.{statement}
 use Rattle.line.proofs.at_two.Tie as tie
-use Rattle.line.proofs.at_two.Reads as reads
-use Rattle.line.proofs.at_two.Lts as lts
-use Rattle.line.proofs.forms.two_fields.Reads as two-fields-reads
 
 sub-two-fields : tie.Need-sub-two-fields
 sub-two-fields c = search needs

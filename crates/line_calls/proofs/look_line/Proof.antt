@@ -3,13 +3,6 @@ use borrow.Author.Needs.{needs}
 use Rattle.line_calls.proofs.Lines.{look-tree, look-backend, look-no-ent, look-small}
 use Rattle.line_calls.proofs.look_line.Statement.{statement}
 use Rattle.line_calls.proofs.look_line.Tie as tie
-use Rattle.line_calls.proofs.look_line.Reads as reads
-use Rattle.line_calls.proofs.look_line.Lts as lts
-use Rattle.line_text.proofs.put_backend.Reads as put-backend-reads
-use Rattle.line_text.proofs.put_looked.Reads as put-looked-reads
-use Rattle.line_text.proofs.put_two.Reads as put-two-reads
-use Rattle.vfs_query.proofs.lookup.Reads as lookup-reads
-use Rattle.vfs_query.proofs.route.Reads as route-reads
 
 route-requires : tie.Need-route-requires
 route-requires c κs = search needs

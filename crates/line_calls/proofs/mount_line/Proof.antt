@@ -3,10 +3,6 @@ use borrow.Author.Needs.{needs}
 use Rattle.line_calls.proofs.Lines.{mount-answered}
 use Rattle.line_calls.proofs.mount_line.Statement.{statement}
 use Rattle.line_calls.proofs.mount_line.Tie as tie
-use Rattle.line_calls.proofs.mount_line.Reads as reads
-use Rattle.line_calls.proofs.mount_line.Lts as lts
-use Rattle.line_text.proofs.put_mounted.Reads as put-mounted-reads
-use Rattle.vfs.proofs.mounting.mount.Reads as mount-reads
 
 mount-requires : tie.Need-mount-requires
 mount-requires c κs = search needs

@@ -3,10 +3,6 @@ use borrow.Author.Needs.{needs}
 use Rattle.line_calls.proofs.Lines.{umount-answered}
 use Rattle.line_calls.proofs.umount_line.Statement.{statement}
 use Rattle.line_calls.proofs.umount_line.Tie as tie
-use Rattle.line_calls.proofs.umount_line.Reads as reads
-use Rattle.line_calls.proofs.umount_line.Lts as lts
-use Rattle.line_text.proofs.put_unmounted.Reads as put-unmounted-reads
-use Rattle.vfs.proofs.unmounting.umount.Reads as umount-reads
 
 umount-requires : tie.Need-umount-requires
 umount-requires c κs = search needs

@@ -3,10 +3,6 @@ use borrow.Author.Needs.{needs}
 use Rattle.line_calls.proofs.Lines.{walk-wrote}
 use Rattle.line_calls.proofs.walk_line.Statement.{statement}
 use Rattle.line_calls.proofs.walk_line.Tie as tie
-use Rattle.line_calls.proofs.walk_line.Reads as reads
-use Rattle.line_calls.proofs.walk_line.Lts as lts
-use Rattle.line_text.proofs.put_walked.Reads as put-walked-reads
-use Rattle.pseudo_fs.proofs.path_walk.Reads as path-walk-reads
 
 path-walk-requires : tie.Need-path-walk-requires
 path-walk-requires c κs = search needs

@@ -3,10 +3,6 @@ use borrow.Author.Needs.{needs}
 use Rattle.line_text.proofs.Writes.{backend}
 use Rattle.line_text.proofs.put_backend.Statement.{statement}
 use Rattle.line_text.proofs.put_backend.Tie as tie
-use Rattle.line_text.proofs.put_backend.Reads as reads
-use Rattle.line_text.proofs.put_backend.Lts as lts
-use Rattle.decimal.proofs.inner.put.Reads as put-reads
-use Rattle.decimal.proofs.inner.put_byte.Reads as put-byte-reads
 
 put-byte-requires : tie.Need-put-byte-requires
 put-byte-requires c κs = search needs

@@ -3,9 +3,6 @@ use borrow.Author.Needs.{needs}
 use Rattle.line_text.proofs.Writes.{look-entry, look-no-ent, look-inval, look-small}
 use Rattle.line_text.proofs.put_looked.Statement.{statement}
 use Rattle.line_text.proofs.put_looked.Tie as tie
-use Rattle.line_text.proofs.put_looked.Reads as reads
-use Rattle.line_text.proofs.put_looked.Lts as lts
-use Rattle.line_text.proofs.put_two.Reads as put-two-reads
 
 enum-known-answer : tie.Need-enum-known-answer
 enum-known-answer c = search needs

@@ -3,9 +3,6 @@ use borrow.Author.Needs.{needs}
 use Rattle.line_text.proofs.Writes.{mount-done, mount-too-long, mount-inval, mount-inode, mount-no-room, mount-full, mount-small}
 use Rattle.line_text.proofs.put_mounted.Statement.{statement}
 use Rattle.line_text.proofs.put_mounted.Tie as tie
-use Rattle.line_text.proofs.put_mounted.Reads as reads
-use Rattle.line_text.proofs.put_mounted.Lts as lts
-use Rattle.line_text.proofs.put_three.Reads as put-three-reads
 
 enum-known-answer : tie.Need-enum-known-answer
 enum-known-answer c = search needs

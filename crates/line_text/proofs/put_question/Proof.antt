@@ -3,9 +3,6 @@ use borrow.Author.Needs.{needs}
 use Rattle.line_text.proofs.Writes.{question}
 use Rattle.line_text.proofs.put_question.Statement.{statement}
 use Rattle.line_text.proofs.put_question.Tie as tie
-use Rattle.line_text.proofs.put_question.Reads as reads
-use Rattle.line_text.proofs.put_question.Lts as lts
-use Rattle.decimal.proofs.inner.put_byte.Reads as put-byte-reads
 
 put-byte-requires : tie.Need-put-byte-requires
 put-byte-requires c κs = search needs

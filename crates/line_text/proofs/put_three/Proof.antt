@@ -3,11 +3,6 @@ use borrow.Author.Needs.{needs}
 use Rattle.line_text.proofs.Writes.{three}
 use Rattle.line_text.proofs.put_three.Statement.{statement}
 use Rattle.line_text.proofs.put_three.Tie as tie
-use Rattle.line_text.proofs.put_three.Reads as reads
-use Rattle.line_text.proofs.put_three.Lts as lts
-use Rattle.decimal.proofs.inner.put.Reads as put-reads
-use Rattle.decimal.proofs.inner.put_byte.Reads as put-byte-reads
-use Rattle.line_text.proofs.put_two.Reads as put-two-reads
 
 put-two-requires : tie.Need-put-two-requires
 put-two-requires c κs = search needs

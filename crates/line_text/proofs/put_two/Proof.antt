@@ -3,11 +3,6 @@ use borrow.Author.Needs.{needs}
 use Rattle.line_text.proofs.Writes.{two}
 use Rattle.line_text.proofs.put_two.Statement.{statement}
 use Rattle.line_text.proofs.put_two.Tie as tie
-use Rattle.line_text.proofs.put_two.Reads as reads
-use Rattle.line_text.proofs.put_two.Lts as lts
-use Rattle.decimal.proofs.inner.put.Reads as put-reads
-use Rattle.decimal.proofs.inner.put_byte.Reads as put-byte-reads
-use Rattle.decimal.proofs.inner.put_u8.Reads as put-u8-reads
 
 put-u8-requires : tie.Need-put-u8-requires
 put-u8-requires c κs = search needs

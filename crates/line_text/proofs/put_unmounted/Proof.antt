@@ -3,9 +3,6 @@ use borrow.Author.Needs.{needs}
 use Rattle.line_text.proofs.Writes.{unmount-done, unmount-not-found, unmount-inval, unmount-small}
 use Rattle.line_text.proofs.put_unmounted.Statement.{statement}
 use Rattle.line_text.proofs.put_unmounted.Tie as tie
-use Rattle.line_text.proofs.put_unmounted.Reads as reads
-use Rattle.line_text.proofs.put_unmounted.Lts as lts
-use Rattle.line_text.proofs.put_three.Reads as put-three-reads
 
 enum-known-answer : tie.Need-enum-known-answer
 enum-known-answer c = search needs

@@ -3,9 +3,6 @@ use borrow.Author.Needs.{needs}
 use Rattle.line_text.proofs.Writes.{walk-node, walk-nothing, walk-inval, walk-small}
 use Rattle.line_text.proofs.put_walked.Statement.{statement}
 use Rattle.line_text.proofs.put_walked.Tie as tie
-use Rattle.line_text.proofs.put_walked.Reads as reads
-use Rattle.line_text.proofs.put_walked.Lts as lts
-use Rattle.line_text.proofs.put_two.Reads as put-two-reads
 
 enum-known-answer : tie.Need-enum-known-answer
 enum-known-answer c = search needs

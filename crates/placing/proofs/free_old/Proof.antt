@@ -5,10 +5,6 @@ use Rattle.placing.proofs.Stands.{long}
 use Rattle.tables.proofs.Keeps.{laid-is}
 use Rattle.placing.proofs.free_old.Statement.{statement}
 use Rattle.placing.proofs.free_old.Tie as tie
-use Rattle.placing.proofs.free_old.Reads as reads
-use Rattle.placing.proofs.free_old.Lts as lts
-use Rattle.tables.proofs.slots.free.Reads as free-reads
-use Rattle.tables.proofs.slots.tag_of.Reads as tag-of-reads
 
 enum-known-old : tie.Need-enum-known-old
 enum-known-old c = search needs

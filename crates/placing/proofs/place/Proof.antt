@@ -6,13 +6,6 @@ use Rattle.placing.proofs.Stands.{long}
 use Rattle.placing.proofs.Returns.{laid-freed, places}
 use Rattle.placing.proofs.place.Statement.{statement}
 use Rattle.placing.proofs.place.Tie as tie
-use Rattle.placing.proofs.place.Reads as reads
-use Rattle.placing.proofs.place.Lts as lts
-use Rattle.placing.proofs.free_old.Reads as free-old-reads
-use Rattle.tables.proofs.mounts.of_node.Reads as of-node-reads
-use Rattle.tables.proofs.mounts.set.Reads as set-reads
-use Rattle.tables.proofs.slots.hold.Reads as hold-reads
-use Rattle.tables.proofs.slots.tag_of.Reads as tag-of-reads
 
 of-node-requires : tie.Need-of-node-requires
 of-node-requires c κs = search (laid-is, needs)

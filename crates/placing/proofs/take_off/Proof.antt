@@ -6,12 +6,6 @@ use Rattle.placing.proofs.Stands.{long}
 use Rattle.tables.proofs.Keeps.{laid-is}
 use Rattle.placing.proofs.take_off.Statement.{statement}
 use Rattle.placing.proofs.take_off.Tie as tie
-use Rattle.placing.proofs.take_off.Reads as reads
-use Rattle.placing.proofs.take_off.Lts as lts
-use Rattle.placing.proofs.take_out.Reads as take-out-reads
-use Rattle.tables.proofs.mounts.clear.Reads as clear-reads
-use Rattle.tables.proofs.slots.free.Reads as free-reads
-use Rattle.tables.proofs.slots.tag_of.Reads as tag-of-reads
 
 tag-of-requires : tie.Need-tag-of-requires
 tag-of-requires c κs = search (long, laid-is, needs)

@@ -5,11 +5,6 @@ use Rattle.placing.proofs.Stands.{long}
 use Rattle.tables.proofs.Keeps.{laid-is}
 use Rattle.placing.proofs.take_out.Statement.{statement}
 use Rattle.placing.proofs.take_out.Tie as tie
-use Rattle.placing.proofs.take_out.Reads as reads
-use Rattle.placing.proofs.take_out.Lts as lts
-use Rattle.tables.proofs.header.removes.Reads as removes-reads
-use Rattle.tables.proofs.rows.find_row.Reads as find-row-reads
-use Rattle.tables.proofs.rows.remove.Reads as remove-reads
 
 removes-requires : tie.Need-removes-requires
 removes-requires c κs = search (long, laid-is, needs)

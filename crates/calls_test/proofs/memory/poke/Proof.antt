@@ -5,11 +5,6 @@ use mathlib.Core.Path.{_≡_}
 use lib.ListN.{length}
 use Rattle.calls_test.proofs.memory.poke.Statement.{statement}
 use Rattle.calls_test.proofs.memory.poke.Tie as tie
-use Rattle.calls_test.proofs.memory.poke.Reads as reads
-use Rattle.calls_test.proofs.memory.poke.Lts as lts
-use Rattle.calls_test.proofs.memory.store.Reads as store-reads
-use Rattle.calls_test.proofs.regs.low8.Reads as low8-reads
-use Rattle.calls_test.proofs.sink.upto.Reads as upto-reads
 
 abbrev Inv-loop : tie.InvT-loop
 Inv-loop s₀ from width value at x₀ i₀ s x i = (i ≤ width) × (length s ≡ length s₀)

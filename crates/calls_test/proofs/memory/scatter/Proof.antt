@@ -5,12 +5,6 @@ use mathlib.Core.Path.{_≡_}
 use lib.ListN.{length}
 use Rattle.calls_test.proofs.memory.scatter.Statement.{statement}
 use Rattle.calls_test.proofs.memory.scatter.Tie as tie
-use Rattle.calls_test.proofs.memory.scatter.Reads as reads
-use Rattle.calls_test.proofs.memory.scatter.Lts as lts
-use Rattle.calls_test.proofs.memory.within.Reads as within-reads
-use Rattle.calls_test.proofs.regs.following.Reads as following-reads
-use Rattle.calls_test.proofs.regs.low8.Reads as low8-reads
-use Rattle.calls_test.proofs.sink.upto.Reads as upto-reads
 
 abbrev Inv-loop : tie.InvT-loop
 Inv-loop s₀ from len seed at n x₀ i₀ s x i = (at + n ≤ length s₀) × (i ≤ n) × (length s ≡ length s₀)

@@ -5,10 +5,6 @@ use mathlib.Core.Path.{_≡_}
 use lib.ListN.{length}
 use Rattle.calls_test.proofs.sums.with_run.Statement.{statement}
 use Rattle.calls_test.proofs.sums.with_run.Tie as tie
-use Rattle.calls_test.proofs.sums.with_run.Reads as reads
-use Rattle.calls_test.proofs.sums.with_run.Lts as lts
-use Rattle.calls_test.proofs.sums.byte_at.Reads as byte-at-reads
-use Rattle.calls_test.proofs.sums.with.Reads as with-reads
 
 abbrev Inv-loop : tie.InvT-loop
 Inv-loop sum s at len x₀ i₀ x i = i ≤ len

@@ -5,9 +5,6 @@ use mathlib.Core.Path.{_≡_}
 use lib.ListN.{length}
 use Rattle.calls_test.proofs.text.append_all.Statement.{statement}
 use Rattle.calls_test.proofs.text.append_all.Tie as tie
-use Rattle.calls_test.proofs.text.append_all.Reads as reads
-use Rattle.calls_test.proofs.text.append_all.Lts as lts
-use Rattle.calls_test.proofs.text.append.Reads as append-reads
 
 abbrev Inv-loop : tie.InvT-loop
 Inv-loop text₀ regs₀ s mode₀ i₀ text regs mode i = (i ≤ length s) × (length text ≡ length text₀)

@@ -5,9 +5,6 @@ use mathlib.Core.Path.{_≡_}
 use lib.ListN.{length}
 use Rattle.calls_test.proofs.text.append_many.Statement.{statement}
 use Rattle.calls_test.proofs.text.append_many.Tie as tie
-use Rattle.calls_test.proofs.text.append_many.Reads as reads
-use Rattle.calls_test.proofs.text.append_many.Lts as lts
-use Rattle.calls_test.proofs.text.append.Reads as append-reads
 
 abbrev Inv-loop : tie.InvT-loop
 Inv-loop text₀ regs₀ count b left₀ text regs left = (length text ≡ length text₀)

@@ -5,9 +5,6 @@ use mathlib.Core.Path.{_≡_}
 use lib.ListN.{length}
 use Rattle.calls_test.proofs.text.decode.Statement.{statement}
 use Rattle.calls_test.proofs.text.decode.Tie as tie
-use Rattle.calls_test.proofs.text.decode.Reads as reads
-use Rattle.calls_test.proofs.text.decode.Lts as lts
-use Rattle.calls_test.proofs.text.one_byte.Reads as one-byte-reads
 
 abbrev Inv-loop : tie.InvT-loop
 Inv-loop w text₀ regs₀ mode₀ i₀ text regs mode i = (length text ≡ length text₀)

@@ -5,8 +5,6 @@ use mathlib.Core.Path.{_≡_}
 use lib.ListN.{length}
 use Rattle.calls_test.proofs.text.find.Statement.{statement}
 use Rattle.calls_test.proofs.text.find.Tie as tie
-use Rattle.calls_test.proofs.text.find.Reads as reads
-use Rattle.calls_test.proofs.text.find.Lts as lts
 
 abbrev Inv-loop : tie.InvT-loop
 Inv-loop s at b i₀ i = (at ≤ i) × (i ≤ length s)

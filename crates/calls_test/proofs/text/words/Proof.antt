@@ -5,10 +5,6 @@ use mathlib.Core.Path.{_≡_}
 use lib.ListN.{length}
 use Rattle.calls_test.proofs.text.words.Statement.{statement}
 use Rattle.calls_test.proofs.text.words.Tie as tie
-use Rattle.calls_test.proofs.text.words.Reads as reads
-use Rattle.calls_test.proofs.text.words.Lts as lts
-use Rattle.calls_test.proofs.text.word.Reads as word-reads
-use Rattle.calls_test.proofs.text.word_end.Reads as word-end-reads
 
 abbrev Inv-loop : tie.InvT-loop
 Inv-loop line from text₀ regs₀ at₀ text regs at = (length text ≡ length text₀)

@@ -5,9 +5,6 @@ use mathlib.Core.Path.{_≡_}
 use lib.ListN.{length}
 use Rattle.calls_test.proofs.verbs.verb.Statement.{statement}
 use Rattle.calls_test.proofs.verbs.verb.Tie as tie
-use Rattle.calls_test.proofs.verbs.verb.Reads as reads
-use Rattle.calls_test.proofs.verbs.verb.Lts as lts
-use Rattle.calls_test.proofs.verbs.with_letter.Reads as with-letter-reads
 
 abbrev Inv-loop : tie.InvT-loop
 Inv-loop w x₀ i₀ x i = i ≤ length w

@@ -5,9 +5,6 @@ use mathlib.Core.Path.{_≡_}
 use lib.ListN.{length}
 use Rattle.calls_test.proofs.views.with_rows.Statement.{statement}
 use Rattle.calls_test.proofs.views.with_rows.Tie as tie
-use Rattle.calls_test.proofs.views.with_rows.Reads as reads
-use Rattle.calls_test.proofs.views.with_rows.Lts as lts
-use Rattle.calls_test.proofs.views.with_row.Reads as with-row-reads
 
 abbrev Inv-loop : tie.InvT-loop
 Inv-loop sum s n count x₀ i₀ x i = (i ≤ count) × (n ≤ 1024) × (count ≤ 1024)

@@ -5,9 +5,6 @@ use mathlib.Core.Path.{_≡_}
 use lib.ListN.{length}
 use Rattle.calls_test.proofs.views.with_slots.Statement.{statement}
 use Rattle.calls_test.proofs.views.with_slots.Tie as tie
-use Rattle.calls_test.proofs.views.with_slots.Reads as reads
-use Rattle.calls_test.proofs.views.with_slots.Lts as lts
-use Rattle.calls_test.proofs.views.with_slot.Reads as with-slot-reads
 
 abbrev Inv-loop : tie.InvT-loop
 Inv-loop sum s x₀ k₀ x k = k ≤ 256

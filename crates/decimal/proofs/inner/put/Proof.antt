@@ -4,9 +4,6 @@ use native.Mathlib.Omega.{arith}
 use Rattle.decimal.proofs.Texts.{length-decimal}
 use Rattle.decimal.proofs.inner.put.Statement.{statement}
 use Rattle.decimal.proofs.inner.put.Tie as tie
-use Rattle.decimal.proofs.inner.put.Reads as reads
-use Rattle.decimal.proofs.inner.put.Lts as lts
-use Rattle.decimal.proofs.inner.digits.Reads as digits-reads
 
 digits-requires : tie.Need-digits-requires
 digits-requires c κs = omega (arith, length-decimal (c .before .before .args .n))

@@ -4,9 +4,6 @@ use native.Mathlib.Omega.{arith}
 use Rattle.decimal.proofs.Texts.{length-byte}
 use Rattle.decimal.proofs.inner.put_u8.Statement.{statement}
 use Rattle.decimal.proofs.inner.put_u8.Tie as tie
-use Rattle.decimal.proofs.inner.put_u8.Reads as reads
-use Rattle.decimal.proofs.inner.put_u8.Lts as lts
-use Rattle.decimal.proofs.inner.digits.Reads as digits-reads
 
 digits-requires : tie.Need-digits-requires
 digits-requires c κs = omega (arith, length-byte (c .before .before .args .n) (omega arith))

@@ -3,12 +3,6 @@ use borrow.Author.Needs.{needs}
 use Rattle.line.proofs.Replying.{no-mount-path, not-mount, mounts, no-numbers}
 use Rattle.line.proofs.forms.five_fields.Statement.{statement}
 use Rattle.line.proofs.forms.five_fields.Tie as tie
-use Rattle.line.proofs.forms.five_fields.Reads as reads
-use Rattle.line.proofs.forms.five_fields.Lts as lts
-use Rattle.line.proofs.forms.is_word.Reads as is-word-reads
-use Rattle.line_calls.proofs.mount_line.Reads as mount-line-reads
-use Rattle.line.proofs.forms.numbers.Reads as numbers-reads
-use Rattle.line_text.proofs.put_question.Reads as put-question-reads
 
 put-question-requires : tie.Need-put-question-requires
 put-question-requires c κs = search needs

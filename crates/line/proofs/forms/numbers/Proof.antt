@@ -4,9 +4,6 @@ use native.Mathlib.Omega.{arith}
 use Rattle.line.proofs.Verbs.{at-most, no-tag, no-root, no-largest, three-numbers}
 use Rattle.line.proofs.forms.numbers.Statement.{statement}
 use Rattle.line.proofs.forms.numbers.Tie as tie
-use Rattle.line.proofs.forms.numbers.Reads as reads
-use Rattle.line.proofs.forms.numbers.Lts as lts
-use Rattle.decimal.proofs.read.Reads as read-reads
 
 read-requires : tie.Need-read-requires
 read-requires c κs = search needs

@@ -3,12 +3,6 @@ use borrow.Author.Needs.{needs}
 use Rattle.line.proofs.Replying.{no-name, not-look, looks, no-node}
 use Rattle.line.proofs.forms.three_fields.Statement.{statement}
 use Rattle.line.proofs.forms.three_fields.Tie as tie
-use Rattle.line.proofs.forms.three_fields.Reads as reads
-use Rattle.line.proofs.forms.three_fields.Lts as lts
-use Rattle.decimal.proofs.read.Reads as read-reads
-use Rattle.line.proofs.forms.is_word.Reads as is-word-reads
-use Rattle.line_calls.proofs.look_line.Reads as look-line-reads
-use Rattle.line_text.proofs.put_question.Reads as put-question-reads
 
 put-question-requires : tie.Need-put-question-requires
 put-question-requires c κs = search needs

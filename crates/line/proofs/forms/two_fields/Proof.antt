@@ -3,12 +3,6 @@ use borrow.Author.Needs.{needs}
 use Rattle.line.proofs.Replying.{no-path, umounts, walks, no-verb}
 use Rattle.line.proofs.forms.two_fields.Statement.{statement}
 use Rattle.line.proofs.forms.two_fields.Tie as tie
-use Rattle.line.proofs.forms.two_fields.Reads as reads
-use Rattle.line.proofs.forms.two_fields.Lts as lts
-use Rattle.line.proofs.forms.is_word.Reads as is-word-reads
-use Rattle.line_calls.proofs.umount_line.Reads as umount-line-reads
-use Rattle.line_calls.proofs.walk_line.Reads as walk-line-reads
-use Rattle.line_text.proofs.put_question.Reads as put-question-reads
 
 put-question-requires : tie.Need-put-question-requires
 put-question-requires c κs = search needs

@@ -3,9 +3,6 @@ use borrow.Author.Needs.{needs}
 use Rattle.vfs.proofs.MountWays.{too-big, places-it}
 use Rattle.vfs.proofs.inner.finish.Statement.{statement}
 use Rattle.vfs.proofs.inner.finish.Tie as tie
-use Rattle.vfs.proofs.inner.finish.Reads as reads
-use Rattle.vfs.proofs.inner.finish.Lts as lts
-use Rattle.placing.proofs.place.Reads as place-reads
 
 returns : tie.Need-returns
 returns c = search (too-big, needs)

@@ -3,10 +3,6 @@ use borrow.Author.Needs.{needs}
 use Rattle.vfs.proofs.PlanWays.{applies, walk-laid, grows}
 use Rattle.vfs.proofs.inner.place_planned.Statement.{statement}
 use Rattle.vfs.proofs.inner.place_planned.Tie as tie
-use Rattle.vfs.proofs.inner.place_planned.Reads as reads
-use Rattle.vfs.proofs.inner.place_planned.Lts as lts
-use Rattle.plan.proofs.apply_plan.Reads as apply-plan-reads
-use Rattle.vfs.proofs.inner.finish.Reads as finish-reads
 
 apply-plan-requires : tie.Need-apply-plan-requires
 apply-plan-requires c κs = let p = c .before .before .before .pre in applies _ _ (p .0) (p .1 .0) _ _ _ (p .1 .1 .0)

@@ -4,14 +4,6 @@ use Rattle.vfs.proofs.UnmountWays.{laid-by}
 use Rattle.vfs.proofs.MountCalls.{small, too-long, bad-bytes, large, no-slash-ends, slash-ends, short-by, slash-by}
 use Rattle.vfs.proofs.mounting.mount.Statement.{statement}
 use Rattle.vfs.proofs.mounting.mount.Tie as tie
-use Rattle.vfs.proofs.mounting.mount.Reads as reads
-use Rattle.vfs.proofs.mounting.mount.Lts as lts
-use Rattle.path.proofs.components.is_rooted.Reads as is-rooted-reads
-use Rattle.path.proofs.limits.is_too_long.Reads as is-too-long-reads
-use Rattle.path.proofs.utf8.is_utf8.Reads as is-utf8-reads
-use Rattle.storage.proofs.is_laid.Reads as is-laid-reads
-use Rattle.vfs.proofs.mounting.mount_rooted.Reads as mount-rooted-reads
-use Rattle.vfs.proofs.mounting.unrooted.Reads as unrooted-reads
 
 is-laid-requires : tie.Need-is-laid-requires
 is-laid-requires c κs = search needs

@@ -6,12 +6,6 @@ use Rattle.placing.proofs.Stands.{long}
 use Rattle.vfs.proofs.PlanWays.{no-room-way, mid-laid, plan-stands, full-way, index-least, large-way, placed-way}
 use Rattle.vfs.proofs.mounting.mount_rooted.Statement.{statement}
 use Rattle.vfs.proofs.mounting.mount_rooted.Tie as tie
-use Rattle.vfs.proofs.mounting.mount_rooted.Reads as reads
-use Rattle.vfs.proofs.mounting.mount_rooted.Lts as lts
-use Rattle.plan.proofs.plan_mount.Reads as plan-mount-reads
-use Rattle.tables.proofs.header.set_counter.Reads as set-counter-reads
-use Rattle.tables.proofs.slots.search.Reads as search-reads
-use Rattle.vfs.proofs.inner.place_planned.Reads as place-planned-reads
 
 plan-mount-requires : tie.Need-plan-mount-requires
 plan-mount-requires c κs = search (laid-is, needs)

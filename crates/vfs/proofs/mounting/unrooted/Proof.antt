@@ -5,10 +5,6 @@ use Rattle.placing.proofs.Stands.{long}
 use Rattle.vfs.proofs.MountWays.{no-slash, all-held}
 use Rattle.vfs.proofs.mounting.unrooted.Statement.{statement}
 use Rattle.vfs.proofs.mounting.unrooted.Tie as tie
-use Rattle.vfs.proofs.mounting.unrooted.Reads as reads
-use Rattle.vfs.proofs.mounting.unrooted.Lts as lts
-use Rattle.tables.proofs.header.set_counter.Reads as set-counter-reads
-use Rattle.tables.proofs.slots.search.Reads as search-reads
 
 search-requires : tie.Need-search-requires
 search-requires c κs = omega (arith, long _ (c .before .before .pre))

@@ -5,13 +5,6 @@ use Rattle.vfs.proofs.MountCalls.{short-by}
 use Rattle.vfs.proofs.RestoreWays.{index-by, small, too-long, bad-bytes, bad-index, large, no-slash-back, slash-back}
 use Rattle.vfs.proofs.restoring.restore_mount.Statement.{statement}
 use Rattle.vfs.proofs.restoring.restore_mount.Tie as tie
-use Rattle.vfs.proofs.restoring.restore_mount.Reads as reads
-use Rattle.vfs.proofs.restoring.restore_mount.Lts as lts
-use Rattle.path.proofs.components.is_rooted.Reads as is-rooted-reads
-use Rattle.path.proofs.limits.is_too_long.Reads as is-too-long-reads
-use Rattle.path.proofs.utf8.is_utf8.Reads as is-utf8-reads
-use Rattle.storage.proofs.is_laid.Reads as is-laid-reads
-use Rattle.vfs.proofs.restoring.restore_rooted.Reads as restore-rooted-reads
 
 is-laid-requires : tie.Need-is-laid-requires
 is-laid-requires c κs = search needs

@@ -4,10 +4,6 @@ use Rattle.tables.proofs.Keeps.{laid-is}
 use Rattle.vfs.proofs.RestoreWays.{no-room-back, plan-is, large-back, placed-back}
 use Rattle.vfs.proofs.restoring.restore_rooted.Statement.{statement}
 use Rattle.vfs.proofs.restoring.restore_rooted.Tie as tie
-use Rattle.vfs.proofs.restoring.restore_rooted.Reads as reads
-use Rattle.vfs.proofs.restoring.restore_rooted.Lts as lts
-use Rattle.plan.proofs.plan_mount.Reads as plan-mount-reads
-use Rattle.vfs.proofs.inner.place_planned.Reads as place-planned-reads
 
 plan-mount-requires : tie.Need-plan-mount-requires
 plan-mount-requires c κs = search (laid-is, needs)

@@ -3,13 +3,6 @@ use borrow.Author.Needs.{needs}
 use Rattle.vfs.proofs.UnmountWays.{laid-by, rule-by, small, bad-bytes, bad-slash, arrived, missing}
 use Rattle.vfs.proofs.unmounting.umount.Statement.{statement}
 use Rattle.vfs.proofs.unmounting.umount.Tie as tie
-use Rattle.vfs.proofs.unmounting.umount.Reads as reads
-use Rattle.vfs.proofs.unmounting.umount.Lts as lts
-use Rattle.path.proofs.components.is_rooted.Reads as is-rooted-reads
-use Rattle.path.proofs.utf8.is_utf8.Reads as is-utf8-reads
-use Rattle.pseudo_fs.proofs.inner.walk.Reads as walk-reads
-use Rattle.storage.proofs.is_laid.Reads as is-laid-reads
-use Rattle.vfs.proofs.unmounting.unmount_at.Reads as unmount-at-reads
 
 is-laid-requires : tie.Need-is-laid-requires
 is-laid-requires c κs = search needs
