@@ -9,7 +9,6 @@ const LIBRARY: &str = "libgateway.a";
 
 fn main() {
     println!("cargo:rerun-if-env-changed=GALDOVAR_LIB_DIR");
-    warn_of_other_targets();
     let dir = match env::var_os("GALDOVAR_LIB_DIR") {
         Some(dir) if !dir.is_empty() => given(Path::new(&dir)),
         _ => proved(),
@@ -31,6 +30,7 @@ fn given(dir: &Path) -> PathBuf {
 /// The library proved and built by the kit, copied to where cargo keeps what this script makes. The copy stays when
 /// the gate removes the kit's own folder.
 fn proved() -> PathBuf {
+    warn_of_other_targets();
     let root = Path::new(&env::var_os("CARGO_MANIFEST_DIR").expect("cargo sets it")).join("..");
     println!("cargo:rerun-if-changed={}", root.join("crates").display());
     println!("cargo:rerun-if-changed={}", root.join("crates.txt").display());
@@ -72,7 +72,7 @@ fn fail(message: String) -> ! {
     exit(1);
 }
 
-/// The library holds machine code for x86-64 Linux; a linker's own message about that is hard to read.
+/// The kit's library holds machine code for x86-64 Linux; a linker's own message about that is hard to read.
 fn warn_of_other_targets() {
     let arch = env::var("CARGO_CFG_TARGET_ARCH").unwrap_or_default();
     let os = env::var("CARGO_CFG_TARGET_OS").unwrap_or_default();
