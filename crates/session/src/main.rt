@@ -9,16 +9,6 @@ ghost use lib.ListN.{length};
 // The number of nodes of the instance (R137).
 const NODES: usize = 64;
 
-// The instance of a session: no option bits, no mapping, nodes kept (R137).
-fn fresh(storage: &mut [u8]) {
-    let mapping = id_map::IdMapping {
-        internal: 0,
-        external: 0,
-        range: 0,
-    };
-    storage::create(storage, NODES, 0, 0, 0, 0, mapping);
-}
-
 // Writes the first `wrote` bytes of the output; the contracts of a feed and of a finish say that there are so many.
 fn write(out: &[u8], wrote: usize) {
     if wrote <= out.len() {
@@ -100,11 +90,17 @@ fn run(storage: &mut [u8], carry: &mut [u8], input: &mut [u8], out: &mut [u8]) {
     }
 }
 
+// The instance of a session has no option bits, no mapping, and keeps its nodes (R137).
 fn main() {
     let mut storage = [0u8; 40960];
     let mut carry = [0u8; 8192];
     let mut input = [0u8; 65536];
     let mut out = [0u8; 65536];
-    fresh(&mut storage);
+    let mapping = id_map::IdMapping {
+        internal: 0,
+        external: 0,
+        range: 0,
+    };
+    storage::create(&mut storage, NODES, 0, 0, 0, 0, mapping);
     run(&mut storage, &mut carry, &mut input, &mut out);
 }
