@@ -155,6 +155,22 @@ impl<P: Side> Compare<P> {
         }
     }
 
+    /// A directory with names of every length around a word's end, listed at every offset with every size and with every
+    /// room, up to past its last record.
+    pub fn listings(&mut self) {
+        self.call(&directed::new(16, (0, 0, 0)));
+        for (tag, len) in [1_usize, 6, 7, 8, 9, 15, 16, 17].iter().enumerate() {
+            let path: Vec<u8> = b"/".iter().cloned().chain((0..*len).map(|k| b'a' + k as u8)).collect();
+            self.call(&directed::mount(&path, tag as u32));
+        }
+        for offset in 0..=9 {
+            for bytes in 0..=360 {
+                self.call(&Call::List { node: 1, size: bytes, offset, room: 4096 });
+                self.call(&Call::List { node: 1, size: 4096, offset, room: bytes as usize });
+            }
+        }
+    }
+
     /// Every two bytes behind a slash; every first byte with next bytes around each limit, up to five.
     pub fn utf8(&mut self) {
         let edges = [0x00, 0x2f, 0x61, 0x7f, 0x80, 0x8f, 0x90, 0x9f, 0xa0, 0xbf, 0xc0, 0xc2, 0xe0, 0xf0, 0xff];

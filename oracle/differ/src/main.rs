@@ -51,6 +51,8 @@ fn main() {
             println!("and paths: {} equal", c.equal);
             c.changed_states();
             println!("and changed states: {} equal, {} explained", c.equal, c.explained);
+            c.listings();
+            println!("and listings: {} equal", c.equal);
             c.random(seed, calls);
             println!("{} answers equal, {} different", c.equal, c.different);
             std::process::exit(if c.different == 0 { 0 } else { 1 });
