@@ -21,6 +21,20 @@ use persist::restoring::StateRestored;
 use persist::saving::Saved;
 use pseudo_fs::Looked;
 use pseudo_fs::PathWalk;
+use rules::codes::BADINDEX;
+use rules::codes::BADMAP;
+use rules::codes::BADOPT;
+use rules::codes::BADSAVE;
+use rules::codes::DONE;
+use rules::codes::FULL;
+use rules::codes::INODE;
+use rules::codes::INVAL;
+use rules::codes::NOENT;
+use rules::codes::NOROOM;
+use rules::codes::NOTFOUND;
+use rules::codes::NOTFRESH;
+use rules::codes::SMALL;
+use rules::codes::TOOLONG;
 use storage::Created;
 use storage::IsInitialized;
 use storage::OptionsOf;
@@ -147,35 +161,6 @@ pub struct InodeAnswer {
     pub code: u32,
     pub inode: u64,
 }
-
-// The numbers of the answers (R15).
-pub const DONE: u32 = 0;
-
-pub const NOENT: u32 = 1;
-
-pub const INVAL: u32 = 2;
-
-pub const TOOLONG: u32 = 3;
-
-pub const INODE: u32 = 4;
-
-pub const FULL: u32 = 5;
-
-pub const NOROOM: u32 = 6;
-
-pub const NOTFOUND: u32 = 7;
-
-pub const BADINDEX: u32 = 8;
-
-pub const BADMAP: u32 = 9;
-
-pub const BADSAVE: u32 = 10;
-
-pub const NOTFRESH: u32 = 11;
-
-pub const SMALL: u32 = 12;
-
-pub const BADOPT: u32 = 13;
 
 // Whether a slot holds a tag: 1, or 0 (R56).
 fn has_tag(t: Tag) -> u32

@@ -86,10 +86,6 @@ read-apart mem at bs l p zero e h = refl
 read-apart mem at bs l p (suc k) e (inl h) = λ i. byte-apart mem at bs p (inl (omega arith)) i ∷ read-apart mem at bs l (p + 1) k e (inl (omega arith)) i
 read-apart mem at bs l p (suc k) e (inr h) = λ i. byte-apart mem at bs p (inr (omega arith)) i ∷ read-apart mem at bs l (p + 1) k e (inr (omega arith)) i
 
-pub get-apart : (k : ℕ) (mem : List ℕ) (at : ℕ) (bs : List ℕ) (l p : ℕ) → length bs ≡ l → Apart p k at l → get k (write mem at bs) p ≡ get k mem p
-unfolding get
-get-apart k mem at bs l p e h = ap value (read-apart mem at bs l p k e h)
-
 pub read-put-apart : (j : ℕ) (mem : List ℕ) (at v p k : ℕ) → Apart p k at j → read (put j mem at v) p k ≡ read mem p k
 unfolding put
 read-put-apart j mem at v p k h = read-apart mem at (bytesOf j v) j p k (length-bytesOf j v) h
@@ -170,11 +166,6 @@ pub read-moved : (mem src : List ℕ) (to from l d w : ℕ) → to + l ≤ lengt
     → read (write mem to (read src from l)) (to + d) w ≡ read src (from + d) w
 read-moved mem src to from l d w h k = read-within mem to (read src from l) l d w (length-read src from l) h k ∙ read-part src from l d w k
 
-pub get-moved : (k : ℕ) (mem src : List ℕ) (to from l d : ℕ) → to + l ≤ length mem → d + k ≤ l
-    → get k (write mem to (read src from l)) (to + d) ≡ get k src (from + d)
-unfolding get
-get-moved k mem src to from l d h b = ap value (read-moved mem src to from l d k h b)
-
 read-one : (l v d w : ℕ) → d + w ≤ l → read (replicate l v) d w ≡ replicate w v
 unfolding read
 read-one l v d zero h = refl
@@ -183,13 +174,3 @@ read-one l v d (suc w) h = λ t. getD-replicate l d v 0 (omega arith) t ∷ read
 -- w bytes, d bytes into l times one byte
 pub read-filled : (mem : List ℕ) (at l v d w : ℕ) → at + l ≤ length mem → d + w ≤ l → read (write mem at (replicate l v)) (at + d) w ≡ replicate w v
 read-filled mem at l v d w h k = read-within mem at (replicate l v) l d w (length-replicate l v) h k ∙ read-one l v d w k
-
-value-zeros : (k : ℕ) → value (replicate k 0) ≡ 0
-unfolding value
-value-zeros zero = refl
-value-zeros (suc k) = omega (arith, value-zeros k)
-
--- a number within zeros
-pub get-zeros : (k : ℕ) (mem : List ℕ) (at l d : ℕ) → at + l ≤ length mem → d + k ≤ l → get k (write mem at (replicate l 0)) (at + d) ≡ 0
-unfolding get
-get-zeros k mem at l d h b = ap value (read-filled mem at l 0 d k h b) ∙ value-zeros k

@@ -70,7 +70,7 @@ pub fn look_line(s: &[u8], node: u64, name: &[u8], out: &mut [u8], at: usize) ->
             put_looked(out, at, answer)
         }
         Routed::Backend { tag, fs_idx, ino } => put_backend(out, at, tag as u64, ino.0),
-        Routed::NoEnt => put_two(out, at, line_text::NOENT, 0),
-        Routed::Small => put_two(out, at, line_text::SMALL, 0),
+        Routed::NoEnt => put_two(out, at, rules::codes::NOENT, 0),
+        Routed::Small => put_two(out, at, rules::codes::SMALL, 0),
     }
 }

@@ -1,6 +1,6 @@
 // The text of each answer, laid into the lent output from a place on; each function answers the place behind it.
 ghost use mathlib.Core.List.{_∷_, []};
-ghost use Prim.Native.Nat.{_+_, _≤_};
+ghost use Prim.Native.Nat.{_+_, _≤_, _<_};
 ghost use lib.ListN.{length};
 ghost use Rattle.rules.specs.Bytes.{ascii};
 ghost use Rattle.rules.specs.Session.{textOf};
@@ -14,27 +14,17 @@ use decimal::inner::put_byte;
 use decimal::inner::put_u8;
 use pseudo_fs::Looked;
 use pseudo_fs::PathWalk;
+use rules::codes::DONE;
+use rules::codes::FULL;
+use rules::codes::INODE;
+use rules::codes::INVAL;
+use rules::codes::NOENT;
+use rules::codes::NOROOM;
+use rules::codes::NOTFOUND;
+use rules::codes::SMALL;
+use rules::codes::TOOLONG;
 use vfs::mounting::Mounted;
 use vfs::unmounting::Unmounted;
-
-// The numbers that a line can answer (R15).
-pub const DONE: u8 = 0;
-
-pub const NOENT: u8 = 1;
-
-pub const INVAL: u8 = 2;
-
-pub const TOOLONG: u8 = 3;
-
-pub const INODE: u8 = 4;
-
-pub const FULL: u8 = 5;
-
-pub const NOROOM: u8 = 6;
-
-pub const NOTFOUND: u8 = 7;
-
-pub const SMALL: u8 = 12;
 
 // `?`, for a line of no form (R145).
 pub fn put_question(out: &mut [u8], at: usize) -> usize
@@ -45,18 +35,20 @@ pub fn put_question(out: &mut [u8], at: usize) -> usize
 }
 
 // A code and one number (R152).
-pub fn put_two(out: &mut [u8], at: usize, code: u8, x: u64) -> usize
+pub fn put_two(out: &mut [u8], at: usize, code: u32, x: u64) -> usize
     requires { ⌜ at + 64 ≤ length (now out) ⌝ }
+    requires { ⌜ code < 256 ⌝ }
     ensures { λ r. ⌜ Wrote (now (out .entry)) at 24 (textOf (code ∷ x ∷ [])) r (now (out .exit)) ⌝ }
 {
-    let i = put_u8(out, at, code);
+    let i = put_u8(out, at, code as u8);
     let j = put_byte(out, i, b' ');
     put(out, j, x)
 }
 
 // A code and two numbers (R152).
-pub fn put_three(out: &mut [u8], at: usize, code: u8, x: u64, y: u64) -> usize
+pub fn put_three(out: &mut [u8], at: usize, code: u32, x: u64, y: u64) -> usize
     requires { ⌜ at + 64 ≤ length (now out) ⌝ }
+    requires { ⌜ code < 256 ⌝ }
     ensures { λ r. ⌜ Wrote (now (out .entry)) at 45 (textOf (code ∷ x ∷ y ∷ [])) r (now (out .exit)) ⌝ }
 {
     let i = put_two(out, at, code, x);

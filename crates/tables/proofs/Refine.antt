@@ -148,13 +148,6 @@ module _ (n : ℕ) (xs : List (List ℕ)) (mem : List ℕ) (i : ℕ) (b : i < n)
   abbrev written : Node
   written = nodeFrom (over (nodeTable n) xs mem i)
 
-  row-head : headOf P ≡ headOf mem
-  row-head = lower-kept 1 header (nodeTable n) xs mem i 256 0 (omega arith) header-beneath (nodes-above n 256 (omega arith))
-
-  row-slots : slotsOf P ≡ slotsOf mem
-  unfolding slotsOf slotAt
-  row-slots = tab-same _ _ 0 256 (λ j a c. ap slotFrom (lower-kept 256 slotTable (nodeTable n) xs mem i 8192 j c slots-beneath (nodes-above n 8192 (omega arith))))
-
   row-there : nodeAt n P i ≡ written
   unfolding nodeAt
   row-there = ap nodeFrom (put-same n i b (nodeTable n) xs mem 0 (nodes-ordered n) (omega arith) f)
