@@ -62,7 +62,5 @@ pub extern "C" fn galdovar_validate_path_component(name: &[u8]) -> CodeAnswer
 pub extern "C" fn galdovar_allocate_in(t: &mut FsIndexes, tag: u32) -> Step
     ensures { λ r. ⌜ Steps (now (t .entry)) tag r (now (t .exit)) ⌝ }
 {
-    let a = index::take(*t, tag);
-    *t = a.table;
-    a.step
+    index::take(&mut t.used, &mut t.tags, &mut t.next_super, tag)
 }

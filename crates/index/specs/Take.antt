@@ -9,7 +9,15 @@ use Rattle.index.specs.Slots.{heldIn}
 use Rattle.index.specs.Search.{Told, told}
 use Rattle.index.specs.declared.FsIndexes.{FsIndexes}
 use Rattle.index.specs.declared.Step.{Step}
-use Rattle.index.specs.declared.Taken.{Taken}
+
+-- the slots and the counter as one table
+abbrev pub tableOf : List ℕ → List ℕ → ℕ → FsIndexes
+tableOf used tags counter = record { used = used; tags = tags; «next_super» = counter }
+
+-- what taking an index gives: its answer, and the slots and the counter after it
+pub record Taken : Type 0 where
+  pub step : Step
+  pub table : FsIndexes
 
 -- the index that is answered: 0 where none is found
 abbrev pub indexFor : Option ℕ → ℕ
@@ -25,7 +33,7 @@ putAt none column v = column
 abbrev pub takenOf : FsIndexes → ℕ → Told → Taken
 takenOf t tag a = record {
   step = record { code = a .code; index = indexFor (a .found); count = a .count };
-  table = record { used = putAt (a .found) (t .used) 1; tags = putAt (a .found) (t .tags) tag; «next_super» = a .counter };
+  table = tableOf (putAt (a .found) (t .used) 1) (putAt (a .found) (t .tags) tag) (a .counter);
 }
 
 unfoldable pub takeRule : FsIndexes → ℕ → Taken

@@ -3,7 +3,7 @@ ghost use mathlib.Core.Path.{_≡_};
 ghost use Rattle.rules.specs.Round.{freeOf, allocate};
 ghost use Rattle.index.specs.Slots.{heldIn, New};
 ghost use Rattle.index.specs.Search.{readOf, told};
-ghost use Rattle.index.specs.Take.{takeRule, Steps};
+ghost use Rattle.index.specs.Take.{tableOf, Steps};
 
 // The slots and the counter, of numbers alone, as a host lends them: a slot is held where its occupancy byte is not 0 (R56, R90).
 #[repr(C)]
@@ -32,12 +32,6 @@ pub struct Step {
     pub code: u32,
     pub index: u32,
     pub count: u32,
-}
-
-// What taking an index gives: its answer, and the slots and the counter after it.
-pub struct Taken {
-    pub step: Step,
-    pub table: FsIndexes,
 }
 
 const EMPTY: u8 = 0;
@@ -102,33 +96,36 @@ pub fn allocate_fs_idx(used: &[u8], next_super: u8) -> Allocated
     }
 }
 
-// An index is taken for a tag: the slot found holds it, and the counter has moved (R83, R90).
-pub fn take(mut t: FsIndexes, tag: u32) -> Taken
-    ensures { λ r. ⌜ r ≡ takeRule t tag ⌝ }
+// An index is taken for a tag, in place: the slot found holds it, and the counter has moved; answers the index and the count, or FULL (R83, R90).
+pub fn take<'a>(
+    used: &'a mut [u8; 256],
+    tags: &'a mut [u32; 256],
+    next_super: &'a mut u8,
+    tag: u32,
+) -> Step
+    ensures { λ r. ⌜ Steps (tableOf (now (used .entry)) (now (tags .entry)) (now («next_super» .entry))) tag r
+        (tableOf (now (used .exit)) (now (tags .exit)) (now («next_super» .exit))) ⌝ }
 {
-    let a = allocate_fs_idx(&t.used, t.next_super);
-    t.next_super = a.next_super;
+    let start = *next_super;
+    let a = allocate_fs_idx(used, start);
+    *next_super = a.next_super;
     let answer = a.answer;
     match answer {
         FsIndex::Index(i) => {
             let at = i as usize;
-            t.used[at] = HELD;
-            t.tags[at] = tag;
-            let step = Step {
+            used[at] = HELD;
+            tags[at] = tag;
+            Step {
                 code: DONE,
                 index: i as u32,
                 count: a.count,
-            };
-            Taken { step, table: t }
+            }
         }
-        FsIndex::Full => {
-            let step = Step {
-                code: FULL,
-                index: 0,
-                count: a.count,
-            };
-            Taken { step, table: t }
-        }
+        FsIndex::Full => Step {
+            code: FULL,
+            index: 0,
+            count: a.count,
+        },
     }
 }
 
@@ -136,7 +133,5 @@ pub fn take(mut t: FsIndexes, tag: u32) -> Taken
 pub fn allocate_in(t: &mut FsIndexes, tag: u32) -> Step
     ensures { λ r. ⌜ Steps (now (t .entry)) tag r (now (t .exit)) ⌝ }
 {
-    let a = take(*t, tag);
-    *t = a.table;
-    a.step
+    take(&mut t.used, &mut t.tags, &mut t.next_super, tag)
 }

@@ -1,7 +1,13 @@
 -- `index::take` meets its contract: it does what the rule says of the search's answer. Assumes nothing.
-use mathlib.Core.Path.{ap, _∙_}
-use Rattle.index.specs.Search.{foundOf, codeOf, readOf}
-use Rattle.index.specs.Take.{takenOf, takeRule}
+use mathlib.Core.Path.{_≡_, ap, subst}
+use Prim.Native.Nat.{ℕ}
+use Rattle.rules.specs.Round.{allocate}
+use Rattle.index.specs.Slots.{heldIn}
+use Rattle.index.specs.Search.{Told, foundOf, codeOf, readOf, told}
+use Rattle.index.specs.Take.{Taken, takenOf, takeRule, Steps}
+use Rattle.index.specs.declared.FsIndexes.{FsIndexes}
+use Rattle.index.specs.declared.FsIndex.{FsIndex}
+use Rattle.index.specs.declared.Allocated.{Allocated}
 use borrow.Author.Needs.{needs}
 use Rattle.index.proofs.take.Statement.{statement}
 use Rattle.index.proofs.take.Tie as tie
@@ -15,32 +21,37 @@ enum-known-answer c = search needs
 cast-at : tie.Need-cast-at
 cast-at c = search needs
 
-element-write-t : tie.Need-element-write-t
-element-write-t c = search needs
+element-write-used : tie.Need-element-write-used
+element-write-used c = search needs
 
-mul-t : tie.Need-mul-t
-mul-t c = search needs
+mul-tags : tie.Need-mul-tags
+mul-tags c = search needs
 
-element-write-t-2 : tie.Need-element-write-t-2
-element-write-t-2 c = search needs
+element-write-tags : tie.Need-element-write-tags
+element-write-tags c = search needs
 
-cast-t19 : tie.Need-cast-t19
-cast-t19 c = search needs
+cast-t18 : tie.Need-cast-t18
+cast-t18 c = search needs
 
 enum-told : tie.Need-enum-told
 enum-told c = search needs
 
+-- what is answered and what lies there after it, by the search's answer x, are what the rule says
+module _ (t : FsIndexes) (tag : ℕ) (a : Allocated) (search : readOf a ≡ told (allocate (heldIn (t .used)) (t .«next_super»))) where
+  abbrev taken : FsIndex → Taken
+  taken x = takenOf t tag (record { code = codeOf x; found = foundOf x; count = a .count; counter = a .«next_super» })
+
+  stepped : (x : FsIndex) → a .answer ≡ x → Steps t tag (taken x .step) (taken x .table)
+  unfolding takeRule readOf
+  stepped x e = subst (λ (y : FsIndex). Steps t tag (taken y .step) (taken y .table)) e (record { answer = ap (λ (b : Told). takenOf t tag b .step) search; table = ap (λ (b : Told). takenOf t tag b .table) search })
+
 returns : tie.Need-returns
-unfolding takeRule readOf foundOf codeOf
-returns c =
-    let a = c .before .before .before in
-    (rw (c .before .answer .given .1)) ∙ ap (takenOf (a .before .before .before .before .args .t1) _) (a .allocate-fs-idx .ensures)
+unfolding foundOf codeOf
+returns c = stepped _ _ _ (c .before .before .before .allocate-fs-idx .ensures) _ (c .before .answer .given .1)
 
 returns-2 : tie.Need-returns-2
-unfolding takeRule readOf foundOf codeOf
-returns-2 c =
-    let a = c .before .before in
-    (rw (c .enum-told .given .1)) ∙ ap (takenOf (a .before .before .before .before .args .t1) _) (a .allocate-fs-idx .ensures)
+unfolding foundOf codeOf
+returns-2 c = stepped _ _ _ (c .before .before .allocate-fs-idx .ensures) _ (c .enum-told .given .1)
 
 pub take-spec : {M : Type 1} → statement M
 take-spec =
@@ -49,10 +60,10 @@ take-spec =
     allocate-fs-idx-requires
     enum-known-answer
     cast-at
-    element-write-t
-    mul-t
-    element-write-t-2
-    cast-t19
+    element-write-used
+    mul-tags
+    element-write-tags
+    cast-t18
     enum-told
     returns
     returns-2)
