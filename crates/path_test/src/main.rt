@@ -5,10 +5,6 @@ use libc::STDIN_FILENO;
 use libc::STDOUT_FILENO;
 use path::components::Component;
 use path::names::Checked;
-ghost use Prim.Native.Nat.{_≤_};
-ghost use lib.ListN.{length};
-
-const LINE_END: u8 = 10;
 
 fn main() {
     let mut input = io::large_buffer();
@@ -21,64 +17,10 @@ fn main() {
 fn all(input: &[u8], bytes: &mut [u8]) {
     let mut at = 0;
     while at < input.len() {
-        let end = line_end(input, at);
-        let n = decode(&input[at..end], bytes);
+        let n = words::hex::pairs(input, at, bytes);
         report(&bytes[0..n]);
-        if end == input.len() {
-            return;
-        }
-        at = end + 1;
+        at = path::components::part_end(input, at, b'\n') + 1;
     }
-}
-
-fn line_end(s: &[u8], at: usize) -> usize
-    requires { ⌜ at ≤ length (now s) ⌝ }
-    ensures { λ r. ⌜ (at ≤ r) × (r ≤ length (now (s .entry))) ⌝ }
-{
-    let mut i = at;
-    while i < s.len() {
-        if s[i] == LINE_END {
-            return i;
-        }
-        i += 1;
-    }
-    i
-}
-
-// The value of a hex digit; 0 for any other byte.
-fn digit(b: u8) -> u8
-    ensures { λ r. ⌜ r ≤ 15 ⌝ }
-{
-    if b < b'0' {
-        return 0;
-    }
-    if b <= b'9' {
-        return b - b'0';
-    }
-    if b < b'a' {
-        return 0;
-    }
-    if b <= b'f' {
-        return b - b'a' + 10;
-    }
-    0
-}
-
-// The bytes that pairs of digits spell, as many as there is room for, and how many they are.
-fn decode(line: &[u8], bytes: &mut [u8]) -> usize
-    ensures { λ r. ⌜ r ≤ length (now (bytes .entry)) ⌝ }
-{
-    let mut n = 0;
-    let mut i = 0;
-    while 2 <= line.len() - i {
-        if bytes.len() <= n {
-            return n;
-        }
-        bytes[n] = digit(line[i]) * 16 + digit(line[i + 1]);
-        n += 1;
-        i += 2;
-    }
-    n
 }
 
 fn report(s: &[u8]) {

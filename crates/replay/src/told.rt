@@ -1,54 +1,36 @@
-// Writes a call with its answer, in the form of the list.
-use crate::calls::Answer;
+// Writes the answer of a call, in the form of the list.
 use libc::STDOUT_FILENO;
-ghost use Prim.Native.Nat.{_≤_};
-ghost use lib.ListN.{length};
 
-// As many bytes as the number says, if the slice has them.
-pub fn upto(n: u64, s: &[u8]) -> usize
-    ensures { λ r. ⌜ r ≤ length (now (s .entry)) ⌝ }
-{
-    let l = s.len();
-    if (l as u64) < n {
-        return l;
-    }
-    n as usize
-}
-
-// The line of the call, its answer behind it, and the bytes that the call wrote if it is one that writes any.
-pub fn tell(line: &[u8], a: Answer, out: &[u8]) {
-    io::write_all(STDOUT_FILENO, line);
-    io::write_all(STDOUT_FILENO, b" =");
-    let v = a.values;
-    numbers(v, a.n);
-    if a.writes {
-        let n = upto(v[1], out);
-        hex(&out[0..n]);
-    }
-    io::write_all(STDOUT_FILENO, b"\n");
-}
-
-fn numbers(values: [u64; 8], n: usize) {
+// The numbers of an answer, each behind a space.
+pub fn numbers(values: &[u64]) {
     let mut i = 0;
-    while i < 8 {
-        if n <= i {
-            return;
-        }
+    while i < values.len() {
         io::write_all(STDOUT_FILENO, b" ");
         io::print_decimal(STDOUT_FILENO, values[i]);
         i += 1;
     }
 }
 
+// The number of an answer alone.
+pub fn code(code: u32) {
+    let v = [code as u64];
+    numbers(&v);
+}
+
+// The number of an answer, how many bytes the call wrote, and these.
+pub fn written(code: u32, len: u64, out: &[u8]) {
+    let v = [code as u64, len];
+    numbers(&v);
+    let n = words::numbers::least(len, out.len());
+    hex(&out[0..n]);
+}
+
 fn hex(bytes: &[u8]) {
     io::write_all(STDOUT_FILENO, b" x");
     let mut i = 0;
     while i < bytes.len() {
-        io::print_hex(STDOUT_FILENO, wide(bytes[i]), 2);
+        let b = words::hex::byte_at(bytes, i) as u64;
+        io::print_hex(STDOUT_FILENO, b, 2);
         i += 1;
     }
-}
-
-fn wide(b: u8) -> u64 {
-    b as u64
 }

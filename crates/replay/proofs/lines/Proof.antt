@@ -1,6 +1,8 @@
 -- `replay::lines` is safe and ends: each turn goes past a line end. Assumes nothing.
+use native.Mathlib.Omega.{arith}
+use Rattle.words.proofs.Finding.{ends}
 use borrow.Author.Needs.{needs}
-use Prim.Native.Nat.{_-_, _+_, _≤_, _<_}
+use Prim.Native.Nat.{_-_}
 use mathlib.Core.Path.{_≡_}
 use lib.ListN.{length}
 use Rattle.replay.proofs.lines.Statement.{statement}
@@ -15,26 +17,26 @@ abbrev μ-loop : tie.MeasureT-loop
 loop-holds : tie.Need-loop-holds Inv-loop μ-loop
 loop-holds c = search needs
 
-line-end-requires : tie.Need-line-end-requires Inv-loop μ-loop
-line-end-requires c κs = search needs
+part-end-requires : tie.Need-part-end-requires Inv-loop μ-loop
+part-end-requires c κs = search needs
 
 sub-line : tie.Need-sub-line Inv-loop μ-loop
-sub-line c = search needs
+sub-line c = omega (arith, ends _ _ _ _ (c .part-end .ensures) (c .before .loop-test .taken) .0)
 
 part-line-start : tie.Need-part-line-start Inv-loop μ-loop
-part-line-start c = search needs
+part-line-start c = omega (arith, ends _ _ _ _ (c .part-end .ensures) (c .before .loop-test .taken) .0)
 
 part-line-end : tie.Need-part-line-end Inv-loop μ-loop
-part-line-end c = search needs
+part-line-end c = omega (arith, ends _ _ _ _ (c .part-end .ensures) (c .before .loop-test .taken) .0, ends _ _ _ _ (c .part-end .ensures) (c .before .loop-test .taken) .1)
 
 line-requires : tie.Need-line-requires Inv-loop μ-loop
 line-requires c κs = search needs
 
 add-at : tie.Need-add-at Inv-loop μ-loop
-add-at c = search needs
+add-at c = omega (arith, ends _ _ _ _ (c .before .before .before .before .before .before .before .before .before .before .before .part-end .ensures) (c .before .before .before .before .before .before .before .before .before .before .before .before .loop-test .taken) .1)
 
 loop-less : tie.Need-loop-less Inv-loop μ-loop
-loop-less c = search needs
+loop-less c = omega (arith, ends _ _ _ _ (c .before .before .before .before .before .before .before .before .before .before .before .part-end .ensures) (c .before .before .before .before .before .before .before .before .before .before .before .before .loop-test .taken) .0)
 
 loop-again : tie.Need-loop-again Inv-loop μ-loop
 loop-again c = search needs
@@ -58,7 +60,7 @@ lines-spec =
     Inv-loop
     μ-loop
     loop-holds
-    line-end-requires
+    part-end-requires
     sub-line
     part-line-start
     part-line-end

@@ -1,7 +1,6 @@
 -- `replay::told::hex` is safe and ends: each turn writes one byte more. Assumes nothing.
 use borrow.Author.Needs.{needs}
-use Prim.Native.Nat.{_-_, _+_, _≤_, _<_}
-use mathlib.Core.Path.{_≡_}
+use Prim.Native.Nat.{_-_, _≤_}
 use lib.ListN.{length}
 use Rattle.replay.proofs.told.hex.Statement.{statement}
 use Rattle.replay.proofs.told.hex.Tie as tie
@@ -21,11 +20,11 @@ write-all-requires c κs = search needs
 loop-holds : tie.Need-loop-holds Inv-loop μ-loop
 loop-holds c = search needs
 
-shared-slice-read-wide : tie.Need-shared-slice-read-wide Inv-loop μ-loop
-shared-slice-read-wide c = search needs
+byte-at-requires : tie.Need-byte-at-requires Inv-loop μ-loop
+byte-at-requires c κs = search needs
 
-wide-requires : tie.Need-wide-requires Inv-loop μ-loop
-wide-requires c κs = search needs
+cast-b : tie.Need-cast-b Inv-loop μ-loop
+cast-b c = search needs
 
 print-hex-requires : tie.Need-print-hex-requires Inv-loop μ-loop
 print-hex-requires c κs = search needs
@@ -51,8 +50,8 @@ hex-spec =
     slice-aggregate-write-all
     write-all-requires
     loop-holds
-    shared-slice-read-wide
-    wide-requires
+    byte-at-requires
+    cast-b
     print-hex-requires
     add-i
     loop-less

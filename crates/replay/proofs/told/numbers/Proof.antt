@@ -1,22 +1,18 @@
 -- `replay::told::numbers` is safe and ends: each turn writes one number more. Assumes nothing.
 use borrow.Author.Needs.{needs}
-use Prim.Native.Nat.{_-_, _+_, _≤_, _<_}
-use mathlib.Core.Path.{_≡_}
+use Prim.Native.Nat.{_-_, _≤_}
 use lib.ListN.{length}
 use Rattle.replay.proofs.told.numbers.Statement.{statement}
 use Rattle.replay.proofs.told.numbers.Tie as tie
 
 abbrev Inv-loop : tie.InvT-loop
-Inv-loop n values i₀ t5 i = i ≤ 8
+Inv-loop values i₀ t3 i = i ≤ length values
 
 abbrev μ-loop : tie.MeasureT-loop
-μ-loop n values i₀ t5 i = 8 - i
+μ-loop values i₀ t3 i = length values - i
 
 loop-holds : tie.Need-loop-holds Inv-loop μ-loop
 loop-holds c = search needs
-
-returns : tie.Need-returns Inv-loop μ-loop
-returns c = search needs
 
 slice-aggregate-write-all : tie.Need-slice-aggregate-write-all Inv-loop μ-loop
 slice-aggregate-write-all c = search needs
@@ -27,8 +23,8 @@ write-all-requires c κs = search needs
 mul-print-decimal : tie.Need-mul-print-decimal Inv-loop μ-loop
 mul-print-decimal c = search needs
 
-array-read-print-decimal : tie.Need-array-read-print-decimal Inv-loop μ-loop
-array-read-print-decimal c = search needs
+shared-slice-read-print-decimal : tie.Need-shared-slice-read-print-decimal Inv-loop μ-loop
+shared-slice-read-print-decimal c = search needs
 
 print-decimal-requires : tie.Need-print-decimal-requires Inv-loop μ-loop
 print-decimal-requires c κs = search needs
@@ -42,8 +38,8 @@ loop-less c = search needs
 loop-again : tie.Need-loop-again Inv-loop μ-loop
 loop-again c = search needs
 
-returns-2 : tie.Need-returns-2 Inv-loop μ-loop
-returns-2 c = search needs
+returns : tie.Need-returns Inv-loop μ-loop
+returns c = search needs
 
 pub numbers-spec : {M : Type 1} → statement M
 numbers-spec =
@@ -52,13 +48,12 @@ numbers-spec =
     Inv-loop
     μ-loop
     loop-holds
-    returns
     slice-aggregate-write-all
     write-all-requires
     mul-print-decimal
-    array-read-print-decimal
+    shared-slice-read-print-decimal
     print-decimal-requires
     add-i
     loop-less
     loop-again
-    returns-2)
+    returns)

@@ -1,0 +1,89 @@
+-- `words::hex::pairs` meets its contract. The invariant: n bytes stand, and with what is left to spell the whole text will. Assumes nothing.
+use Prim.Native.Nat.{_-_}
+use mathlib.Core.Path.{_≡_, refl}
+use lib.ListN.{length}
+use Rattle.words.proofs.Spelling.{Rest, rest-all, rest-past, rest-full, rest-stop, rest-more}
+use borrow.Author.Needs.{needs}
+use Rattle.words.proofs.hex.pairs.Statement.{statement}
+use Rattle.words.proofs.hex.pairs.Tie as tie
+
+abbrev Inv-loop : tie.InvT-loop
+Inv-loop s at out₀ n₀ i₀ out n i = (length out ≡ length out₀) × Rest (length out₀) at s out₀ out n i
+
+abbrev μ-loop : tie.MeasureT-loop
+μ-loop s at out₀ n₀ i₀ out n i = length s - i
+
+loop-holds : tie.Need-loop-holds Inv-loop μ-loop
+loop-holds c = (refl, rest-all _ _ _ _)
+
+shared-slice-read-pair : tie.Need-shared-slice-read-pair Inv-loop μ-loop
+shared-slice-read-pair c = search needs
+
+add-byte-at : tie.Need-add-byte-at Inv-loop μ-loop
+add-byte-at c = search needs
+
+byte-at-requires : tie.Need-byte-at-requires Inv-loop μ-loop
+byte-at-requires c κs = search needs
+
+pair-requires : tie.Need-pair-requires Inv-loop μ-loop
+pair-requires c κs = search needs
+
+same-length : tie.Need-same-length Inv-loop μ-loop
+same-length c = search needs
+
+returns : tie.Need-returns Inv-loop μ-loop
+returns c = rest-stop _ _ _ _ _ _ _ _ _ (c .before .pair .ensures) (c .before .before .byte-at .ensures) (c .if1 .taken) (c .before .before .before .before .before .loop .inv .1)
+
+same-length-2 : tie.Need-same-length-2 Inv-loop μ-loop
+same-length-2 c = search needs
+
+returns-2 : tie.Need-returns-2 Inv-loop μ-loop
+returns-2 c = rest-full _ _ _ _ _ _ _ (search needs) (c .before .before .before .before .before .before .loop .inv .1)
+
+cast-out : tie.Need-cast-out Inv-loop μ-loop
+cast-out c = search needs
+
+slice-write-out : tie.Need-slice-write-out Inv-loop μ-loop
+slice-write-out c = search needs
+
+add-n : tie.Need-add-n Inv-loop μ-loop
+add-n c = search needs
+
+add-i : tie.Need-add-i Inv-loop μ-loop
+add-i c = search needs
+
+loop-less : tie.Need-loop-less Inv-loop μ-loop
+loop-less c = search needs
+
+loop-again : tie.Need-loop-again Inv-loop μ-loop
+loop-again c = (search needs, rest-more _ _ _ _ _ _ _ _ _ (c .before .before .pair .ensures) (c .before .before .before .byte-at .ensures) (c .before .if1 .left) (search needs) (c .before .before .before .before .before .before .loop .inv .1))
+
+same-length-3 : tie.Need-same-length-3 Inv-loop μ-loop
+same-length-3 c = search needs
+
+returns-3 : tie.Need-returns-3 Inv-loop μ-loop
+returns-3 c = rest-past _ _ _ _ _ _ _ (c .loop-test .left) (c .before .loop .inv .1)
+
+pub pairs-spec : {M : Type 1} → statement M
+pairs-spec =
+    tie.close
+    (tie.spec
+    Inv-loop
+    μ-loop
+    loop-holds
+    shared-slice-read-pair
+    add-byte-at
+    byte-at-requires
+    pair-requires
+    same-length
+    returns
+    same-length-2
+    returns-2
+    cast-out
+    slice-write-out
+    add-n
+    add-i
+    loop-less
+    loop-again
+    same-length-3
+    returns-3)
