@@ -22,6 +22,11 @@ module _ (mem : List ℕ) (at mask x i v : ℕ) (e : v ≡ get 8 mem (at + 8 * i
   unfolding cellIs
   cell-other h = ne-eqb (bitAnd (get 8 mem (at + 8 * i)) mask) x (λ q. h (ap (λ (w : ℕ). bitAnd w mask) e ∙ q))
 
+-- ---- the mask by another name
+
+pub by-mask : (mem : List ℕ) (at mask all x i k : ℕ) → mask ≡ all → firstOf (cellIs mem at all x) i k ≡ firstOf (cellIs mem at mask x) i k
+by-mask mem at mask all x i k e = rw e
+
 -- ---- eight together
 
 -- of k cells, whether one was hit
@@ -130,6 +135,16 @@ first-after f i (suc k) = go (f i) (first-after f (i + 1) k)
     go : (b : Bool) → i + 1 ≤ firstOf f (i + 1) k → i ≤ cond b i (firstOf f (i + 1) k)
     go true h = omega arith
     go false h = omega (arith, h)
+
+-- i is the first of the places before m: it leaves the first of all, and is that where it is one of them
+module _ (f : ℕ → Bool) (from m n i : ℕ) (e : i ≡ firstOf f from (m - from)) (h : from ≤ m) (l : m ≤ n) where
+  pub part-left : Left f from n i
+  part-left = rw e (first-passes f (Left f from n) from (m - from) (λ j k no p. on-left f from n j p (omega arith) no) (none-left f from n (omega arith)))
+
+  pub part-found : i < m → i ≡ firstOf f from (n - from)
+  part-found less =
+      let there : firstOf f from (m - from) < from + (m - from) = omega arith in
+      here-left f from n i part-left (omega arith) (ap f e ∙ first-finds f from (m - from) there)
 
 -- ---- one of many
 

@@ -52,17 +52,24 @@ fn find_by_eight(s: &[u8], at: usize, from: usize, n: usize, mask: u64, x: u64) 
     find_by_one(s, at, i, n, mask, x)
 }
 
-// The first cell from `from` on that is x under the mask; n where there is none (R45, R53). The cell at `from` is asked by itself: where many fit, the next is near.
+// The mask under which a cell is compared whole.
+const ALL: u64 = 0xffff_ffff_ffff_ffff;
+
+// The first cell from `from` on that is x under the mask; n where there is none (R45, R53). The eight at `from` are asked one by one: in a short table, and where many fit, the first is near.
 pub fn find_cell(s: &[u8], at: usize, from: usize, n: usize, mask: u64, x: u64) -> usize
     requires { ⌜ at + 8 * n ≤ length (now s) ⌝ }
     requires { ⌜ from ≤ n ⌝ }
     ensures { λ r. ⌜ r ≡ firstOf (cellIs (now (s .entry)) at mask x) from (n - from) ⌝ }
 {
-    if n <= from {
-        return from;
+    if n - from < 8 {
+        return find_by_one(s, at, from, n, mask, x);
     }
-    if le::fields::get_u64(s, at + 8 * from) & mask == x {
-        return from;
+    let i = find_by_one(s, at, from, from + 8, mask, x);
+    if i < from + 8 {
+        return i;
     }
-    find_by_eight(s, at, from + 1, n, mask, x)
+    if mask == ALL {
+        return find_by_eight(s, at, i, n, ALL, x);
+    }
+    find_by_eight(s, at, i, n, mask, x)
 }
