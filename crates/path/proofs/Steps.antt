@@ -16,7 +16,7 @@ use Rattle.path.specs.declared.components.Component.the-variants.{Name, 
 use Rattle.path.specs.Steps.{part, between, wordLength, wordEnd, stepOf, nextAt, onStep, stepped}
 use Rattle.path.proofs.Places.{here, between-length}
 use Rattle.path.proofs.Naming.{same-eq, same-length}
-use Rattle.path.proofs.Words.{part-nil, part-cons, part-le, end-length, behind, first-part}
+use Rattle.path.proofs.Words.{part-nil, part-cons, part-le, end-here, end-length, behind, first-part}
 
 -- ---- the components: what the first part is, and those from its end on
 
@@ -153,6 +153,12 @@ module _ (s : List ℕ) (i : ℕ) (h : i < length s) where
 
     pub next-name : {a l n : ℕ} → c ≡ Name a l n → nextAt s i ≡ c
     next-name e = found (λ z. absurd (let f : _≡_ {A = ℕ} 0 1 = cc told in omega arith)) ∙ sym told
+
+pub next-slash : (s : List ℕ) (i : ℕ) → i < length s → getD s i 0 ≡ slash → nextAt s i ≡ nextAt s (i + 1)
+unfolding nextAt
+next-slash s i h e =
+    let z : wordLength (drop i s) ≡ 0 = omega (arith, end-here slash s i h e, end-length slash s i) in
+    ap stepOf (slash-first s i h z)
 
 pub next-end : (s : List ℕ) (i : ℕ) → length s ≤ i → nextAt s i ≡ End
 unfolding nextAt stepOf components kept sorted partsBy same

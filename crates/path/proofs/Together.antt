@@ -3,7 +3,7 @@ use mathlib.Core.Path.{_≡_, refl, sym, ap, _∙_}
 use mathlib.Core.Bool.{Bool, true, false, not, _&&_, _||_, false≢true}
 use mathlib.Core.List.{List, [], _∷_}
 use Prim.Native.Nat.{ℕ, zero, suc, _+_, _-_, _≤_, _<_}
-use native.Mathlib.Nat.{zero-add}
+use native.Mathlib.Nat.{add-zero, zero-add}
 use native.Mathlib.Numerals.{one-add}
 use native.Mathlib.Omega.{arith}
 use borrow.Author.Tests.{eq-eqb, ne-eqb, eqb-true, eqb-false, lt-ltb, le-ltb, ltb-false, le-leb, lt-leb, not-true}
@@ -13,8 +13,10 @@ use Rattle.rules.specs.Bytes.{holds}
 use Rattle.rules.specs.Utf8.{table, fits, sequence, validTo, wellFormed}
 use Rattle.scan.specs.First.{anyOf}
 use Rattle.scan.proofs.First.{neither, any-add, any-part, any-last, any-more}
+use Rattle.path.specs.Steps.{partEnd}
 use Rattle.path.specs.Together.{isHigh, isByte, plainLong}
 use Rattle.path.proofs.Table.{sequence-row, valid-next, valid-done}
+use Rattle.path.proofs.Words.{end-more}
 use Rattle.path.proofs.Naming.{holds-end, holds-here, holds-more}
 
 both : (a b : Bool) → (a && b) ≡ true → (a ≡ true) × (b ≡ true)
@@ -57,6 +59,20 @@ one-there f n i h l e = any-part f i 8 n (omega (arith, h .0)) e
 
 pub last-eight : (f : ℕ → Bool) (n i : ℕ) → None f n i → 8 ≤ n → n - i < 8 → anyOf f (n - 8) 8 ≡ anyOf f 0 n
 last-eight f n i h m l = any-last f i 8 n (h .1) m (omega (arith, h .0))
+
+-- ---- the end of a part
+
+-- places without the byte are passed over
+end-skip : (b : ℕ) (s : List ℕ) (i k : ℕ) → i + k ≤ length s → anyOf (isByte b s) i k ≡ false → partEnd b s i ≡ partEnd b s (i + k)
+unfolding anyOf isByte
+end-skip b s i zero h e = rw add-zero
+end-skip b s i (suc k) h e =
+    let n = neither (anyOf (isByte b s) i k) (isByte b s (i + k)) e in
+    let z : i + k + 1 ≡ i + suc k = omega arith in
+    end-skip b s i k (omega arith) (n .0) ∙ end-more b s (i + k) (omega arith) (eqb-false (getD s (i + k) 0) b (n .1)) ∙ ap (partEnd b s) z
+
+pub end-eight : (b : ℕ) (s : List ℕ) (i : ℕ) {e : ℕ} → (i ≤ length s) × (partEnd b s i ≡ e) → 8 ≤ length s - i → anyOf (isByte b s) i 8 ≡ false → (i + 8 ≤ length s) × (partEnd b s (i + 8) ≡ e)
+end-eight b s i l h e = (omega (arith, l .0), sym (end-skip b s i 8 (omega (arith, l .0)) e) ∙ l .1)
 
 -- ---- a byte in a string
 

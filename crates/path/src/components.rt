@@ -1,4 +1,5 @@
 // The components of a path, one after the other (R37), and its leading slash.
+use crate::eight::any_byte;
 use crate::names::is_dot;
 use crate::names::is_dots;
 ghost use mathlib.Core.Path.{_≡_};
@@ -31,8 +32,8 @@ pub fn is_rooted(path: &[u8]) -> bool
     path[0] == b'/'
 }
 
-// Where the bytes from `at` on meet the next byte `sep`, or end (R37, R146).
-pub fn part_end(s: &[u8], at: usize, sep: u8) -> usize
+// Where the bytes from `at` on meet the next byte `sep`, or end, one by one.
+fn part_by_one(s: &[u8], at: usize, sep: u8) -> usize
     ensures { λ r. ⌜ r ≡ partEnd sep (now (s .entry)) at ⌝ }
 {
     let mut i = at;
@@ -43,6 +44,23 @@ pub fn part_end(s: &[u8], at: usize, sep: u8) -> usize
         i += 1;
     }
     i
+}
+
+// Where the bytes from `at` on meet the next byte `sep`, or end (R37, R146): eight bytes without it are passed over together.
+pub fn part_end(s: &[u8], at: usize, sep: u8) -> usize
+    ensures { λ r. ⌜ r ≡ partEnd sep (now (s .entry)) at ⌝ }
+{
+    if s.len() <= at {
+        return at;
+    }
+    let mut i = at;
+    while 8 <= s.len() - i {
+        if any_byte(s, i, sep) {
+            break;
+        }
+        i += 8;
+    }
+    part_by_one(s, i, sep)
 }
 
 // Where the bytes from `at` on meet the next slash, or end (R37).
@@ -77,12 +95,16 @@ fn component_at(path: &[u8], at: usize, end: usize) -> Component
     }
 }
 
-// The next component from `at` on, with the place where it starts and the place behind it (R37).
+// The next component from `at` on, with the place where it starts and the place behind it (R37). A slash is passed over by itself.
 pub fn next_component(path: &[u8], at: usize) -> Component
     ensures { λ r. ⌜ r ≡ nextAt (now (path .entry)) at ⌝ }
 {
     let mut i = at;
     while i < path.len() {
+        if path[i] == b'/' {
+            i += 1;
+            continue;
+        }
         let end = word_end(path, i);
         let c = component_at(path, i, end);
         match c {

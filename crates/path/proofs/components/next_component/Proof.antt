@@ -8,7 +8,7 @@ use denote.Ref.{now}
 use Rattle.path.specs.Steps.{nextAt}
 use Rattle.rules.specs.Path.{slash}
 use Rattle.path.proofs.Words.{end-from, end-within}
-use Rattle.path.proofs.Steps.{next-dropped, next-parent, next-name, next-end}
+use Rattle.path.proofs.Steps.{next-slash, next-dropped, next-parent, next-name, next-end}
 use Rattle.path.proofs.components.next_component.Statement.{statement}
 use Rattle.path.proofs.components.next_component.Tie as tie
 
@@ -21,38 +21,26 @@ abbrev μ-loop : tie.MeasureT-loop
 loop-holds : tie.Need-loop-holds Inv-loop μ-loop
 loop-holds c = refl
 
+loop-again : tie.Need-loop-again Inv-loop μ-loop
+loop-again c = sym (next-slash _ _ (c .before .before .loop-test .taken) (c .if1 .taken)) ∙ c .before .before .before .loop .inv
+
 word-end-requires : tie.Need-word-end-requires Inv-loop μ-loop
 word-end-requires c κs = search needs
 
 component-at-requires : tie.Need-component-at-requires Inv-loop μ-loop
 component-at-requires c κs =
-    let l = c .before .before in
+    let l = c .before .before .before .before in
     let s = now (l .before .before .args .path) in
     omega (arith, c .word-end .ensures, end-from slash s (l .loop .i), end-within slash s (l .loop .i) (omega arith))
 
-enum-told : tie.Need-enum-told Inv-loop μ-loop
-enum-told c = search needs
-
-add-i : tie.Need-add-i Inv-loop μ-loop
-add-i c = omega arith
-
-loop-less : tie.Need-loop-less Inv-loop μ-loop
-loop-less c = omega arith
-
-loop-again : tie.Need-loop-again Inv-loop μ-loop
-loop-again c = sym (next-dropped _ _ (c .before .before .before .before .loop-test .taken) (c .before .before .before .word-end .ensures) (c .before .before .component-at .ensures) (c .enum-told .given .1)) ∙ c .before .before .before .before .before .loop .inv
-
-enum-told-2 : tie.Need-enum-told-2 Inv-loop μ-loop
-enum-told-2 c = search needs
+loop-again-2 : tie.Need-loop-again-2 Inv-loop μ-loop
+loop-again-2 c = sym (next-dropped _ _ (c .before .before .before .before .before .before .loop-test .taken) (c .before .before .before .word-end .ensures) (c .before .before .component-at .ensures) (c .enum-told .given .1)) ∙ c .before .before .before .before .before .before .before .loop .inv
 
 returns : tie.Need-returns Inv-loop μ-loop
-returns c = sym (next-parent _ _ (c .before .before .before .before .loop-test .taken) (c .before .before .before .word-end .ensures) (c .before .before .component-at .ensures) (c .enum-told2 .given .1)) ∙ c .before .before .before .before .before .loop .inv
-
-enum-told-3 : tie.Need-enum-told-3 Inv-loop μ-loop
-enum-told-3 c = search needs
+returns c = sym (next-parent _ _ (c .before .before .before .before .before .before .loop-test .taken) (c .before .before .before .word-end .ensures) (c .before .before .component-at .ensures) (c .enum-told2 .given .1)) ∙ c .before .before .before .before .before .before .before .loop .inv
 
 returns-2 : tie.Need-returns-2 Inv-loop μ-loop
-returns-2 c = sym (next-name _ _ (c .before .before .before .before .loop-test .taken) (c .before .before .before .word-end .ensures) (c .before .before .component-at .ensures) (c .enum-told3 .given .1)) ∙ c .before .before .before .before .before .loop .inv
+returns-2 c = sym (next-name _ _ (c .before .before .before .before .before .before .loop-test .taken) (c .before .before .before .word-end .ensures) (c .before .before .component-at .ensures) (c .enum-told3 .given .1)) ∙ c .before .before .before .before .before .before .before .loop .inv
 
 returns-3 : tie.Need-returns-3 Inv-loop μ-loop
 returns-3 c = sym (next-end _ _ (c .loop-test .left)) ∙ c .before .loop .inv
@@ -64,14 +52,18 @@ next-component-spec =
     Inv-loop
     μ-loop
     loop-holds
+    (λ c. search needs)
+    (λ c. search needs)
+    (λ c. search needs)
+    loop-again
     word-end-requires
     component-at-requires
-    enum-told
-    add-i
-    loop-less
-    loop-again
-    enum-told-2
+    (λ c. search needs)
+    (λ c. search needs)
+    (λ c. search needs)
+    loop-again-2
+    (λ c. search needs)
     returns
-    enum-told-3
+    (λ c. search needs)
     returns-2
     returns-3)
