@@ -109,8 +109,8 @@ pub fn valid_to(s: &[u8]) -> usize
     i
 }
 
-// Whether there are eight bytes or more, and all are below 128: the last eight are looked at together, whatever was passed before.
-fn is_plain(s: &[u8]) -> bool
+// Whether there are eight bytes or more, each of them 1 to 127: then they are well formed, none is 0, and they are no dots (R57, R58). The last eight are looked at together, whatever was passed before.
+pub fn is_plain(s: &[u8]) -> bool
     ensures { λ r. ⌜ r ≡ plainLong (now (s .entry)) ⌝ }
 {
     let n = s.len();
@@ -119,12 +119,12 @@ fn is_plain(s: &[u8]) -> bool
     }
     let mut i = 0;
     while 8 <= n - i {
-        if crate::eight::any_high(s, i) {
+        if crate::eight::any_odd(s, i) {
             return false;
         }
         i += 8;
     }
-    !crate::eight::any_high(s, n - 8)
+    !crate::eight::any_odd(s, n - 8)
 }
 
 // Whether all of the bytes are well formed (R35, R36).

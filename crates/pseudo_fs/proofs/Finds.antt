@@ -19,7 +19,7 @@ use Rattle.rules.proofs.Rows.{first-of}
 use Rattle.tables.specs.View.{nodesOf, view}
 use Rattle.pseudo_fs.specs.declared.inner.Finding.{Finding}
 use Rattle.pseudo_fs.specs.declared.inner.Finding.the-variants.{Node as FindingNode, NoEnt, Inval}
-use Rattle.pseudo_fs.specs.Finds.{outcomeOf, Finds}
+use Rattle.pseudo_fs.specs.Finds.{outcomeOf, findingOf, Finds}
 use Rattle.pseudo_fs.proofs.Low.{nodes-low, child-low, known-low, parent-low}
 
 module _ (nodes : List Node) (x : ℕ) (p : List ℕ) where
@@ -46,13 +46,21 @@ module _ (nodes : List Node) (x : ℕ) (p : List ℕ) where
         unfolding outcomeOf lookupBy firstOf entryAt
         its-parent d dd y q mounts i e = rw (q, e, k, z, w, d, dd)
 
-        pub its-child : isDot p ≡ false → isDots p ≡ false → (y : ℕ) → some y ≡ childIn nodes x p → Finds nodes x p (FindingNode y)
+        its-child : isDot p ≡ false → isDots p ≡ false → (y : ℕ) → some y ≡ childIn nodes x p → Finds nodes x p (FindingNode y)
         unfolding outcomeOf lookupBy firstOf entryAt
         its-child d dd y q mounts i e = rw (e, k, z, w, d, dd, sym q)
 
-        pub no-child : isDot p ≡ false → isDots p ≡ false → none ≡ childIn nodes x p → Finds nodes x p NoEnt
+        no-child : isDot p ≡ false → isDots p ≡ false → none ≡ childIn nodes x p → Finds nodes x p NoEnt
         unfolding outcomeOf lookupBy firstOf entryAt
         no-child d dd q mounts i e = rw (e, k, z, w, d, dd, sym q)
+
+        pub by-child : isDot p ≡ false → isDots p ≡ false → (r : Finding) → r ≡ findingOf (childIn nodes x p) → Finds nodes x p r
+        unfolding findingOf
+        by-child d dd r q = rw q (go (childIn nodes x p) refl)
+          where
+            go : (o : Option ℕ) → o ≡ childIn nodes x p → Finds nodes x p (findingOf o)
+            go none e = no-child d dd e
+            go (some y) e = its-child d dd y e
 
 -- ---- the number found
 

@@ -2,7 +2,7 @@
 use Prim.Native.Nat.{ℕ}
 use mathlib.Core.Path.{_≡_}
 use mathlib.Core.List.{List}
-use mathlib.Core.Option.{Option}
+use mathlib.Core.Option.{Option, none, some}
 use Rattle.rules.specs.Numbers.{NOENT, INVAL}
 use Rattle.rules.specs.Tree.{Mount, Node}
 use Rattle.rules.specs.Instance.{Instance}
@@ -16,6 +16,11 @@ unfoldable pub outcomeOf : (ℕ → Option Mount) → Instance → Finding → O
 outcomeOf mounts i (FindingNode y) = entryOf i y (mounts y)
 outcomeOf mounts i NoEnt = refused NOENT i
 outcomeOf mounts i Inval = refused INVAL i
+
+-- the node of a number, or none
+unfoldable pub findingOf : Option ℕ → Finding
+findingOf none = NoEnt
+findingOf (some y) = FindingNode y
 
 -- found in the directory x by the name p: what the rules' lookup gives, of every instance with these nodes and for any mounts (R57, R58, R59)
 abbrev pub Finds : List Node → ℕ → List ℕ → Finding → Type 0

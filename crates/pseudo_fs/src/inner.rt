@@ -8,6 +8,7 @@ use path::components::next_component;
 use path::names::has_byte;
 use path::names::is_dot;
 use path::names::is_dots;
+use path::utf8::is_plain;
 use path::utf8::is_utf8;
 use scan::names::key_of;
 use tables::header::count;
@@ -21,10 +22,11 @@ use tables::rows::parent_of;
 ghost use mathlib.Core.Path.{_≡_};
 ghost use Rattle.rules.specs.Numbers.{convert};
 ghost use Rattle.rules.specs.Path.{components};
+ghost use Rattle.rules.specs.Tree.{childIn};
 ghost use Rattle.tables.specs.View.{mappingFrom, headOf, nodesOf};
 ghost use Rattle.tables.specs.Rule.{Laid};
 ghost use Rattle.pseudo_fs.specs.Walks.{Walks};
-ghost use Rattle.pseudo_fs.specs.Finds.{Finds};
+ghost use Rattle.pseudo_fs.specs.Finds.{findingOf, Finds};
 ghost use Rattle.pseudo_fs.specs.Told.{orZero, entryAnswer, pseudoAnswer};
 
 // The node where a walk ends, or the place in the path of the first name that is missing.
@@ -75,13 +77,27 @@ pub fn walk(s: &[u8], path: &[u8]) -> Walked
     }
 }
 
-// In a directory: unknown parent NOENT, then byte 0 or bad UTF-8 INVAL, then `.`, `..`, the child or NOENT (R57, R58, R59).
+// The child of that name, or NOENT (R45).
+fn child_in(s: &[u8], x: u64, name: &[u8]) -> Finding
+    requires { ⌜ Laid (now s) ⌝ }
+    ensures { λ r. ⌜ r ≡ findingOf (childIn (nodesOf (now (s .entry))) x (now (name .entry))) ⌝ }
+{
+    match find_child(s, x, name) {
+        Found::Node(y) => Finding::Node(y),
+        Found::Nothing => Finding::NoEnt,
+    }
+}
+
+// In a directory: unknown parent NOENT, then byte 0 or bad UTF-8 INVAL, then `.`, `..`, the child or NOENT (R57, R58, R59). A plain name needs the first test alone.
 pub fn find(s: &[u8], x: u64, name: &[u8]) -> Finding
     requires { ⌜ Laid (now s) ⌝ }
     ensures { λ r. ⌜ Finds (nodesOf (now (s .entry))) x (now (name .entry)) r ⌝ }
 {
     if !is_known(s, x) {
         return Finding::NoEnt;
+    }
+    if is_plain(name) {
+        return child_in(s, x, name);
     }
     if has_byte(name, 0) {
         return Finding::Inval;
@@ -95,10 +111,7 @@ pub fn find(s: &[u8], x: u64, name: &[u8]) -> Finding
     if is_dots(name) {
         return Finding::Node(parent_of(s, x));
     }
-    match find_child(s, x, name) {
-        Found::Node(y) => Finding::Node(y),
-        Found::Nothing => Finding::NoEnt,
-    }
+    child_in(s, x, name)
 }
 
 // The full number of a node of the tree; 0 where the number is above 2^56 − 1, which no node's is (R7, R8).

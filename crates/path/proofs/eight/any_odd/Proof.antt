@@ -1,32 +1,32 @@
 -- After k bytes, whether one of them was hit.
+use mathlib.Core.Path.{sym, _∙_}
 use mathlib.Core.Logic.{⊎-elim}
 use Prim.Native.Nat.{_-_}
-use Rattle.path.specs.Together.{isHigh}
+use Rattle.path.specs.Together.{isOdd}
 use Rattle.scan.proofs.First.{Hit, none-hit, one-hit, not-hit, all-looked}
-use Rattle.path.proofs.Together.{high, low}
 use borrow.Author.Needs.{needs}
-use Rattle.path.proofs.eight.any_high.Statement.{statement}
-use Rattle.path.proofs.eight.any_high.Tie as tie
+use Rattle.path.proofs.eight.any_odd.Statement.{statement}
+use Rattle.path.proofs.eight.any_odd.Tie as tie
 
 abbrev Inv-loop : tie.InvT-loop
-Inv-loop s at hit₀ k₀ hit k = Hit (isHigh s) at k hit
+Inv-loop s at hit₀ k₀ hit k = Hit (isOdd s) at k hit
 
 abbrev μ-loop : tie.MeasureT-loop
 μ-loop s at hit₀ k₀ hit k = 8 - k
 
 loop-again : tie.Need-loop-again Inv-loop μ-loop
 loop-again c =
-    let l = c .before .before .before .loop in
+    let l = c .before .before .before .before .loop in
     ⊎-elim
-    (λ w. rw (w .1) (one-hit _ _ _ _ (l .inv) (search needs) (high _ _ (search needs))))
-    (λ w. rw (w .1) (not-hit _ _ _ _ (l .inv) (search needs) (low _ _ (search needs))))
+    (λ w. rw (w .1) (one-hit _ _ _ _ (l .inv) (search needs) (sym (c .before .is-odd .ensures) ∙ w .0 .taken)))
+    (λ w. rw (w .1) (not-hit _ _ _ _ (l .inv) (search needs) (sym (c .before .is-odd .ensures) ∙ w .0 .left)))
     (c .if1 .came)
 
 returns : tie.Need-returns Inv-loop μ-loop
 returns c = all-looked _ _ _ _ (c .before .loop .inv) (search needs)
 
-pub any-high-spec : {M : Type 1} → statement M
-any-high-spec =
+pub any-odd-spec : {M : Type 1} → statement M
+any-odd-spec =
     tie.close
     (tie.spec
     Inv-loop
@@ -34,6 +34,7 @@ any-high-spec =
     (λ c. none-hit _ _)
     (λ c. search needs)
     (λ c. search needs)
+    (λ c κs. search needs)
     (λ c. search needs)
     (λ c. search needs)
     loop-again
