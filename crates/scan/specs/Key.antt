@@ -8,9 +8,13 @@ use Rattle.le.specs.Mem.{get}
 abbrev pub kept : List ℕ → ℕ
 kept p = min (length p) 7
 
+-- the ones of k bytes
+abbrev pub ones : ℕ → ℕ
+ones k = 2 ^ (8 * k) - 1
+
 -- the length byte and the bytes kept
 unfoldable pub maskOf : List ℕ → ℕ
-maskOf p = 2 ^ (8 * (kept p + 1)) - 1
+maskOf p = ones (kept p + 1)
 
 unfoldable pub wordOf : List ℕ → ℕ
 wordOf p = length p % 256 + 256 * get (kept p) p (length p - 7)

@@ -1,9 +1,9 @@
 // What is sought in the cells of names: the length and the last seven bytes as one number, and the mask of the bytes that count.
 ghost use mathlib.Core.Path.{_≡_};
-ghost use Prim.Native.Nat.{_+_, _-_, _*_, _^_, _≤_, min};
+ghost use Prim.Native.Nat.{_+_, _≤_};
 ghost use lib.ListN.{length};
 ghost use Rattle.le.specs.Mem.{get};
-ghost use Rattle.scan.specs.Key.{maskOf, wordOf};
+ghost use Rattle.scan.specs.Key.{ones, maskOf, wordOf};
 
 // The cell of a name under its mask.
 pub struct NameKey {
@@ -12,9 +12,9 @@ pub struct NameKey {
 }
 
 // The mask of a cell's first k + 1 bytes.
-fn mask_of(k: usize) -> u64
+pub fn mask_of(k: usize) -> u64
     requires { ⌜ k ≤ 7 ⌝ }
-    ensures { λ r. ⌜ r ≡ 2 ^ (8 * (k + 1)) - 1 ⌝ }
+    ensures { λ r. ⌜ r ≡ ones (k + 1) ⌝ }
 {
     0xffff_ffff_ffff_ffff >> (56 - 8 * k)
 }

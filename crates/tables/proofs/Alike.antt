@@ -14,7 +14,7 @@ use lib.Pow.{pow-add}
 use lib.Dec.{eqb, leb}
 use Rattle.le.specs.Mem.{read, value, get, same, Bytes}
 use Rattle.le.proofs.Lens.{get-add}
-use Rattle.le.proofs.Same.{same-eq, same-words}
+use Rattle.le.proofs.Same.{same-eq, same-words, other-words}
 use Rattle.rules.proofs.Fields.{get-fits}
 use Rattle.rules.specs.Tree.{isChild}
 use Rattle.scan.specs.First.{cellIs, firstOf}
@@ -34,18 +34,33 @@ bytes-bits (suc k) =
     let e : 8 * suc k ≡ 8 * k + 8 = omega arith in
     ap (λ (n : ℕ). 2 ^ n) e ∙ pow-add 2 (8 * k) 8 ∙ ap (λ (n : ℕ). n * 256) (bytes-bits k) ∙ sym (pow-suc 256 k)
 
+-- k bytes are the eight, without those above them
+low-of : (mem : List ℕ) (at k : ℕ) → Bytes mem → k ≤ 8 → get 8 mem at % 2 ^ (8 * k) ≡ get k mem at
+low-of mem at k b h =
+    let e : 8 ≡ k + (8 - k) = omega arith in
+    let whole : get 8 mem at ≡ get (8 - k) mem (at + k) * 256 ^ k + get k mem at =
+    ap (λ (n : ℕ). get n mem at) e ∙ get-add k (8 - k) mem at
+    ∙ add-comm (get k mem at) (256 ^ k * get (8 - k) mem (at + k))
+    ∙ ap (λ (n : ℕ). n + get k mem at) (mul-comm (256 ^ k) (get (8 - k) mem (at + k))) in
+    ap (λ (n : ℕ). get 8 mem at % n) (bytes-bits k) ∙ ap (λ (n : ℕ). n % 256 ^ k) whole ∙ digits-mod (get (8 - k) mem (at + k)) (get-fits k mem at b)
+
 low-bytes : (mem : List ℕ) (at m : ℕ) → Bytes mem → m ≤ 7 → get 8 mem at % 2 ^ (8 * (m + 1)) ≡ get 1 mem at + 256 * get m mem (at + 1)
 low-bytes mem at m b h =
-    let e : 8 ≡ 1 + m + (7 - m) = omega arith in
     let z : m + 1 ≡ 1 + m = omega arith in
-    let whole : get 8 mem at ≡ get (7 - m) mem (at + (1 + m)) * 256 ^ (1 + m) + get (1 + m) mem at =
-    ap (λ (n : ℕ). get n mem at) e ∙ get-add (1 + m) (7 - m) mem at
-    ∙ add-comm (get (1 + m) mem at) (256 ^ (1 + m) * get (7 - m) mem (at + (1 + m)))
-    ∙ ap (λ (n : ℕ). n + get (1 + m) mem at) (mul-comm (256 ^ (1 + m)) (get (7 - m) mem (at + (1 + m)))) in
-    ap (λ (n : ℕ). get 8 mem at % n) (bytes-bits (m + 1) ∙ ap (λ (n : ℕ). 256 ^ n) z)
-    ∙ ap (λ (n : ℕ). n % 256 ^ (1 + m)) whole
-    ∙ digits-mod (get (7 - m) mem (at + (1 + m))) (get-fits (1 + m) mem at b)
-    ∙ get-add 1 m mem at
+    low-of mem at (m + 1) b (omega arith) ∙ ap (λ (n : ℕ). get n mem at) z ∙ get-add 1 m mem at
+
+-- up to eight bytes are compared as one number
+module _ (a b : List ℕ) (p q k : ℕ) (ba : Bytes a) (bb : Bytes b) (h : k ≤ 8) where
+  by-numbers : eqb (get k a p) (get k b q) ≡ same (read a p k) (read b q k)
+  by-numbers = go (eqb (get k a p) (get k b q)) refl
+    where
+      go : (t : Bool) → eqb (get k a p) (get k b q) ≡ t → eqb (get k a p) (get k b q) ≡ same (read a p k) (read b q k)
+      go true e = e ∙ sym (same-words k a b p q ba bb (eqb-true (get k a p) (get k b q) e))
+      go false e = e ∙ sym (other-words k a b p q (eqb-false (get k a p) (get k b q) e))
+
+  pub by-number : (v w j m : ℕ) → v ≡ get 8 a p → w ≡ get 8 b q → m ≡ 2 ^ (8 * (j + 1)) - 1 → j + 1 ≡ k → eqb (bitAnd v m) (bitAnd w m) ≡ same (read a p k) (read b q k)
+  by-number v w j m ev ew em ej =
+      rw (ev, ew, em, ej, and-mask (get 8 a p) (8 * k), and-mask (get 8 b q) (8 * k), low-of a p k ba h, low-of b q k bb h) by-numbers
 
 -- ---- a row and a name
 
@@ -109,6 +124,19 @@ module _ (n : ℕ) (mem : List ℕ) (i : ℕ) (p : List ℕ) (b : Bytes mem) whe
       go true e = absurd (true≢false (sym (like e) ∙ f))
       go false e = and-false (eqb (nodeAt n mem i .above) here)
 
+  -- no row has a name of more than 255 bytes
+  pub too-long : (here : ℕ) → 255 < length p → isChild here p (nodeAt n mem i) ≡ false
+  unfolding isChild
+  too-long here h = rw (other-length n mem i l p refl byte (λ q. omega (arith, q, byte))) (and-false (eqb (nodeAt n mem i .above) here))
+
+  alike-length : cellIs mem (tableAt + 24 * n) (maskOf p) (wordOf p) i ≡ true → length p ≤ 255 → l ≡ length p
+  unfolding cellIs maskOf wordOf
+  alike-length e h =
+      let q : l + 256 * get (min (length p) 7) mem (lastAt n i + 1) ≡ length p % 256 + 256 * get (min (length p) 7) p (length p - 7) =
+      sym (low-bytes mem (lastAt n i) (min (length p) 7) b (omega arith)) ∙ sym (and-mask (get 8 mem (lastAt n i)) (8 * (min (length p) 7 + 1)))
+      ∙ eqb-true (bitAnd (get 8 mem (lastAt n i)) (2 ^ (8 * (min (length p) 7 + 1)) - 1)) (length p % 256 + 256 * get (min (length p) 7) p (length p - 7)) e in
+      omega (arith, q, byte)
+
   -- where the cell is that of the name, the bytes before the last seven decide
   module _ (c : Bytes p) (e : cellIs mem (tableAt + 24 * n) (maskOf p) (wordOf p) i ≡ true) (h : l ≡ length p) where
     last-alike : get (min l 7) mem (lastAt n i + 1) ≡ get (min l 7) p (length p - 7)
@@ -121,7 +149,7 @@ module _ (n : ℕ) (mem : List ℕ) (i : ℕ) (p : List ℕ) (b : Bytes mem) whe
         ∙ (rw (m, few) at (eqb-true (bitAnd (get 8 mem (lastAt n i)) (2 ^ (8 * (min (length p) 7 + 1)) - 1)) (length p % 256 + 256 * get (min (length p) 7) p (length p - 7)) e)) in
         omega (arith, q)
 
-    pub alike-named : same (nodeAt n mem i .called) p ≡ same (read mem (firstAt n i) (l - 7)) (read p 0 (l - 7))
+    alike-named : same (nodeAt n mem i .called) p ≡ same (read mem (firstAt n i) (l - 7)) (read p 0 (l - 7))
     unfolding read same
     alike-named = go (leb l 7) refl
       where
@@ -137,6 +165,10 @@ module _ (n : ℕ) (mem : List ℕ) (i : ℕ) (p : List ℕ) (b : Bytes mem) whe
             let m : min l 7 ≡ 7 = omega arith in
             let z : length p - 7 ≡ l - 7 = omega arith in
             long-same n mem i l p refl byte h many (same-words 7 mem p (lastAt n i + 1) (l - 7) b c (rw (m, z) at last-alike))
+
+  pub alike-start : Bytes p → cellIs mem (tableAt + 24 * n) (maskOf p) (wordOf p) i ≡ true → length p ≤ 255
+      → same (nodeAt n mem i .called) p ≡ same (read mem (firstAt n i) (length p - 7)) (read p 0 (length p - 7))
+  alike-start c e h = let q = alike-length e h in rw q at (alike-named c e q)
 
 -- ---- rows passed over
 

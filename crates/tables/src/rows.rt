@@ -4,6 +4,7 @@ ghost use mathlib.Core.Path.{_≡_};
 ghost use mathlib.Core.Bool.{true};
 ghost use Prim.Native.Nat.{_+_, _-_, _*_, _≤_, _<_, _^_};
 ghost use lib.ListN.{length};
+ghost use Rattle.le.specs.Mem.{read, same};
 ghost use Rattle.scan.specs.First.{cellIs, firstOf};
 ghost use Rattle.scan.specs.Key.{maskOf, wordOf};
 ghost use Rattle.rules.specs.Tree.{isChild, childIn, isKnown, parentIn};
@@ -64,22 +65,37 @@ pub fn next_alike(s: &[u8], from: usize, key: NameKey) -> usize
     scan::cells::find_cell(s, TABLE + 24 * n, from, c, key.mask, key.word)
 }
 
-// Whether row i, whose name's cell is that of the name, is the child of that name: parent, length, and the bytes before the last seven (R45).
+// Whether the bytes of a name before its last seven stand at a place: up to eight are one number.
+fn same_start(s: &[u8], p: usize, name: &[u8]) -> bool
+    requires { ⌜ (p + 248 ≤ length (now s)) × (length (now name) ≤ 255) ⌝ }
+    ensures { λ r. ⌜ r ≡ same (read (now (s .entry)) p (length (now (name .entry)) - 7)) (read (now (name .entry)) 0 (length (now (name .entry)) - 7)) ⌝ }
+{
+    let len = name.len();
+    if len < 8 {
+        return true;
+    }
+    if len < 16 {
+        let mask = scan::names::mask_of(len - 8);
+        return le::fields::get_u64(s, p) & mask == le::fields::get_u64(name, 0) & mask;
+    }
+    le::runs::same_at(s, p, name, 0, len - 7)
+}
+
+// Whether row i, whose name's cell is that of the name, is the child of that name: no row's name is longer than 255 bytes; parent, and the bytes before the last seven (R45).
 pub fn child_alike(s: &[u8], i: usize, here: u64, name: &[u8]) -> bool
     requires { ⌜ Laid (now s) ⌝ }
     requires { ⌜ i < countOf (now s) ⌝ }
     requires { ⌜ cellIs (now s) (tableAt + 24 * capacityOf (now s)) (maskOf (now name)) (wordOf (now name)) i ≡ true ⌝ }
     ensures { λ r. ⌜ r ≡ isChild here (now (name .entry)) (nodeAt (capacityOf (now (s .entry))) (now (s .entry)) i) ⌝ }
 {
+    if 255 < name.len() {
+        return false;
+    }
     if parent(s, i) != here {
         return false;
     }
     let n = crate::header::capacity(s);
-    let len = le::fields::get_u8(s, TABLE + 24 * n + 8 * i) as usize;
-    if len != name.len() {
-        return false;
-    }
-    le::runs::same_at(s, TABLE + 44 * n + 248 * i, name, 0, before_last(len))
+    same_start(s, TABLE + 44 * n + 248 * i, name)
 }
 
 // The first child of that name (R45).
