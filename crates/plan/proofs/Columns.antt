@@ -25,7 +25,7 @@ use Rattle.tables.specs.View.{nodeAt, nodesOf}
 use Rattle.tables.specs.Answer.{placeIn}
 use Rattle.tables.proofs.Tab.{length-tab, tab-next, tab-done, tab-append}
 use Rattle.tables.proofs.Places.{place-first, place-nowhere, nodes-count, nodes-at}
-use Rattle.plan.specs.Plan.{Columns, columns, plannedAt, plannedFrom}
+use Rattle.plan.specs.Plan.{Columns, columns, noted, plannedAt, plannedFrom}
 use Rattle.plan.proofs.Nodes.{node-first, node-second}
 
 -- ---- whether planned node j is the child of a name
@@ -139,8 +139,8 @@ unfolding plannedFrom
 planned-length path next t count = length-tab (plannedAt path next t) 0 count
 
 module _ (path : List ℕ) (next : ℕ) (made starts lens : List ℕ) (c above start len : ℕ) where
-  abbrev pub stored : Columns
-  stored = columns (set made c above) (set starts c start) (set lens c len)
+  abbrev stored : Columns
+  stored = noted (columns made starts lens) c above start len
 
   stored-below : (j : ℕ) → j < c → plannedAt path next stored j ≡ plannedAt path next (columns made starts lens) j
   unfolding plannedAt

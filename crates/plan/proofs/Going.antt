@@ -19,10 +19,10 @@ use Rattle.tables.specs.Layout.{nextOf}
 use Rattle.tables.specs.View.{nodesOf, view}
 use Rattle.tables.specs.Rule.{Laid}
 use Rattle.plan.specs.declared.Planned.the-variants.{Fits, NoRoom}
-use Rattle.plan.specs.Plan.{Columns, columns, plannedFrom, Sized, Within, roomOf, told, Plans}
+use Rattle.plan.specs.Plan.{Columns, columns, noted, plannedFrom, Sized, Within, roomOf, told, Plans}
 use Rattle.plan.proofs.Nodes.{makes-grows, Short, rest-short, first-short, components-short}
 use Rattle.plan.proofs.Spare.{planned-is, fits, lacks}
-use Rattle.plan.proofs.Columns.{planned-length, stored, planned-stored}
+use Rattle.plan.proofs.Columns.{planned-length, planned-stored}
 
 -- ---- the walk
 
@@ -112,7 +112,7 @@ module _ (mem path : List ℕ) where
   -- one node more
   module _ (made starts lens : List ℕ) (count node at : ℕ) (g : Going mem path (columns made starts lens) count node at) (start len on : ℕ) (s : Goes path at (name start (part path start len)) start len on) where
     pub goes-new : none ≡ childIn (nodesOf mem ++ plannedFrom path (nextOf mem) (columns made starts lens) 0 count) node (part path start (on - start))
-        → count < roomOf mem → roomOf mem ≤ 1024 → (x : ℕ) → x ≡ nextOf mem + count → Going mem path (stored path (nextOf mem) made starts lens count node start len) (count + 1) x on
+        → count < roomOf mem → roomOf mem ≤ 1024 → (x : ℕ) → x ≡ nextOf mem + count → Going mem path (noted (columns made starts lens) count node start len) (count + 1) x on
     unfolding makes
     goes-new e l r x q =
         record {

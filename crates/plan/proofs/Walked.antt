@@ -1,24 +1,27 @@
 -- What a caller of the two steps knows: what each answer of the plan says, and what its application leaves. Assumes nothing.
 use mathlib.Core.Path.{_≡_, refl, sym, ap, _∙_, subst}
-use mathlib.Core.Bool.{Bool, true, false, cond}
-use mathlib.Core.List.{List}
+use mathlib.Core.Bool.{Bool, true, false, cond, not}
+use mathlib.Core.List.{List, [], _∷_, append-nil}
 use mathlib.Core.Option.{Option, none, some}
 use Prim.Native.Nat.{ℕ, _+_, _^_, _≤_, _<_}
 use native.Mathlib.Omega.{arith}
 use lib.ListN.{length}
-use Rattle.rules.specs.Path.{tooLong}
-use Rattle.rules.specs.Tree.{Made}
+use lib.Dec.{leb}
+use borrow.Author.Tests.{le-leb}
+use Rattle.rules.specs.Numbers.{rootNumber}
+use Rattle.rules.specs.Path.{Part, name, parent, components, tooLong}
+use Rattle.rules.specs.Tree.{Node, Made, childIn, parentIn, onward, walk, orMake, step, makes}
 use Rattle.rules.specs.Instance.{Tree}
-use Rattle.rules.specs.Mount.{planned, noRoom, ended, walkedTo}
+use Rattle.rules.specs.Mount.{planned, needed, noRoom, ended, walkedTo}
 use Rattle.tables.specs.Layout.{capacityOf, countOf, nextOf}
 use Rattle.tables.specs.View.{view}
-use Rattle.tables.specs.Rule.{laid}
+use Rattle.tables.specs.Rule.{laid, Laid}
 use Rattle.plan.specs.declared.Planned.{Planned}
 use Rattle.plan.specs.declared.Planned.the-variants.{Fits, NoRoom}
-use Rattle.plan.specs.Plan.{Columns, plannedFrom, Within, told, fitting, Plans}
+use Rattle.plan.specs.Plan.{Columns, plannedFrom, Within, roomOf, told, fitting, Plans}
 use Rattle.plan.specs.Apply.{appendAll}
 use Rattle.plan.proofs.Columns.{planned-length}
-use Rattle.plan.proofs.Spare.{view-next, view-count, view-capacity, room-left}
+use Rattle.plan.proofs.Spare.{view-next, view-count, view-capacity, no-room, room-left}
 use Rattle.plan.proofs.Fresh.{planned-fresh}
 use Rattle.plan.proofs.Grows.{Grown, grows}
 
@@ -80,6 +83,31 @@ told-injective path next t u (Fits x j) (Fits y k) e =
 told-injective path next t u (Fits x j) NoRoom e = cc
 told-injective path next t u NoRoom (Fits y k) e = cc
 told-injective path next t u NoRoom NoRoom e = refl
+
+-- ---- the walk finds the whole path
+
+module _ (live : List Node) (next : ℕ) where
+  makes-none : (here x : ℕ) (ps : List Part) → walk live here ps ≡ some x → makes live next (record { nodes = []; here = here }) ps ≡ record { nodes = []; here = x }
+  unfolding walk makes step
+  makes-none here x [] e = let f : here ≡ x = cc in rw f
+  makes-none here x (parent at ∷ ps) e = rw append-nil (makes-none (parentIn live here) x ps e)
+  makes-none here x (name at p ∷ ps) e = rw append-nil (go (childIn live here p) (λ (y : ℕ). makes-none y x ps) e)
+    where
+      go : (o : Option ℕ) → ((y : ℕ) → walk live y ps ≡ some x → makes live next (record { nodes = []; here = y }) ps ≡ record { nodes = []; here = x }) → onward o (λ (y : ℕ). walk live y ps) ≡ some x
+          → makes live next (orMake next (record { nodes = []; here = here }) p o) ps ≡ record { nodes = []; here = x }
+      go none ih f = let z : _≡_ {A = ℕ} 0 1 = cc in absurd (omega arith)
+      go (some y) ih f = ih y f
+
+-- then the mount walk makes nothing, and ends at the same node (R48)
+pub planned-none : (t : Tree) (path : List ℕ) (x : ℕ) → walk (t .nodes) rootNumber (components 0 path) ≡ some x → planned t path ≡ record { nodes = []; here = x }
+unfolding planned
+planned-none t path x e = makes-none (t .nodes) (t .next) rootNumber x (components 0 path) e
+
+-- and there is room for it (R67)
+pub room-none : (mem path : List ℕ) (x : ℕ) → Laid mem → planned (view mem .tree) path ≡ record { nodes = []; here = x } → noRoom (view mem) path ≡ false
+unfolding needed
+room-none mem path x d e =
+    no-room mem path d ∙ ap (λ (m : Made). not (leb (length (m .nodes)) (roomOf mem))) e ∙ ap not (le-leb 0 (roomOf mem) (omega arith))
 
 -- ---- other bytes with the same tree and N
 

@@ -4,7 +4,7 @@ use mathlib.Core.Bool.{cond}
 use mathlib.Core.List.{List}
 use mathlib.Core.Option.{Option, none, some}
 use mathlib.Core.Path.{_≡_}
-use lib.ListN.{length, getD}
+use lib.ListN.{length, getD, set}
 use Rattle.rules.specs.Tree.{Node, Made, bare}
 use Rattle.rules.specs.Instance.{Instance}
 use Rattle.rules.specs.Mount.{planned, noRoom}
@@ -37,6 +37,15 @@ plannedAt path next t j = bare (next + j) (getD (t .made) j 0) (part path (getD 
 -- k planned nodes from the j-th on
 unfoldable pub plannedFrom : List ℕ → ℕ → Columns → ℕ → ℕ → List Node
 plannedFrom path next t j k = tab (plannedAt path next t) j k
+
+-- one planned node more, behind c others
+abbrev pub noted : Columns → ℕ → ℕ → ℕ → ℕ → Columns
+noted t c above start len = columns (set (t .made) c above) (set (t .starts) c start) (set (t .lens) c len)
+
+-- and its number (R49)
+pub record Notes (mem : List ℕ) (t : Columns) (c above start len r : ℕ) (after : Columns) : Type 0 where
+  pub number : r ≡ nextOf mem + c
+  pub cells : after ≡ noted t c above start len
 
 -- the names of the first k stand within the path
 abbrev pub Within : List ℕ → Columns → ℕ → Type 0

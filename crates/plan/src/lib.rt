@@ -14,7 +14,7 @@ ghost use Rattle.tables.specs.Layout.{capacityOf, countOf, nextOf};
 ghost use Rattle.tables.specs.View.{nodesOf};
 ghost use Rattle.tables.specs.Rule.{Laid};
 ghost use Rattle.tables.specs.Answer.{foundIn};
-ghost use Rattle.plan.specs.Plan.{columns, plannedAt, plannedFrom, Sized, Within, roomOf, Plans};
+ghost use Rattle.plan.specs.Plan.{columns, plannedAt, plannedFrom, Notes, Sized, Within, roomOf, Plans};
 ghost use Rattle.plan.specs.Apply.{appendAll};
 
 // There is room: the node where the path ends, and how many nodes are to be made. Or there is none.
@@ -157,6 +157,27 @@ fn up(s: &[u8], made: &[u64; 1024], count: usize, x: u64) -> u64
     rules::ROOT_ID
 }
 
+// One node more is planned, behind count others: its cells are written, and it answers its number (R49).
+fn note(
+    s: &[u8],
+    made: &mut [u64; 1024],
+    starts: &mut [u16; 1024],
+    lens: &mut [u8; 1024],
+    count: usize,
+    above: u64,
+    start: usize,
+    len: usize,
+) -> u64
+    requires { ⌜ Laid (now s) ⌝ }
+    requires { ⌜ (count < 1024) × (start < 65536) × (len < 256) ⌝ }
+    ensures { λ r. ⌜ Notes (now (s .entry)) (columns (now (made .entry)) (now (starts .entry)) (now (lens .entry))) count above start len r (columns (now (made .exit)) (now (starts .exit)) (now (lens .exit))) ⌝ }
+{
+    made[count] = above;
+    starts[count] = start as u16;
+    lens[count] = len as u8;
+    tables::header::next(s) + count as u64
+}
+
 // Which nodes the mount walk makes, and where it ends; exactly where they exceed the room, that there is none (R48, R50, R67).
 pub fn plan_mount(
     s: &[u8],
@@ -171,36 +192,28 @@ pub fn plan_mount(
     ensures { λ r. ⌜ Plans (now (s .entry)) (now (path .entry)) (columns (now (made .exit)) (now (starts .exit)) (now (lens .exit))) r ⌝ }
 {
     let most = room(s);
-    let next = tables::header::next(s);
     let mut count: usize = 0;
     let mut node = rules::ROOT_ID;
     let mut at: usize = 0;
     loop {
         match path::components::next_component(path, at) {
             Component::End => return Planned::Fits { node, count },
-            Component::Parent { next: on, .. } => {
+            Component::Parent { next, .. } => {
                 node = up(s, made, count, node);
-                at = on;
+                at = next;
             }
-            Component::Name {
-                start,
-                len,
-                next: on,
-            } => {
-                match find(s, path, made, starts, lens, count, node, &path[start..on]) {
+            Component::Name { start, len, next } => {
+                match find(s, path, made, starts, lens, count, node, &path[start..next]) {
                     Found::Node(x) => node = x,
                     Found::Nothing => {
                         if count == most {
                             return Planned::NoRoom;
                         }
-                        made[count] = node;
-                        starts[count] = start as u16;
-                        lens[count] = len as u8;
-                        node = next + count as u64;
+                        node = note(s, made, starts, lens, count, node, start, len);
                         count += 1;
                     }
                 }
-                at = on;
+                at = next;
             }
         }
     }
