@@ -2,7 +2,8 @@
 pub mod UnmountWays
 pub mod MountWays
 pub mod PlanWays
+pub mod FirstRows
 pub mod MountCalls
-pub mod RestoreWays
+pub mod RestoreCalls
 pub mod Answers
 pub mod Runs

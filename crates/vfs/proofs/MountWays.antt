@@ -1,34 +1,31 @@
--- What each way through a mount gives, from the allocation on. Assumes nothing.
-use mathlib.Core.Path.{_≡_, refl, sym, ap, _∙_, subst}
-use mathlib.Core.Bool.{Bool, true, false, cond, not, _||_}
-use mathlib.Core.List.{List, [], _∷_}
-use mathlib.Core.Option.{Option, none, some}
+-- What the parts of a mount give: rows 7 and 8, the search, and rows 5 and 6. Assumes nothing.
+use mathlib.Core.Path.{_≡_, refl, sym, ap, _∙_}
+use mathlib.Core.Bool.{true, false}
+use mathlib.Core.List.{List, []}
+use mathlib.Core.Option.{Option, some}
 use Prim.Native.Nat.{ℕ, _^_, _≤_, _<_}
 use native.Mathlib.Omega.{arith}
-use lib.ListN.{length}
 use lib.Dec.{ltb}
-use borrow.Author.Tests.{not-true, not-false, lt-ltb, le-ltb}
+use borrow.Author.Tests.{lt-ltb, le-ltb}
 use Rattle.rules.specs.Numbers.{maxIno, DONE, INODE}
 use Rattle.rules.specs.Bytes.{Bytes}
-use Rattle.rules.specs.Round.{Allocation, allocate}
+use Rattle.rules.specs.Round.{allocate}
 use Rattle.rules.specs.Tree.{Mount}
-use Rattle.rules.specs.Instance.{Instance, mountOf, tagOf, heldIn, counterOf, withCounter}
-use Rattle.rules.specs.Outcome.{mounted}
-use Rattle.rules.specs.Mount.{Request, freed, mountOn, tagAt, placed, allocation, stepped}
+use Rattle.rules.specs.Instance.{mountOf, tagOf, heldIn, counterOf, withCounter}
+use Rattle.rules.specs.Outcome.{Answer, mounted, restored}
+use Rattle.rules.specs.Mount.{Request, freed, mountOn, tagAt, allocation}
 use Rattle.le.specs.Mem.{get}
 use Rattle.rules.proofs.Fields.{get-fits}
 use Rattle.rules.proofs.Allocation.{exact}
-use Rattle.index.specs.Search.{Told as FoundTold, readOf, told as toldFound, foundOf, codeOf}
-use Rattle.index.specs.declared.FsIndex.{FsIndex}
+use Rattle.index.specs.Search.{readOf, told as toldFound, foundOf}
 use Rattle.index.specs.declared.FsIndex.the-variants.{Index, Full as IndexFull}
 use Rattle.index.specs.declared.Allocated.{Allocated}
 use Rattle.tables.specs.Layout.{counterAt}
 use Rattle.tables.specs.Table.{row}
-use Rattle.tables.specs.View.{slotAt, view}
+use Rattle.tables.specs.View.{view}
 use Rattle.tables.specs.Rule.{laid}
 use Rattle.tables.specs.Write.{setCounter}
 use Rattle.tables.specs.Answer.{tagIn, heldAt, mountOfPoint}
-use Rattle.tables.specs.Call.{Told}
 use Rattle.tables.proofs.Indexes.{allocate-same}
 use Rattle.tables.proofs.Refine.{MountFits, view-counter}
 use Rattle.tables.proofs.Keeps.{keeps-counter}
@@ -36,37 +33,66 @@ use Rattle.placing.specs.Place.{placeMem, Places}
 use Rattle.placing.specs.declared.Tags.{Tags}
 use Rattle.placing.proofs.Stands.{long, slot-of, view-placed, keeps-placed}
 use Rattle.tables.specs.declared.mounts.MountPoint.{MountPoint}
-use Rattle.vfs.specs.Mounting.{requestOf, counted, mountedTold, allocMem, finishMem, placedOf, Finishes, byFound, Unrooted}
+use Rattle.vfs.specs.Mounting.{requestOf, counted, mountedTold, allocMem, finishMem, Finishes, EndsAt, MountsAt, Allocates, byFound, Unrooted}
+use Rattle.vfs.specs.Restoring.{restoredTold, RestoresAt}
 use Rattle.vfs.specs.declared.backend.Backend.{Backend}
 use Rattle.vfs.specs.declared.mounting.Mounted.{Mounted}
-use Rattle.vfs.specs.declared.mounting.Mounted.the-variants.{Inval, Full}
-use Rattle.vfs.specs.declared.inner.Placed.{Placed}
-use Rattle.vfs.specs.declared.inner.Placed.the-variants.{Done as Placed-Done, TooLarge}
+use Rattle.vfs.specs.declared.mounting.Mounted.the-variants.{Done as Mounted-Done, Inval, Inode, Full}
+use Rattle.vfs.specs.declared.restoring.Restored.the-variants.{Done as Restored-Done, Inode as Restored-Inode}
 
--- ---- rows 7 and 8
+-- ---- row 8, by the placing
 
 module _ (mem : List ℕ) (k x : ℕ) (b : Backend) (l : laid mem ≡ true) where
-  pub too-big : maxIno < b .root .0 → Finishes mem k x b TooLarge mem
-  unfolding placedOf finishMem
-  too-big h =
-      let e : ltb maxIno (b .root .0) ≡ true = lt-ltb maxIno (b .root .0) h in
-      record { tags = rw e; bytes = rw e; stands = rw e; keeps = l }
-
   pub places-it : (b .root .0 ≤ maxIno) → 1 ≤ k → k < 256 → b .tag < 2 ^ 32 → b .uid < 2 ^ 32 → b .gid < 2 ^ 32 → b .mode < 2 ^ 32 → (m : MountPoint) → mountOfPoint m ≡ mountOn k (requestOf [] b)
-      → (t : Tags) (after : List ℕ) → Places mem (mountOfPoint m) (b .tag) x t after → Finishes mem k x b (Placed-Done (t .replaced) (t .displaced)) after
-  unfolding placedOf finishMem
+      → (t : Tags) (after : List ℕ) → Places mem (mountOfPoint m) (b .tag) x t after → Finishes mem k x b t after
   places-it h a c g u v w m q t after p =
-      let e : ltb maxIno (b .root .0) ≡ false = le-ltb maxIno (b .root .0) h in
       let r : Request = requestOf [] b in
       let f : MountFits (mountOn k r) = record { index = a; few = omega arith; root = omega arith; uid = u; gid = v; mode = w } in
       let z : after ≡ placeMem (mountOn k r) (r .tag) x mem = p .bytes ∙ ap (λ (y : Mount). placeMem y (b .tag) x mem) q in
-      let d : tagIn (t .displaced) ≡ tagOf (freed (mountOf (view mem .tree) x) (view mem)) k = p .displaced ∙ ap (λ (y : Mount). tagOf (freed (mountOf (view mem .tree) x) (view mem)) (y .index)) q in
       record {
-        tags = rw e (λ i. some (p .replaced i, d i));
-        bytes = rw e z;
-        stands = rw e (ap view z ∙ view-placed mem l k r x f g (p .within));
+        replaced = p .replaced;
+        displaced = p .displaced ∙ ap (λ (y : Mount). tagOf (freed (mountOf (view mem .tree) x) (view mem)) (y .index)) q;
+        bytes = z;
+        stands = ap view z ∙ view-placed mem l k r x f g (p .within);
         keeps = ap laid z ∙ keeps-placed mem l k r x f g (p .within);
       }
+
+  -- rows 7 and 8 as they are told
+  large-told : maxIno < b .root .0 → (v : Answer) (n : ℕ) → EndsAt mem k x b v n (counted INODE n) mem
+  unfolding finishMem
+  large-told h v n =
+      let e : ltb maxIno (b .root .0) ≡ true = lt-ltb maxIno (b .root .0) h in
+      record { told = rw e; bytes = rw e; stands = rw e; keeps = l }
+
+  pub large-mounted : maxIno < b .root .0 → (n : ℕ) → MountsAt mem k n x b (Inode n) mem
+  unfolding mountedTold
+  large-mounted h n = large-told h _ n
+
+  pub large-restored : maxIno < b .root .0 → RestoresAt mem k x b Restored-Inode mem
+  unfolding restoredTold
+  large-restored h = large-told h _ 0
+
+module _ (mem : List ℕ) (k x : ℕ) (b : Backend) (low : b .root .0 ≤ maxIno) (r : Tags) (after : List ℕ) (f : Finishes mem k x b r after) where
+  placed-told : (values : Option ℕ → Option ℕ → Answer) (n : ℕ)
+      → EndsAt mem k x b (values (tagAt (mountOf (view mem .tree) x) (view mem)) (tagOf (freed (mountOf (view mem .tree) x) (view mem)) k)) n
+      (record { code = DONE; answer = values (tagIn (r .replaced)) (tagIn (r .displaced)); count = n }) after
+  unfolding finishMem
+  placed-told values n =
+      let e : ltb maxIno (b .root .0) ≡ false = le-ltb maxIno (b .root .0) low in
+      record {
+        told = rw e (λ i. record { code = DONE; answer = values (f .replaced i) (f .displaced i); count = n });
+        bytes = rw e (f .bytes);
+        stands = rw e (f .stands);
+        keeps = f .keeps;
+      }
+
+  pub placed-mounted : (n : ℕ) → MountsAt mem k n x b (Mounted-Done k n (r .replaced)) after
+  unfolding mountedTold
+  placed-mounted n = placed-told (λ (u v : Option ℕ). mounted k u) n
+
+  pub placed-restored : RestoresAt mem k x b (Restored-Done (r .replaced) (r .displaced)) after
+  unfolding restoredTold
+  placed-restored = placed-told (λ (u v : Option ℕ). restored u v) 0
 
 -- ---- the counter of the view
 
@@ -81,50 +107,41 @@ module _ (mem : List ℕ) (l : laid mem ≡ true) (bytes : Bytes mem) where
   unfolding view row get
   counter-is = refl
 
-  pub allocation-is : allocation (view mem) ≡ allocate (heldAt mem) (counterAt mem)
+  allocation-is : allocation (view mem) ≡ allocate (heldAt mem) (counterAt mem)
   unfolding allocation
   allocation-is =
       ap (allocate (heldIn (view mem))) counter-is
       ∙ allocate-same (heldIn (view mem)) (heldAt mem) (λ k h. ap (λ s. s .held) (slot-of mem k h)) (counterAt mem) (get-fits 1 mem 81 bytes)
 
-  pub index-up : (k : ℕ) → allocation (view mem) .found ≡ some k → 1 ≤ k
+  index-up : (k : ℕ) → allocation (view mem) .found ≡ some k → 1 ≤ k
   unfolding allocation
   index-up k e = exact (heldIn (view mem)) (counterOf (view mem)) (counter-in mem bytes) .handed-out k .0 e .1 .least
 
-  -- rows 5 and 6 of a path without leading slash
-  module _ (a : Allocated) (h : readOf a ≡ toldFound (allocate (heldAt mem) (counterAt mem))) (after : List ℕ) (w : after ≡ setCounter (a .«next_super») mem) (low : a .«next_super» < 256) where
-    as-told : readOf a ≡ toldFound (allocation (view mem))
-    as-told = h ∙ ap toldFound (sym allocation-is)
+  pub allocates : (a : Allocated) → readOf a ≡ toldFound (allocate (heldAt mem) (counterAt mem)) → (after : List ℕ) → after ≡ setCounter (a .«next_super») mem → a .«next_super» < 256 → Allocates mem a after
+  unfolding readOf toldFound foundOf allocMem
+  allocates a h after w low =
+      let as-told : readOf a ≡ toldFound (allocation (view mem)) = h ∙ ap toldFound (sym allocation-is) in
+      let found : foundOf (a .answer) ≡ allocation (view mem) .found = ap (λ t. t .found) as-told in
+      let moved : a .«next_super» ≡ allocation (view mem) .counter = ap (λ t. t .counter) as-told in
+      record {
+        found = found;
+        least = λ k e. index-up k (sym found ∙ ap foundOf e);
+        visited = ap (λ t. t .count) as-told;
+        bytes = w ∙ ap (λ c. setCounter c mem) moved;
+        stands = ap view w ∙ view-counter (a .«next_super») mem low (omega (arith, long mem l)) ∙ ap (λ c. withCounter c (view mem)) moved;
+        keeps = ap laid w ∙ keeps-counter mem l (a .«next_super»);
+      }
 
-    pub visited : a .count ≡ length (allocation (view mem) .visits)
-    unfolding readOf toldFound
-    visited = ap (λ t. t .count) as-told
+-- ---- rows 5 and 6 of a path without leading slash
 
-    moved : a .«next_super» ≡ allocation (view mem) .counter
-    unfolding readOf toldFound
-    moved = ap (λ t. t .counter) as-told
+module _ (mem : List ℕ) (a : Allocated) (after : List ℕ) (g : Allocates mem a after) where
+  moves : (r : Mounted) → mountedTold r ≡ counted (byFound (foundOf (a .answer))) (a .count) → Unrooted mem r after
+  moves r t = record { told = t ∙ (λ i. counted (byFound (g .found i)) (g .visited i)); bytes = g .bytes; stands = g .stands; keeps = g .keeps }
 
-    pub found : foundOf (a .answer) ≡ allocation (view mem) .found
-    unfolding readOf toldFound
-    found = ap (λ t. t .found) as-told
+  pub no-slash : (k : ℕ) → a .answer ≡ Index k → Unrooted mem (Inval (a .count)) after
+  unfolding mountedTold foundOf
+  no-slash k e = moves (Inval (a .count)) (rw e)
 
-    pub moved-bytes : after ≡ allocMem mem
-    unfolding allocMem
-    moved-bytes = w ∙ ap (λ c. setCounter c mem) moved
-
-    pub moved-view : view after ≡ stepped (view mem)
-    moved-view = ap view w ∙ view-counter (a .«next_super») mem low (omega (arith, long mem l)) ∙ ap (λ c. withCounter c (view mem)) moved
-
-    pub moved-laid : laid after ≡ true
-    moved-laid = ap laid w ∙ keeps-counter mem l (a .«next_super»)
-
-    moves : (r : Mounted) → mountedTold r ≡ counted (byFound (foundOf (a .answer))) (a .count) → Unrooted mem r after
-    moves r t = record { told = t ∙ (λ i. counted (byFound (found i)) (visited i)); bytes = moved-bytes; stands = moved-view; keeps = moved-laid }
-
-    pub no-slash : (k : ℕ) → a .answer ≡ Index k → Unrooted mem (Inval (a .count)) after
-    unfolding mountedTold foundOf
-    no-slash k e = moves (Inval (a .count)) (rw e)
-
-    pub all-held : a .answer ≡ IndexFull → Unrooted mem (Full (a .count)) after
-    unfolding mountedTold foundOf
-    all-held e = moves (Full (a .count)) (rw e)
+  pub all-held : a .answer ≡ IndexFull → Unrooted mem (Full (a .count)) after
+  unfolding mountedTold foundOf
+  all-held e = moves (Full (a .count)) (rw e)

@@ -1,213 +1,192 @@
--- What each way through the mount of a path with leading slash gives, and the application of its plan. Assumes nothing.
-use mathlib.Core.Path.{_≡_, refl, sym, ap, _∙_, subst}
+-- What each way through the mounts of a path with leading slash gives: the nodes of the path found or made, and the rows from 4 on. Assumes nothing.
+use mathlib.Core.Path.{_≡_, refl, sym, ap, _∙_}
 use mathlib.Core.Bool.{Bool, true, false, cond, not}
 use mathlib.Core.List.{List, []}
-use mathlib.Core.Option.{Option, none, some, Option·none-ne-some, Option·some-injective}
+use mathlib.Core.Option.{Option, none, some}
 use Prim.Native.Nat.{ℕ, _+_, _^_, _≤_, _<_}
-use native.Mathlib.Omega.{arith}
-use lib.ListN.{length}
 use lib.Dec.{ltb}
-use Rattle.rules.specs.Numbers.{maxIno, DONE, INVAL, INODE, NOROOM}
-use Rattle.rules.specs.Bytes.{Bytes}
+use Rattle.rules.specs.Numbers.{maxIno, DONE, INVAL, INODE, FULL, NOROOM}
 use Rattle.rules.specs.Path.{rooted, tooLong}
-use Rattle.rules.specs.Round.{Allocation, allocate}
-use Rattle.rules.specs.Tree.{Mount}
-use Rattle.rules.specs.Instance.{Instance, mountOf, tagOf, withCounter}
-use Rattle.rules.specs.Outcome.{Outcome, nothing, mounted, refused, firstOf}
-use Rattle.rules.specs.Mount.{Request, planned, noRoom, ended, walkedTo, mountThere, tagAt, placed, allocation, stepped, allocated, mountAs}
-use Rattle.index.specs.Search.{readOf, told as toldFound, foundOf}
+use Rattle.rules.specs.Tree.{Mount, Made}
+use Rattle.rules.specs.Instance.{Instance, mountOf, tagOf}
+use Rattle.rules.specs.Outcome.{Answer, Outcome, nothing, mounted, restored, refused, says, firstOf}
+use Rattle.rules.specs.Mount.{Request, planned, noRoom, ended, walkedTo, mountThere, freed, tagAt, placed, allocation, stepped, allocated, mountAs}
+use Rattle.rules.specs.Unmount.{reached}
+use Rattle.index.specs.Search.{foundOf}
 use Rattle.index.specs.declared.FsIndex.the-variants.{Index, Full as IndexFull}
 use Rattle.index.specs.declared.Allocated.{Allocated}
-use Rattle.tables.specs.Layout.{counterAt, nextOf, countOf, capacityOf}
+use Rattle.tables.specs.Layout.{nextOf, countOf, capacityOf}
 use Rattle.tables.specs.View.{view}
 use Rattle.tables.specs.Rule.{laid, Laid}
-use Rattle.tables.specs.Write.{setCounter}
-use Rattle.tables.specs.Answer.{heldAt, tagIn}
-use Rattle.tables.specs.declared.slots.Tag.{Tag}
 use Rattle.tables.specs.Call.{Told, toldBy}
-use Rattle.tables.proofs.Refine.{view-counter}
-use Rattle.tables.proofs.Keeps.{laid-is, keeps-counter}
-use Rattle.placing.proofs.Stands.{long}
-use Rattle.plan.specs.Plan.{Columns, plannedFrom, Within, told as toldPlan, fitting, Plans}
+use Rattle.tables.proofs.Keeps.{laid-is}
+use Rattle.plan.specs.Plan.{Columns, plannedFrom, Within, Plans}
 use Rattle.plan.specs.Apply.{appendAll}
 use Rattle.plan.specs.declared.Planned.{Planned}
 use Rattle.plan.specs.declared.Planned.the-variants.{Fits, NoRoom as PlanNoRoom}
-use Rattle.plan.proofs.Walked.{Fitted, fitted, refused as refused-plan, fitted-over, view-walked, keeps-walked}
-use Rattle.vfs.specs.Mounting.{requestOf, counted, mountedTold, allocMem, finishMem, walkMem, plannedMem, foundMem, rootedMem, rootedRule, placedOf, Finishes, Grows, Follows}
+use Rattle.plan.proofs.Walked.{Fitted, fitted, refused as refused-plan, planned-none, room-none, fitted-over, view-walked, keeps-walked}
+use Rattle.vfs.specs.Mounting.{requestOf, counted, mountedTold, finishMem, walkMem, plannedMem, foundMem, rootedMem, rootedRule, EndsAt, MountsAt, Allocates, Follows}
+use Rattle.vfs.specs.Restoring.{restoredTold, restoredRule, restoredMem, RestoresAt}
 use Rattle.vfs.specs.declared.backend.Backend.{Backend}
 use Rattle.vfs.specs.declared.mounting.Mounted.{Mounted}
-use Rattle.vfs.specs.declared.mounting.Mounted.the-variants.{Done as Mounted-Done, Inode, NoRoom, Full}
-use Rattle.vfs.specs.declared.inner.Placed.{Placed}
-use Rattle.vfs.specs.declared.inner.Placed.the-variants.{Done as Placed-Done, TooLarge}
-use Rattle.vfs.proofs.MountWays.{allocation-is, index-up, visited, found, moved-bytes, moved-view}
+use Rattle.vfs.specs.declared.mounting.Mounted.the-variants.{NoRoom, Full}
+use Rattle.vfs.specs.declared.restoring.Restored.{Restored}
+use Rattle.vfs.specs.declared.restoring.Restored.the-variants.{NoRoom as Restored-NoRoom}
 
--- ---- the application
+-- ---- the nodes of the path: m has them all, and the path ends at x
 
-module _ (mem path : List ℕ) (l : laid mem ≡ true) (s : tooLong path ≡ false) (t : Columns) (node nodes : ℕ) (p : Plans mem path t (Fits node nodes)) where
-  fits : Fitted mem path t node nodes
-  fits = fitted mem path t p refl
+pub record Leads (mem path m : List ℕ) (x : ℕ) : Type 0 where
+  pub room : noRoom (view mem) path ≡ false
+  pub made : m ≡ walkMem path mem
+  pub ends : x ≡ ended (view mem) path
 
-  pub applies : Laid mem × (((countOf mem + nodes < capacityOf mem) × (nextOf mem + nodes ≤ 2 ^ 56)) × Within path t nodes)
-  applies = (laid-is mem l, ((fits .rows, fits .numbers), fits .named))
+module _ (mem path : List ℕ) (l : laid mem ≡ true) where
+  -- the walk finds them
+  pub found-leads : (x : ℕ) → reached (view mem) path ≡ some x → Leads mem path mem x
+  unfolding reached walkMem appendAll
+  found-leads x e =
+      let p : planned (view mem .tree) path ≡ record { nodes = []; here = x } = planned-none (view mem .tree) path x e in
+      record { room = room-none mem path x (laid-is mem l) p; made = sym (ap (λ (q : Made). appendAll (q .nodes) mem) p); ends = sym (ap (λ (q : Made). q .here) p) }
 
-  module _ (mid : List ℕ) (e : mid ≡ appendAll (plannedFrom path (nextOf mem) t 0 nodes) mem) where
-    walk-made : mid ≡ walkMem path mem
+  -- the plan has those that are missing
+  module _ (t : Columns) (node nodes : ℕ) (f : Fitted mem path t node nodes) where
+    pub applies : Laid mem × (((countOf mem + nodes < capacityOf mem) × (nextOf mem + nodes ≤ 2 ^ 56)) × Within path t nodes)
+    applies = (laid-is mem l, ((f .rows, f .numbers), f .named))
+
+    pub plan-leads : (m : List ℕ) → m ≡ appendAll (plannedFrom path (nextOf mem) t 0 nodes) mem → Leads mem path m node
     unfolding walkMem
-    walk-made = e ∙ ap (λ ns. appendAll ns mem) (fits .nodes)
+    plan-leads m e = record { room = f .room; made = e ∙ ap (λ ns. appendAll ns mem) (f .nodes); ends = f .ends }
 
-    pub walk-laid : laid mid ≡ true
+  module _ (s : tooLong path ≡ false) (m : List ℕ) (x : ℕ) (g : Leads mem path m x) where
+    pub leads-laid : laid m ≡ true
     unfolding walkMem
-    walk-laid = ap laid walk-made ∙ keeps-walked mem path l s (fits .room)
+    leads-laid = ap laid (g .made) ∙ keeps-walked mem path l s (g .room)
 
-    pub grows : (k : ℕ) (b : Backend) (r : Placed) (after : List ℕ) → Finishes mid k node b r after → Grows mem path k b r after
-    grows k b r after f = subst (λ m. Finishes m k (ended (view mem) path) b r after) walk-made (subst (λ x. Finishes mid k x b r after) (fits .ends) f)
+    leads-view : view m ≡ walkedTo path (view mem)
+    unfolding walkMem
+    leads-view = ap view (g .made) ∙ view-walked mem path l s (g .room)
 
--- ---- the rows from 4 on
+    leads-bytes : (k : ℕ) (b : Backend) → finishMem k (requestOf [] b) x m ≡ plannedMem k (requestOf path b) mem
+    unfolding plannedMem finishMem
+    leads-bytes k b = λ i. finishMem k (requestOf [] b) (g .ends i) (g .made i)
 
-pub mid-laid : (mem : List ℕ) → laid mem ≡ true → (x : ℕ) (mid : List ℕ) → mid ≡ setCounter x mem → laid mid ≡ true
-mid-laid mem l x mid w = ap laid w ∙ keeps-counter mem l x
+-- the search changes nothing of the tree
+module _ (mem path : List ℕ) (a : Allocated) (mid : List ℕ) (g : Allocates mem a mid) where
+  pub again : (t : Columns) (q : Planned) → Plans mem path t q → (node nodes : ℕ) → q ≡ Fits node nodes → Fitted mid path t node nodes
+  again t q p node nodes e = fitted-over mem mid path t node nodes (λ i. g .stands i .tree) (λ i. g .stands i .fixed .capacity) (fitted mem path t p e)
 
--- the tag of an index is not of the tree or the counter
-tag-same : (m : Option Mount) (path : List ℕ) (i : Instance) → tagAt m (walkedTo path (stepped i)) ≡ tagAt m i
+  pub again-found : (x : ℕ) → reached (view mem) path ≡ some x → Leads mid path mid x
+  unfolding reached
+  again-found x e = found-leads mid path (g .keeps) x (ap (λ i. reached i path) (g .stands) ∙ e)
+
+-- ---- rows 7 and 8, told by the rule's outcomes
+
+ends-follow : (m : List ℕ) (k x : ℕ) (b : Backend) (v : Answer) (n : ℕ) (t : Told) (after : List ℕ) → EndsAt m k x b v n t after → (o big done : Outcome) (exact : List ℕ)
+    → o ≡ cond (ltb maxIno (b .root .0)) big done → toldBy big ≡ counted INODE n → toldBy done ≡ record { code = DONE; answer = v; count = n }
+    → big .after ≡ view m → done .after ≡ placed k (requestOf [] b) x (view m) → finishMem k (requestOf [] b) x m ≡ exact → Follows o exact t after
+ends-follow m k x b v n t after s o big done exact rule tb td ab ad e = go (ltb maxIno (b .root .0)) rule (s .told) (s .stands)
+  where
+    go : (c : Bool) → o ≡ cond c big done → t ≡ cond c (counted INODE n) (record { code = DONE; answer = v; count = n }) → view after ≡ cond c (view m) (placed k (requestOf [] b) x (view m)) → Follows o exact t after
+    go true r u w = record { told = u ∙ sym tb ∙ sym (ap toldBy r); bytes = s .bytes ∙ e; stands = w ∙ sym ab ∙ sym (λ i. r i .after); keeps = s .keeps }
+    go false r u w = record { told = u ∙ sym td ∙ sym (ap toldBy r); bytes = s .bytes ∙ e; stands = w ∙ sym ad ∙ sym (λ i. r i .after); keeps = s .keeps }
+
+-- tags are of the slots alone
+tag-kept : (m : Option Mount) (i j : Instance) → i .indexes .slots ≡ j .indexes .slots → tagAt m i ≡ tagAt m j
 unfolding tagAt
-tag-same none path i = refl
-tag-same (some m) path i = refl
+tag-kept none i j e = refl
+tag-kept (some m) i j e = rw e
 
--- what the tags tell of the test of the root number
-pub large-by : (c : Bool) (r : Placed) (v : Option ℕ × Option ℕ) → r ≡ TooLarge → placedOf r ≡ cond c none (some v) → c ≡ true
-unfolding placedOf
-large-by true r v e f = refl
-large-by false r v e f = let z : none ≡ some v = sym (ap placedOf e) ∙ f in absurd (Option·none-ne-some v z)
+freed-kept : (m : Option Mount) (i j : Instance) (k : ℕ) → i .indexes .slots ≡ j .indexes .slots → tagOf (freed m i) k ≡ tagOf (freed m j) k
+unfolding freed
+freed-kept none i j k e = rw e
+freed-kept (some m) i j k e = rw e
 
-pub record PlacedBy (c : Bool) (t d : Tag) (a b : Option ℕ) : Type 0 where
-  pub is : c ≡ false
-  pub replaced : tagIn t ≡ a
-  pub displaced : tagIn d ≡ b
+-- ---- mount
 
-pub placed-by : (c : Bool) (r : Placed) (t d : Tag) (a b : Option ℕ) → r ≡ Placed-Done t d → placedOf r ≡ cond c none (some (a, b)) → PlacedBy c t d a b
-unfolding placedOf
-placed-by true r t d a b e f =
-    let v : Option ℕ × Option ℕ = (tagIn t, tagIn d) in
-    let z : some v ≡ none = sym (ap placedOf e) ∙ f in
-    absurd (Option·none-ne-some v (sym z))
-placed-by false r t d a b e f =
-    let v : Option ℕ × Option ℕ = (tagIn t, tagIn d) in
-    let u : Option ℕ × Option ℕ = (a, b) in
-    let z : some v ≡ some u = sym (ap placedOf e) ∙ f in
-    let y : v ≡ u = Option·some-injective v u z in
-    record { is = refl; replaced = λ i. y i .0; displaced = λ i. y i .1 }
+module _ (mem path : List ℕ) (b : Backend) where
+  abbrev R : Request
+  R = requestOf path b
 
-module _ (mem path : List ℕ) (l : laid mem ≡ true) (s : tooLong path ≡ false) (t : Columns) (q : Planned) (p : Plans mem path t q) where
-  abbrev Ends : Backend → Mounted → List ℕ → Type 0
-  Ends b r after = Follows (rootedRule (view mem) (requestOf path b)) (rootedMem (requestOf path b) mem) (mountedTold r) after
+  abbrev Ends : Mounted → List ℕ → Type 0
+  Ends r after = Follows (rootedRule (view mem) R) (rootedMem R mem) (mountedTold r) after
 
-  pub no-room-way : (b : Backend) → q ≡ PlanNoRoom → Ends b NoRoom mem
+  pub no-room-way : laid mem ≡ true → (t : Columns) (q : Planned) → Plans mem path t q → q ≡ PlanNoRoom → Ends NoRoom mem
   unfolding rootedMem mountedTold
-  no-room-way b e =
+  no-room-way l t q p e =
       let z : noRoom (view mem) path ≡ true = refused-plan mem path t p e in
       record { told = rw z; bytes = rw z; stands = rw z; keeps = l }
 
-  fit : (node nodes : ℕ) → q ≡ Fits node nodes → Fitted mem path t node nodes
-  fit node nodes e = fitted mem path t p e
+  module _ (a : Allocated) (mid : List ℕ) (g : Allocates mem a mid) where
+    module _ (room : noRoom (view mem) path ≡ false) where
+      pub full-way : a .answer ≡ IndexFull → Ends (Full (a .count)) mid
+      unfolding rootedMem mountedTold foundMem foundOf mountAs
+      full-way f =
+          let z : allocation (view mem) .found ≡ none = sym (g .found) ∙ ap foundOf f in
+          record { told = rw (room, z) (ap (counted FULL) (g .visited)); bytes = rw (room, z) (g .bytes); stands = rw (room, z) (g .stands); keeps = g .keeps }
 
-  -- the plan stands whatever the counter is
-  module _ (node nodes : ℕ) (e : q ≡ Fits node nodes) (x : ℕ) (mid : List ℕ) (w : mid ≡ setCounter x mem) (low : x < 256) where
-    counted-view : view mid ≡ withCounter x (view mem)
-    counted-view = ap view w ∙ view-counter x mem low (omega (arith, long mem l))
+      module _ (on : rooted path ≡ true) (k : ℕ) (f : a .answer ≡ Index k) where
+        got : allocation (view mem) .found ≡ some k
+        unfolding foundOf
+        got = sym (g .found) ∙ ap foundOf f
 
-    again : Fitted mid path t node nodes
-    again = fitted-over mem mid path t node nodes (λ i. counted-view i .tree) (λ i. counted-view i .fixed .capacity) (fit node nodes e)
-
-    pub plan-stands : Plans mid path t (Fits node nodes)
-    unfolding toldPlan fitting
-    plan-stands = record { answer = rw (again .room) (λ i. some (record { nodes = again .nodes i; here = again .ends i })); named = again .named }
-
-  -- an index that was found is no less than 1
-  pub index-least : Bytes mem → (a : Allocated) → readOf a ≡ toldFound (allocate (heldAt mem) (counterAt mem)) → (k : ℕ) → a .answer ≡ Index k → 1 ≤ k
-  unfolding readOf toldFound foundOf
-  index-least bytes a h k f = index-up mem l bytes k (ap (λ x. x .found) (ap toldFound (allocation-is mem l bytes) ∙ sym h) ∙ ap foundOf f)
-
-  module _ (bytes : Bytes mem) (node nodes : ℕ) (e : q ≡ Fits node nodes) (a : Allocated) (h : readOf a ≡ toldFound (allocate (heldAt mem) (counterAt mem))) (mid : List ℕ) (w : mid ≡ setCounter (a .«next_super») mem) (low : a .«next_super» < 256) where
-    stand : view mid ≡ stepped (view mem)
-    stand = moved-view mem l bytes a h mid w low
-
-    room : noRoom (view mem) path ≡ false
-    room = fit node nodes e .room
-
-    laid-mid : laid mid ≡ true
-    laid-mid = mid-laid mem l (a .«next_super») mid w
-
-    pub full-way : (b : Backend) → a .answer ≡ IndexFull → Ends b (Full (a .count)) mid
-    unfolding rootedMem mountedTold foundMem foundOf mountAs
-    full-way b f =
-        let g : allocation (view mem) .found ≡ none = sym (found mem l bytes a h mid w low) ∙ ap foundOf f in
-        record {
-          told = rw (room, g) (ap (counted 5) (visited mem l bytes a h mid w low));
-          bytes = rw (room, g) (moved-bytes mem l bytes a h mid w low);
-          stands = rw (room, g) stand;
-          keeps = laid-mid;
-        }
-
-    module _ (k : ℕ) (f : a .answer ≡ Index k) where
-      got : allocation (view mem) .found ≡ some k
-      unfolding foundOf
-      got = sym (found mem l bytes a h mid w low) ∙ ap foundOf f
-
-      walked-view : view (walkMem path mid) ≡ walkedTo path (stepped (view mem))
-      unfolding walkMem
-      walked-view = view-walked mid path laid-mid s (again node nodes e (a .«next_super») mid w low .room) ∙ ap (walkedTo path) stand
-
-      ends-there : ended (view mid) path ≡ ended (view mem) path
-      ends-there = λ i. ended (stand i) path
-
-      module _ (b : Backend) (on : rooted path ≡ true) where
-        abbrev R : Request
-        R = requestOf path b
+        abbrev Walked : Instance
+        Walked = walkedTo path (stepped (view mem))
 
         abbrev Big : Outcome
-        Big = allocated (view mem) INODE nothing (walkedTo path (stepped (view mem)))
+        Big = allocated (view mem) INODE nothing Walked
 
         abbrev Done : Outcome
-        Done = allocated (view mem) DONE (mounted k (tagAt (mountThere (view mem) path) (view mem))) (placed k R (ended (view mem) path) (walkedTo path (stepped (view mem))))
+        Done = allocated (view mem) DONE (mounted k (tagAt (mountThere (view mem) path) (view mem))) (placed k R (ended (view mem) path) Walked)
 
         rule-is : rootedRule (view mem) R ≡ cond (ltb maxIno (b .root .0)) Big Done
         unfolding mountAs firstOf
         rule-is =
-            ap (λ (c : Bool). cond c (refused NOROOM (view mem)) (mountAs (view mem) R (allocation (view mem) .found))) (room)
+            ap (λ (c : Bool). cond c (refused NOROOM (view mem)) (mountAs (view mem) R (allocation (view mem) .found))) room
             ∙ ap (mountAs (view mem) R) got
             ∙ ap (λ (o : Bool). cond (not o) (allocated (view mem) INVAL nothing (stepped (view mem))) (cond (ltb maxIno (b .root .0)) Big Done)) on
 
-        size : a .count ≡ length (allocation (view mem) .visits)
-        size = visited mem l bytes a h mid w low
+        pub mounts-way : tooLong path ≡ false → (m : List ℕ) (x : ℕ) → Leads mid path m x → (r : Mounted) (after : List ℕ) → MountsAt m k (a .count) x b r after → Ends r after
+        unfolding placed rootedMem foundMem
+        mounts-way s m x w r after e =
+            let v : view m ≡ Walked = leads-view mid path (g .keeps) s m x w ∙ ap (walkedTo path) (g .stands) in
+            let y : x ≡ ended (view mem) path = w .ends ∙ (λ i. ended (g .stands i) path) in
+            let tag : tagAt (mountOf (view m .tree) x) (view m) ≡ tagAt (mountThere (view mem) path) (view mem) =
+            (λ i. tagAt (mountOf (v i .tree) (y i)) (v i)) ∙ tag-kept (mountThere (view mem) path) Walked (view mem) refl in
+            ends-follow m k x b _ (a .count) (mountedTold r) after e (rootedRule (view mem) R) Big Done (rootedMem R mem) rule-is (ap (counted INODE) (sym (g .visited)))
+            (λ i. record { code = DONE; answer = mounted k (sym tag i); count = sym (g .visited) i }) (sym v) (λ i. placed k R (sym y i) (sym v i))
+            (leads-bytes mid path (g .keeps) s m x w k b ∙ rw (room, got) (ap (plannedMem k R) (g .bytes)))
 
-        tag : tagAt (mountOf (view (walkMem path mid) .tree) (ended (view mid) path)) (view (walkMem path mid)) ≡ tagAt (mountThere (view mem) path) (view mem)
-        tag = (λ i. tagAt (mountOf (walked-view i .tree) (ends-there i)) (walked-view i)) ∙ tag-same (mountThere (view mem) path) path (view mem)
+-- ---- restored mount
 
-        bytes-are : (after : List ℕ) → after ≡ finishMem k (requestOf [] b) (ended (view mid) path) (walkMem path mid) → after ≡ rootedMem R mem
-        unfolding plannedMem finishMem rootedMem foundMem
-        bytes-are after e = rw (room, got) (e ∙ ap (plannedMem k R) (moved-bytes mem l bytes a h mid w low))
+module _ (mem path : List ℕ) (k : ℕ) (b : Backend) where
+  abbrev Q : Request
+  Q = requestOf path b
 
-        module _ (r : Placed) (after : List ℕ) (g : Grows mid path k b r after) where
-          pub large-way : r ≡ TooLarge → Ends b (Inode (a .count)) after
-          unfolding mountedTold
-          large-way e =
-              let z : ltb maxIno (b .root .0) ≡ true = large-by (ltb maxIno (b .root .0)) r _ e (g .tags) in
-              let y : rootedRule (view mem) R ≡ Big = rule-is ∙ ap (λ (c : Bool). cond c Big Done) z in
-              record {
-                told = ap (counted INODE) size ∙ sym (ap toldBy y);
-                bytes = bytes-are after (g .bytes);
-                stands = g .stands ∙ rw z walked-view ∙ sym (λ i. y i .after);
-                keeps = g .keeps;
-              }
+  abbrev Back : Restored → List ℕ → Type 0
+  Back r after = Follows (restoredRule (view mem) k Q) (restoredMem k Q mem) (restoredTold r) after
 
-          pub placed-way : (t d : Tag) → r ≡ Placed-Done t d → Ends b (Mounted-Done k (a .count) t) after
-          unfolding mountedTold placed
-          placed-way t d e =
-              let f = placed-by (ltb maxIno (b .root .0)) r t d _ _ e (g .tags) in
-              let y : rootedRule (view mem) R ≡ Done = rule-is ∙ ap (λ (c : Bool). cond c Big Done) (f .is) in
-              record {
-                told = (λ i. record { code = DONE; answer = mounted k ((f .replaced ∙ tag) i); count = size i }) ∙ sym (ap toldBy y);
-                bytes = bytes-are after (g .bytes);
-                stands = g .stands ∙ rw (f .is) (λ i. placed k R (ends-there i) (walked-view i)) ∙ sym (λ i. y i .after);
-                keeps = g .keeps;
-              }
+  pub no-room-back : laid mem ≡ true → (t : Columns) (q : Planned) → Plans mem path t q → q ≡ PlanNoRoom → Back Restored-NoRoom mem
+  unfolding restoredMem restoredTold
+  no-room-back l t q p e =
+      let z : noRoom (view mem) path ≡ true = refused-plan mem path t p e in
+      record { told = rw z; bytes = rw z; stands = rw z; keeps = l }
+
+  abbrev Big-back : Outcome
+  Big-back = refused INODE (walkedTo path (view mem))
+
+  abbrev Done-back : Outcome
+  Done-back = says (restored (tagAt (mountThere (view mem) path) (view mem)) (tagOf (freed (mountThere (view mem) path) (view mem)) k)) (placed k Q (ended (view mem) path) (walkedTo path (view mem)))
+
+  pub restores-way : laid mem ≡ true → tooLong path ≡ false → (m : List ℕ) (x : ℕ) → Leads mem path m x → (r : Restored) (after : List ℕ) → RestoresAt m k x b r after → Back r after
+  unfolding placed restoredMem
+  restores-way l s m x w r after e =
+      let v : view m ≡ walkedTo path (view mem) = leads-view mem path l s m x w in
+      let y : x ≡ ended (view mem) path = w .ends in
+      let tag : tagAt (mountOf (view m .tree) x) (view m) ≡ tagAt (mountThere (view mem) path) (view mem) =
+      (λ i. tagAt (mountOf (v i .tree) (y i)) (v i)) ∙ tag-kept (mountThere (view mem) path) (walkedTo path (view mem)) (view mem) refl in
+      let slot : tagOf (freed (mountOf (view m .tree) x) (view m)) k ≡ tagOf (freed (mountThere (view mem) path) (view mem)) k =
+      (λ i. tagOf (freed (mountOf (v i .tree) (y i)) (v i)) k) ∙ freed-kept (mountThere (view mem) path) (walkedTo path (view mem)) (view mem) k refl in
+      ends-follow m k x b _ 0 (restoredTold r) after e (restoredRule (view mem) k Q) Big-back Done-back (restoredMem k Q mem)
+      (ap (λ (c : Bool). cond c (refused NOROOM (view mem)) (cond (ltb maxIno (b .root .0)) Big-back Done-back)) (w .room)) refl
+      (λ i. record { code = DONE; answer = restored (sym tag i) (sym slot i); count = 0 }) (sym v) (λ i. placed k Q (sym y i) (sym v i))
+      (leads-bytes mem path l s m x w k b ∙ rw (w .room))

@@ -87,6 +87,10 @@ module _ (mem path : List ℕ) where
   unfolding reached view
   walk-is o w = w .node
 
+  pub reaches : (o : Walked) → Walks (nodesOf mem) (components 0 path) o → (x : ℕ) → o ≡ At x → reached (view mem) path ≡ some x
+  unfolding walkedOf
+  reaches o w x q = sym (walk-is o w) ∙ ap walkedOf q
+
   -- by what the tests answered
   module _ (l : Bool) (le : l ≡ laid mem) where
     laid-true : not l ≡ false → laid mem ≡ true
@@ -120,8 +124,8 @@ module _ (mem path : List ℕ) where
               does-nothing mem F (unmountedTold NotFound) (unmountMem path mem) (refused NOTFOUND (view mem)) (laid-true on) (rw (path-good, n)) refl refl (rw (laid-true on, path-good, n))
 
           pub arrived : (x : ℕ) → o ≡ At x → (v : Unmounted) (after : List ℕ) → Unmounts mem x v after → Does mem F (unmountedTold v) after (unmountMem path mem)
-          unfolding walkedOf unmountMem unmountRule firstOf
+          unfolding unmountMem unmountRule firstOf
           arrived x q v after f =
-              let n : reached (view mem) path ≡ some x = sym (walk-is o k) ∙ ap walkedOf q in
+              let n : reached (view mem) path ≡ some x = reaches o k x q in
               does mem F (unmountedTold v) after (unmountMem path mem) (unmountAt (view mem) (some x) (mountOf (view mem .tree) x)) (laid-true on) (rw (path-good, n)) (f .told)
               (f .bytes ∙ sym (rw (laid-true on, path-good, n))) (f .stands) (f .keeps)

@@ -1,5 +1,5 @@
 -- Mount and restored mount: what their answers tell, and the bytes that they leave.
-use Prim.Native.Nat.{ℕ}
+use Prim.Native.Nat.{ℕ, _≤_}
 use mathlib.Core.Bool.{Bool, true, cond, not, _||_}
 use mathlib.Core.List.{List, []}
 use mathlib.Core.Option.{Option, none, some}
@@ -10,18 +10,20 @@ use Rattle.rules.specs.Numbers.{maxIno, DONE, INVAL, TOOLONG, INODE, FULL, NORO
 use Rattle.rules.specs.Utf8.{wellFormed}
 use Rattle.rules.specs.Path.{rooted, tooLong}
 use Rattle.rules.specs.Instance.{Instance, mountOf, tagOf}
-use Rattle.rules.specs.Outcome.{nothing, mounted, Outcome, refused}
+use Rattle.rules.specs.Outcome.{Answer, nothing, mounted, Outcome, refused}
 use Rattle.rules.specs.Mount.{Request, planned, noRoom, ended, freed, mountOn, tagAt, placed, allocation, stepped, mountAs}
+use Rattle.index.specs.Search.{foundOf}
+use Rattle.index.specs.declared.FsIndex.the-variants.{Index}
+use Rattle.index.specs.declared.Allocated.{Allocated}
 use Rattle.tables.specs.View.{view}
 use Rattle.tables.specs.Rule.{laid}
 use Rattle.tables.specs.Write.{setCounter}
 use Rattle.tables.specs.Answer.{tagIn}
 use Rattle.tables.specs.Call.{Told, toldBy, toldSmall}
 use Rattle.placing.specs.Place.{placeMem}
+use Rattle.placing.specs.declared.Tags.{Tags}
 use Rattle.plan.specs.Apply.{appendAll}
 use Rattle.vfs.specs.declared.backend.Backend.{Backend}
-use Rattle.vfs.specs.declared.inner.Placed.{Placed}
-use Rattle.vfs.specs.declared.inner.Placed.the-variants.{Done as Placed-Done, TooLarge}
 use Rattle.vfs.specs.declared.mounting.Mounted.{Mounted}
 use Rattle.vfs.specs.declared.mounting.Mounted.the-variants.{Done, TooLong, Inval, Inode, NoRoom, Full, Small}
 
@@ -79,15 +81,32 @@ mountMem r mem = cond (laid mem) (cond (early r) mem (cond (rooted (r .path)) (r
 
 -- ---- what is told on the way
 
--- the tags of a mount that is placed: replaced, then displaced (R78, R93)
-unfoldable pub placedOf : Placed → Option (Option ℕ × Option ℕ)
-placedOf (Placed-Done a d) = some (tagIn a, tagIn d)
-placedOf TooLarge = none
+-- row 8 on the node x: the tags replaced and displaced, and the bytes (R76, R78, R93)
+pub record Finishes (mem : List ℕ) (k x : ℕ) (b : Backend) (r : Tags) (after : List ℕ) : Type 0 where
+  pub replaced : tagIn (r .replaced) ≡ tagAt (mountOf (view mem .tree) x) (view mem)
+  pub displaced : tagIn (r .displaced) ≡ tagOf (freed (mountOf (view mem .tree) x) (view mem)) k
+  pub bytes : after ≡ placeMem (mountOn k (requestOf [] b)) (b .tag) x mem
+  pub stands : view after ≡ placed k (requestOf [] b) x (view mem)
+  pub keeps : laid after ≡ true
 
-pub record Finishes (mem : List ℕ) (k x : ℕ) (b : Backend) (r : Placed) (after : List ℕ) : Type 0 where
-  pub tags : placedOf r ≡ cond (ltb maxIno (b .root .0)) none (some (tagAt (mountOf (view mem .tree) x) (view mem), tagOf (freed (mountOf (view mem .tree) x) (view mem)) k))
+-- rows 7 and 8 on the node x, as they are told: the root number is too large, or the values given; with a count (R74, R75)
+pub record EndsAt (mem : List ℕ) (k x : ℕ) (b : Backend) (values : Answer) (n : ℕ) (t : Told) (after : List ℕ) : Type 0 where
+  pub told : t ≡ cond (ltb maxIno (b .root .0)) (counted INODE n) (record { code = DONE; answer = values; count = n })
   pub bytes : after ≡ finishMem k (requestOf [] b) x mem
   pub stands : view after ≡ cond (ltb maxIno (b .root .0)) (view mem) (placed k (requestOf [] b) x (view mem))
+  pub keeps : laid after ≡ true
+
+-- of a mount: the index and the tag replaced
+abbrev pub MountsAt : List ℕ → ℕ → ℕ → ℕ → Backend → Mounted → List ℕ → Type 0
+MountsAt mem k n x b r after = EndsAt mem k x b (mounted k (tagAt (mountOf (view mem .tree) x) (view mem))) n (mountedTold r) after
+
+-- the search and the counter moved by it (R80 to R84)
+pub record Allocates (mem : List ℕ) (a : Allocated) (after : List ℕ) : Type 0 where
+  pub found : foundOf (a .answer) ≡ allocation (view mem) .found
+  pub least : (k : ℕ) → a .answer ≡ Index k → 1 ≤ k
+  pub visited : a .count ≡ length (allocation (view mem) .visits)
+  pub bytes : after ≡ allocMem mem
+  pub stands : view after ≡ stepped (view mem)
   pub keeps : laid after ≡ true
 
 abbrev pub byFound : Option ℕ → ℕ
@@ -99,10 +118,6 @@ pub record Unrooted (mem : List ℕ) (r : Mounted) (after : List ℕ) : Type 0 w
   pub bytes : after ≡ allocMem mem
   pub stands : view after ≡ stepped (view mem)
   pub keeps : laid after ≡ true
-
--- rows 7 and 8 where the walk ends, once its nodes are made
-abbrev pub Grows : List ℕ → List ℕ → ℕ → Backend → Placed → List ℕ → Type 0
-Grows mem path k b r after = Finishes (walkMem path mem) k (ended (view mem) path) b r after
 
 -- from row 4 on, of a path with leading slash (R71 to R79)
 abbrev pub rootedRule : Instance → Request → Outcome

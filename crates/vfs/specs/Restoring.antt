@@ -6,14 +6,15 @@ use lib.Dec.{eqb, ltb}
 use Rattle.rules.specs.Numbers.{maxIno, DONE, INVAL, TOOLONG, INODE, NOROOM, BADINDEX}
 use Rattle.rules.specs.Utf8.{wellFormed}
 use Rattle.rules.specs.Path.{rooted, tooLong}
-use Rattle.rules.specs.Instance.{Instance, tagOf}
+use Rattle.rules.specs.Instance.{Instance, mountOf, tagOf}
 use Rattle.rules.specs.Outcome.{restored, Outcome, refused, says}
 use Rattle.rules.specs.Mount.{Request, noRoom, ended, walkedTo, mountThere, freed, tagAt, placed}
 use Rattle.tables.specs.View.{view}
 use Rattle.tables.specs.Rule.{laid}
 use Rattle.tables.specs.Answer.{tagIn}
 use Rattle.tables.specs.Call.{Told, toldSmall}
-use Rattle.vfs.specs.Mounting.{counted, plannedMem}
+use Rattle.vfs.specs.Mounting.{counted, plannedMem, EndsAt}
+use Rattle.vfs.specs.declared.backend.Backend.{Backend}
 use Rattle.vfs.specs.declared.restoring.Restored.{Restored}
 use Rattle.vfs.specs.declared.restoring.Restored.the-variants.{Done, TooLong, Inval, BadIndex, Inode, NoRoom, Small}
 
@@ -26,6 +27,11 @@ restoredTold BadIndex = counted BADINDEX 0
 restoredTold Inode = counted INODE 0
 restoredTold NoRoom = counted NOROOM 0
 restoredTold Small = toldSmall
+
+-- rows 7 and 8 on the node x: the tag replaced, and the tag displaced (R93)
+abbrev pub RestoresAt : List ℕ → ℕ → ℕ → Backend → Restored → List ℕ → Type 0
+RestoresAt mem k x b r after =
+    EndsAt mem k x b (restored (tagAt (mountOf (view mem .tree) x) (view mem)) (tagOf (freed (mountOf (view mem .tree) x) (view mem)) k)) 0 (restoredTold r) after
 
 -- rows 4, 7 and 8, of a path with leading slash
 abbrev pub restoredRule : Instance → ℕ → Request → Outcome

@@ -1,17 +1,18 @@
-// Mount: the rows in their order, the plan, the search and the placing.
+// Mount: the rows in their order, the walk or the plan, the search and the placing.
 ghost use mathlib.Core.Path.{_≡_};
-ghost use mathlib.Core.Bool.{true};
+ghost use mathlib.Core.Bool.{true, false};
+ghost use Prim.Native.Nat.{_≤_};
 ghost use Rattle.tables.specs.Rule.{laid};
-ghost use mathlib.Core.Bool.{false};
 ghost use Rattle.rules.specs.Path.{rooted, tooLong};
 ghost use Rattle.rules.specs.Mount.{mountRule};
 ghost use Rattle.tables.specs.View.{view};
 ghost use Rattle.tables.specs.Call.{Does};
-ghost use Rattle.vfs.specs.Mounting.{requestOf, mountedTold, mountMem, rootedMem, rootedRule, Unrooted, Follows};
+ghost use Rattle.vfs.specs.Mounting.{requestOf, mountedTold, mountMem, rootedMem, rootedRule, Allocates, Unrooted, MountsAt, Follows};
 use crate::backend::Backend;
-use crate::inner::Placed;
+use index::Allocated;
 use index::FsIndex;
 use plan::Planned;
+use pseudo_fs::inner::Walked;
 use tables::slots::Tag;
 
 // What a mount answers: the index, the count and the tag replaced, or a refusal, with its count where it has one.
@@ -35,13 +36,22 @@ pub enum Mounted {
     Small,
 }
 
+// The search for an index; the counter has moved (R80 to R84).
+fn allocate(s: &mut [u8]) -> Allocated
+    requires { ⌜ laid (now s) ≡ true ⌝ }
+    ensures { λ r. ⌜ Allocates (now (s .entry)) r (now (s .exit)) ⌝ }
+{
+    let a = tables::slots::search(s);
+    tables::header::set_counter(s, a.next_super);
+    a
+}
+
 // Rows 5 and 6, of a path without leading slash: the counter has moved (R72, R73).
 fn unrooted(s: &mut [u8]) -> Mounted
     requires { ⌜ laid (now s) ≡ true ⌝ }
     ensures { λ r. ⌜ Unrooted (now (s .entry)) r (now (s .exit)) ⌝ }
 {
-    let found = tables::slots::search(s);
-    tables::header::set_counter(s, found.next_super);
+    let found = allocate(s);
     let answer = found.answer;
     match answer {
         FsIndex::Index(k) => Mounted::Inval { count: found.count },
@@ -49,8 +59,27 @@ fn unrooted(s: &mut [u8]) -> Mounted
     }
 }
 
-// Rows 4, 5, 7 and 8, of a path with leading slash (R71, R72, R74, R75).
-fn mount_rooted(s: &mut [u8], path: &[u8], b: Backend) -> Mounted
+// Rows 7 and 8 on the node x, at the index found (R74, R75).
+fn mount_at(s: &mut [u8], k: u8, count: u32, x: u64, b: Backend) -> Mounted
+    requires { ⌜ laid (now s) ≡ true ⌝ }
+    requires { ⌜ 1 ≤ k ⌝ }
+    ensures { λ r. ⌜ MountsAt (now (s .entry)) k count x b r (now (s .exit)) ⌝ }
+{
+    let root = b.root;
+    if rules::VFS_MAX_INO < root.0 {
+        return Mounted::Inode { count };
+    }
+    let tags = crate::inner::finish(s, k, x, b);
+    let replaced = tags.replaced;
+    Mounted::Done {
+        fs_idx: k,
+        count,
+        replaced,
+    }
+}
+
+// Rows 4, 5, 7 and 8, of a path with leading slash: the missing nodes are planned, and made once an index is found (R71, R72, R74, R75).
+fn mount_new(s: &mut [u8], path: &[u8], b: Backend) -> Mounted
     requires { ⌜ laid (now s) ≡ true ⌝ }
     requires { ⌜ tooLong (now path) ≡ false ⌝ }
     requires { ⌜ rooted (now path) ≡ true ⌝ }
@@ -62,32 +91,34 @@ fn mount_rooted(s: &mut [u8], path: &[u8], b: Backend) -> Mounted
     match plan::plan_mount(s, path, &mut made, &mut starts, &mut lens) {
         Planned::NoRoom => Mounted::NoRoom,
         Planned::Fits { node, count } => {
-            let a = tables::slots::search(s);
-            tables::header::set_counter(s, a.next_super);
+            let a = allocate(s);
             let answer = a.answer;
             match answer {
                 FsIndex::Full => Mounted::Full { count: a.count },
                 FsIndex::Index(k) => {
-                    let p = crate::inner::place_planned(
-                        s,
-                        path,
-                        &made,
-                        &starts,
-                        &lens,
-                        count,
-                        node,
-                        k,
-                        b,
-                    );
-                    match p {
-                        Placed::TooLarge => Mounted::Inode { count: a.count },
-                        Placed::Done { replaced, .. } => Mounted::Done {
-                            fs_idx: k,
-                            count: a.count,
-                            replaced,
-                        },
-                    }
+                    plan::apply_plan(s, path, &made, &starts, &lens, count);
+                    mount_at(s, k, a.count, node, b)
                 }
+            }
+        }
+    }
+}
+
+// Rows 4, 5, 7 and 8, of a path with leading slash: nothing is planned where the walk finds the whole path (R71, R72, R74, R75).
+fn mount_rooted(s: &mut [u8], path: &[u8], b: Backend) -> Mounted
+    requires { ⌜ laid (now s) ≡ true ⌝ }
+    requires { ⌜ tooLong (now path) ≡ false ⌝ }
+    requires { ⌜ rooted (now path) ≡ true ⌝ }
+    ensures { λ r. ⌜ Follows (rootedRule (view (now (s .entry))) (requestOf (now (path .entry)) b)) (rootedMem (requestOf (now (path .entry)) b) (now (s .entry))) (mountedTold r) (now (s .exit)) ⌝ }
+{
+    match pseudo_fs::inner::walk(s, path) {
+        Walked::Missing { .. } => mount_new(s, path, b),
+        Walked::At(x) => {
+            let a = allocate(s);
+            let answer = a.answer;
+            match answer {
+                FsIndex::Full => Mounted::Full { count: a.count },
+                FsIndex::Index(k) => mount_at(s, k, a.count, x, b),
             }
         }
     }

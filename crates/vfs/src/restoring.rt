@@ -9,10 +9,10 @@ ghost use Rattle.tables.specs.View.{view};
 ghost use Rattle.tables.specs.Rule.{laid};
 ghost use Rattle.tables.specs.Call.{Does};
 ghost use Rattle.vfs.specs.Mounting.{requestOf, Follows};
-ghost use Rattle.vfs.specs.Restoring.{restoredTold, restoredRule, restoredMem, restoreMem};
+ghost use Rattle.vfs.specs.Restoring.{restoredTold, restoredRule, restoredMem, restoreMem, RestoresAt};
 use crate::backend::Backend;
-use crate::inner::Placed;
 use plan::Planned;
+use pseudo_fs::inner::Walked;
 use tables::slots::Tag;
 
 // What a restored mount answers: the tag replaced on the node and the tag displaced in the slot, or a refusal.
@@ -26,8 +26,27 @@ pub enum Restored {
     Small,
 }
 
-// Rows 4, 7 and 8, of a path with leading slash (R91 to R95).
-fn restore_rooted(s: &mut [u8], k: u8, path: &[u8], b: Backend) -> Restored
+// Rows 7 and 8 on the node x, at the index given (R93).
+fn restore_at(s: &mut [u8], k: u8, x: u64, b: Backend) -> Restored
+    requires { ⌜ laid (now s) ≡ true ⌝ }
+    requires { ⌜ 1 ≤ k ⌝ }
+    ensures { λ r. ⌜ RestoresAt (now (s .entry)) k x b r (now (s .exit)) ⌝ }
+{
+    let root = b.root;
+    if rules::VFS_MAX_INO < root.0 {
+        return Restored::Inode;
+    }
+    let tags = crate::inner::finish(s, k, x, b);
+    let replaced = tags.replaced;
+    let displaced = tags.displaced;
+    Restored::Done {
+        replaced,
+        displaced,
+    }
+}
+
+// Rows 4, 7 and 8, of a path with leading slash: the missing nodes are planned and made (R91 to R95).
+fn restore_new(s: &mut [u8], k: u8, path: &[u8], b: Backend) -> Restored
     requires { ⌜ laid (now s) ≡ true ⌝ }
     requires { ⌜ tooLong (now path) ≡ false ⌝ }
     requires { ⌜ 1 ≤ k ⌝ }
@@ -39,18 +58,22 @@ fn restore_rooted(s: &mut [u8], k: u8, path: &[u8], b: Backend) -> Restored
     match plan::plan_mount(s, path, &mut made, &mut starts, &mut lens) {
         Planned::NoRoom => Restored::NoRoom,
         Planned::Fits { node, count } => {
-            let p = crate::inner::place_planned(s, path, &made, &starts, &lens, count, node, k, b);
-            match p {
-                Placed::TooLarge => Restored::Inode,
-                Placed::Done {
-                    replaced,
-                    displaced,
-                } => Restored::Done {
-                    replaced,
-                    displaced,
-                },
-            }
+            plan::apply_plan(s, path, &made, &starts, &lens, count);
+            restore_at(s, k, node, b)
         }
+    }
+}
+
+// Rows 4, 7 and 8, of a path with leading slash: nothing is planned where the walk finds the whole path (R91 to R95).
+fn restore_rooted(s: &mut [u8], k: u8, path: &[u8], b: Backend) -> Restored
+    requires { ⌜ laid (now s) ≡ true ⌝ }
+    requires { ⌜ tooLong (now path) ≡ false ⌝ }
+    requires { ⌜ 1 ≤ k ⌝ }
+    ensures { λ r. ⌜ Follows (restoredRule (view (now (s .entry))) k (requestOf (now (path .entry)) b)) (restoredMem k (requestOf (now (path .entry)) b) (now (s .entry))) (restoredTold r) (now (s .exit)) ⌝ }
+{
+    match pseudo_fs::inner::walk(s, path) {
+        Walked::Missing { .. } => restore_new(s, k, path, b),
+        Walked::At(x) => restore_at(s, k, x, b),
     }
 }
 

@@ -1,7 +1,8 @@
 -- `vfs::mounting::mount` meets its contract: each way through it by its law.
 use borrow.Author.Needs.{needs}
 use Rattle.vfs.proofs.UnmountWays.{laid-by}
-use Rattle.vfs.proofs.MountCalls.{small, too-long, bad-bytes, large, no-slash-ends, slash-ends, short-by, slash-by}
+use Rattle.vfs.proofs.FirstRows.{small, too-long, bad-bytes, passed, short-by, slash-by}
+use Rattle.vfs.proofs.MountCalls.{mount-begins, large, no-slash-ends, slash-ends}
 use Rattle.vfs.proofs.mounting.mount.Statement.{statement}
 use Rattle.vfs.proofs.mounting.mount.Tie as tie
 
@@ -12,7 +13,7 @@ same-length : tie.Need-same-length
 same-length c = search needs
 
 returns : tie.Need-returns
-returns c = search (small, needs)
+returns c = small _ _ _ _ _ _ _ (mount-begins _ _ _) _ (c .before .is-laid .ensures) (c .if1 .taken)
 
 is-too-long-requires : tie.Need-is-too-long-requires
 is-too-long-requires c κs = search needs
@@ -21,7 +22,7 @@ same-length-2 : tie.Need-same-length-2
 same-length-2 c = search needs
 
 returns-2 : tie.Need-returns-2
-returns-2 c = search (too-long, needs)
+returns-2 c = too-long _ _ _ _ _ _ _ (mount-begins _ _ _) _ (c .before .before .before .is-laid .ensures) (c .before .before .if1 .left) _ (c .before .is-too-long .ensures) (c .if2 .taken)
 
 is-utf8-requires : tie.Need-is-utf8-requires
 is-utf8-requires c κs = search needs
@@ -30,13 +31,13 @@ same-length-3 : tie.Need-same-length-3
 same-length-3 c = search needs
 
 returns-3 : tie.Need-returns-3
-returns-3 c = search (bad-bytes, needs)
+returns-3 c = bad-bytes _ _ _ _ _ _ _ (mount-begins _ _ _) _ (c .before .before .before .before .before .is-laid .ensures) (c .before .before .before .before .if1 .left) _ (c .before .before .before .is-too-long .ensures) (c .before .before .if2 .left) _ (c .before .is-utf8 .ensures) (c .if3 .taken)
 
 same-length-4 : tie.Need-same-length-4
 same-length-4 c = search needs
 
 returns-4 : tie.Need-returns-4
-returns-4 c = search (large, needs)
+returns-4 c = search (large, passed, needs)
 
 is-rooted-requires : tie.Need-is-rooted-requires
 is-rooted-requires c κs = search needs
@@ -48,7 +49,7 @@ same-length-5 : tie.Need-same-length-5
 same-length-5 c = search needs
 
 returns-5 : tie.Need-returns-5
-returns-5 c = search (no-slash-ends, needs)
+returns-5 c = search (no-slash-ends, passed, needs)
 
 mount-rooted-requires : tie.Need-mount-rooted-requires
 mount-rooted-requires c κs = (search (laid-by, needs), (search (short-by, needs), search (slash-by, needs)))
@@ -57,7 +58,7 @@ same-length-6 : tie.Need-same-length-6
 same-length-6 c = search needs
 
 returns-6 : tie.Need-returns-6
-returns-6 c = search (slash-ends, needs)
+returns-6 c = search (slash-ends, passed, needs)
 
 pub mount-spec : {M : Type 1} → statement M
 mount-spec =

@@ -1,16 +1,11 @@
 -- `vfs::mounting::unrooted` meets its contract: each way through it by its law.
 use borrow.Author.Needs.{needs}
-use native.Mathlib.Omega.{arith}
-use Rattle.placing.proofs.Stands.{long}
 use Rattle.vfs.proofs.MountWays.{no-slash, all-held}
 use Rattle.vfs.proofs.mounting.unrooted.Statement.{statement}
 use Rattle.vfs.proofs.mounting.unrooted.Tie as tie
 
-search-requires : tie.Need-search-requires
-search-requires c κs = omega (arith, long _ (c .before .before .pre))
-
-set-counter-requires : tie.Need-set-counter-requires
-set-counter-requires c κs = omega (arith, long _ (c .before .before .before .before .pre))
+allocate-requires : tie.Need-allocate-requires
+allocate-requires c κs = search needs
 
 enum-known-answer : tie.Need-enum-known-answer
 enum-known-answer c = search needs
@@ -22,20 +17,19 @@ same-length : tie.Need-same-length
 same-length c = search needs
 
 returns : tie.Need-returns
-returns c = search (no-slash _ (c .before .before .before .before .before .before .before .before .before .before .pre) (λ i. c .before .before .before .before .before .before .before .before .before .slice-known .given i .fits), needs)
+returns c = search (no-slash, needs)
 
 same-length-2 : tie.Need-same-length-2
 same-length-2 c = search needs
 
 returns-2 : tie.Need-returns-2
-returns-2 c = search (all-held _ (c .before .before .before .before .before .before .before .before .before .pre) (λ i. c .before .before .before .before .before .before .before .before .slice-known .given i .fits), needs)
+returns-2 c = search (all-held, needs)
 
 pub unrooted-spec : {M : Type 1} → statement M
 unrooted-spec =
     tie.close
     (tie.spec
-    search-requires
-    set-counter-requires
+    allocate-requires
     enum-known-answer
     enum-told
     same-length

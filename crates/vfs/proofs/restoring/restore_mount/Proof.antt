@@ -1,8 +1,8 @@
 -- `vfs::restoring::restore_mount` meets its contract: each way through it by its law.
 use borrow.Author.Needs.{needs}
 use Rattle.vfs.proofs.UnmountWays.{laid-by}
-use Rattle.vfs.proofs.MountCalls.{short-by}
-use Rattle.vfs.proofs.RestoreWays.{index-by, small, too-long, bad-bytes, bad-index, large, no-slash-back, slash-back}
+use Rattle.vfs.proofs.FirstRows.{small, too-long, bad-bytes, passed, short-by}
+use Rattle.vfs.proofs.RestoreCalls.{restore-begins, index-by, bad-index, large-back, no-slash-back, slash-back}
 use Rattle.vfs.proofs.restoring.restore_mount.Statement.{statement}
 use Rattle.vfs.proofs.restoring.restore_mount.Tie as tie
 
@@ -13,7 +13,7 @@ same-length : tie.Need-same-length
 same-length c = search needs
 
 returns : tie.Need-returns
-returns c = search (small, needs)
+returns c = small _ _ _ _ _ _ _ (restore-begins _ _ _ _) _ (c .before .is-laid .ensures) (c .if1 .taken)
 
 is-too-long-requires : tie.Need-is-too-long-requires
 is-too-long-requires c κs = search needs
@@ -22,7 +22,7 @@ same-length-2 : tie.Need-same-length-2
 same-length-2 c = search needs
 
 returns-2 : tie.Need-returns-2
-returns-2 c = search (too-long, needs)
+returns-2 c = too-long _ _ _ _ _ _ _ (restore-begins _ _ _ _) _ (c .before .before .before .is-laid .ensures) (c .before .before .if1 .left) _ (c .before .is-too-long .ensures) (c .if2 .taken)
 
 is-utf8-requires : tie.Need-is-utf8-requires
 is-utf8-requires c κs = search needs
@@ -31,19 +31,19 @@ same-length-3 : tie.Need-same-length-3
 same-length-3 c = search needs
 
 returns-3 : tie.Need-returns-3
-returns-3 c = search (bad-bytes, needs)
+returns-3 c = bad-bytes _ _ _ _ _ _ _ (restore-begins _ _ _ _) _ (c .before .before .before .before .before .is-laid .ensures) (c .before .before .before .before .if1 .left) _ (c .before .before .before .is-too-long .ensures) (c .before .before .if2 .left) _ (c .before .is-utf8 .ensures) (c .if3 .taken)
 
 same-length-4 : tie.Need-same-length-4
 same-length-4 c = search needs
 
 returns-4 : tie.Need-returns-4
-returns-4 c = search (bad-index, needs)
+returns-4 c = search (bad-index, passed, needs)
 
 same-length-5 : tie.Need-same-length-5
 same-length-5 c = search needs
 
 returns-5 : tie.Need-returns-5
-returns-5 c = search (large, needs)
+returns-5 c = search (large-back, passed, needs)
 
 is-rooted-requires : tie.Need-is-rooted-requires
 is-rooted-requires c κs = search needs
@@ -52,7 +52,7 @@ same-length-6 : tie.Need-same-length-6
 same-length-6 c = search needs
 
 returns-6 : tie.Need-returns-6
-returns-6 c = search (no-slash-back, needs)
+returns-6 c = search (no-slash-back, passed, needs)
 
 restore-rooted-requires : tie.Need-restore-rooted-requires
 restore-rooted-requires c κs = (search (laid-by, needs), (search (short-by, needs), search (index-by, needs)))
@@ -61,7 +61,7 @@ same-length-7 : tie.Need-same-length-7
 same-length-7 c = search needs
 
 returns-7 : tie.Need-returns-7
-returns-7 c = search (slash-back, needs)
+returns-7 c = search (slash-back, passed, needs)
 
 pub restore-mount-spec : {M : Type 1} → statement M
 restore-mount-spec =

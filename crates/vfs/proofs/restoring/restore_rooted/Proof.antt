@@ -1,59 +1,50 @@
 -- `vfs::restoring::restore_rooted` meets its contract: each way through it by its law.
 use borrow.Author.Needs.{needs}
 use Rattle.tables.proofs.Keeps.{laid-is}
-use Rattle.vfs.proofs.RestoreWays.{no-room-back, plan-is, large-back, placed-back}
+use Rattle.vfs.proofs.UnmountWays.{reaches}
+use Rattle.vfs.proofs.PlanWays.{found-leads, restores-way}
 use Rattle.vfs.proofs.restoring.restore_rooted.Statement.{statement}
 use Rattle.vfs.proofs.restoring.restore_rooted.Tie as tie
 
-plan-mount-requires : tie.Need-plan-mount-requires
-plan-mount-requires c κs = search (laid-is, needs)
+walk-requires : tie.Need-walk-requires
+walk-requires c κs = search (laid-is, needs)
 
 enum-told : tie.Need-enum-told
 enum-told c = search needs
 
-enum-known-node : tie.Need-enum-known-node
-enum-known-node c = search needs
+restore-new-requires : tie.Need-restore-new-requires
+restore-new-requires c κs = search needs
 
-place-planned-requires : tie.Need-place-planned-requires
-place-planned-requires c κs = let p = c .before .before .before .before .before .before .before .before .before .before .before .before .before .before .pre in (p .0, (p .1 .0, (plan-is _ _ (p .0) (p .1 .0) _ _ (c .before .before .before .before .before .before .before .plan-mount .ensures) _ _ (c .before .before .before .before .before .node .given .1), p .1 .1)))
+enum-known-x : tie.Need-enum-known-x
+enum-known-x c = search needs
 
-enum-told-2 : tie.Need-enum-told-2
-enum-told-2 c = search needs
-
-enum-known-p : tie.Need-enum-known-p
-enum-known-p c = search needs
+restore-at-requires : tie.Need-restore-at-requires
+restore-at-requires c κs = search needs
 
 same-length : tie.Need-same-length
 same-length c = search needs
 
 returns : tie.Need-returns
-returns c = search (no-room-back, needs)
+returns c = search needs
 
 same-length-2 : tie.Need-same-length-2
 same-length-2 c = search needs
 
 returns-2 : tie.Need-returns-2
-returns-2 c = search (large-back, needs)
-
-same-length-3 : tie.Need-same-length-3
-same-length-3 c = search needs
-
-returns-3 : tie.Need-returns-3
-returns-3 c = search (placed-back, needs)
+returns-2 c =
+    let p = c .before .before .before .before .before .before .before .before .before .before .before .pre in
+    restores-way _ _ _ _ (p .0) (p .1 .0) _ _ (found-leads _ _ (p .0) _ (reaches _ _ _ (c .before .before .before .before .before .before .before .walk .ensures) _ (c .before .before .before .before .before .x .given .1))) _ _ (c .before .before .restore-at .ensures)
 
 pub restore-rooted-spec : {M : Type 1} → statement M
 restore-rooted-spec =
     tie.close
     (tie.spec
-    plan-mount-requires
+    walk-requires
     enum-told
-    enum-known-node
-    place-planned-requires
-    enum-told-2
-    enum-known-p
+    restore-new-requires
+    enum-known-x
+    restore-at-requires
     same-length
     returns
     same-length-2
-    returns-2
-    same-length-3
-    returns-3)
+    returns-2)

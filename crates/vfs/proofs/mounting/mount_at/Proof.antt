@@ -1,0 +1,20 @@
+-- `vfs::mounting::mount_at` meets its contract: each way through it by its law.
+use borrow.Author.Needs.{needs}
+use Rattle.vfs.proofs.MountWays.{large-mounted, placed-mounted}
+use Rattle.vfs.proofs.mounting.mount_at.Statement.{statement}
+use Rattle.vfs.proofs.mounting.mount_at.Tie as tie
+
+returns : tie.Need-returns
+returns c = search (large-mounted, needs)
+
+finish-requires : tie.Need-finish-requires
+finish-requires c κs = search needs
+
+same-length : tie.Need-same-length
+same-length c = search needs
+
+returns-2 : tie.Need-returns-2
+returns-2 c = search (placed-mounted, needs)
+
+pub mount-at-spec : {M : Type 1} → statement M
+mount-at-spec = tie.close (tie.spec returns finish-requires same-length returns-2)

@@ -1,0 +1,79 @@
+-- `vfs::mounting::mount_new` meets its contract: each way through it by its law.
+use borrow.Author.Needs.{needs}
+use Rattle.tables.proofs.Keeps.{laid-is}
+use Rattle.plan.proofs.Walked.{fitted}
+use Rattle.vfs.proofs.PlanWays.{applies, plan-leads, leads-laid, no-room-way, again, full-way, mounts-way}
+use Rattle.vfs.proofs.mounting.mount_new.Statement.{statement}
+use Rattle.vfs.proofs.mounting.mount_new.Tie as tie
+
+plan-mount-requires : tie.Need-plan-mount-requires
+plan-mount-requires c κs = search (laid-is, needs)
+
+enum-told : tie.Need-enum-told
+enum-told c = search needs
+
+enum-known-node : tie.Need-enum-known-node
+enum-known-node c = search needs
+
+allocate-requires : tie.Need-allocate-requires
+allocate-requires c κs = search needs
+
+enum-told-2 : tie.Need-enum-told-2
+enum-told-2 c = search needs
+
+enum-known-answer : tie.Need-enum-known-answer
+enum-known-answer c = search needs
+
+apply-plan-requires : tie.Need-apply-plan-requires
+apply-plan-requires c κs =
+    let g = c .before .before .before .before .before .before .before .before .before .allocate .ensures in
+    applies _ _ (g .keeps) _ _ _ (again _ _ _ _ g _ _ (c .before .before .before .before .before .before .before .before .before .before .before .before .before .before .plan-mount .ensures) _ _ (c .before .before .before .before .before .before .before .before .before .before .before .before .node .given .1))
+
+mount-at-requires : tie.Need-mount-at-requires
+mount-at-requires c κs =
+    let g = c .before .before .before .before .before .before .before .before .before .before .before .before .before .allocate .ensures in
+    let f = again _ _ _ _ g _ _ (c .before .before .before .before .before .before .before .before .before .before .before .before .before .before .before .before .before .before .plan-mount .ensures) _ _ (c .before .before .before .before .before .before .before .before .before .before .before .before .before .before .before .before .node .given .1) in
+    (leads-laid _ _ (g .keeps) (c .before .before .before .before .before .before .before .before .before .before .before .before .before .before .before .before .before .before .before .before .before .before .before .before .before .pre .1 .0) _ _ (plan-leads _ _ (g .keeps) _ _ _ f _ (c .before .before .before .apply-plan .ensures)), g .least _ (c .before .before .before .before .before .before .before .before .before .answer .given .1))
+
+same-length : tie.Need-same-length
+same-length c = search needs
+
+returns : tie.Need-returns
+returns c = search (no-room-way, needs)
+
+same-length-2 : tie.Need-same-length-2
+same-length-2 c = search needs
+
+returns-2 : tie.Need-returns-2
+returns-2 c =
+    full-way _ _ _ _ _ (c .before .before .before .before .allocate .ensures) (fitted _ _ _ (c .before .before .before .before .before .before .before .before .before .plan-mount .ensures) (c .before .before .before .before .before .before .before .node .given .1) .room) (c .enum-told2 .given .1)
+
+same-length-3 : tie.Need-same-length-3
+same-length-3 c = search needs
+
+returns-3 : tie.Need-returns-3
+returns-3 c =
+    let p = c .before .before .before .before .before .before .before .before .before .before .before .before .before .before .before .before .before .before .before .before .before .before .before .before .before .before .before .before .pre in
+    let g = c .before .before .before .before .before .before .before .before .before .before .before .before .before .before .before .before .allocate .ensures in
+    let q = c .before .before .before .before .before .before .before .before .before .before .before .before .before .before .before .before .before .before .before .before .before .plan-mount .ensures in
+    let e = c .before .before .before .before .before .before .before .before .before .before .before .before .before .before .before .before .before .before .before .node .given .1 in
+    mounts-way _ _ _ _ _ g (fitted _ _ _ q e .room) (p .1 .1) _ (c .before .before .before .before .before .before .before .before .before .before .before .before .answer .given .1) (p .1 .0) _ _ (plan-leads _ _ (g .keeps) _ _ _ (again _ _ _ _ g _ _ q _ _ e) _ (c .before .before .before .before .before .before .apply-plan .ensures)) _ _ (c .before .before .mount-at .ensures)
+
+pub mount-new-spec : {M : Type 1} → statement M
+mount-new-spec =
+    tie.close
+    (tie.spec
+    plan-mount-requires
+    enum-told
+    enum-known-node
+    allocate-requires
+    enum-told-2
+    enum-known-answer
+    apply-plan-requires
+    mount-at-requires
+    same-length
+    returns
+    same-length-2
+    returns-2
+    same-length-3
+    returns-3)

@@ -1,0 +1,20 @@
+-- `vfs::restoring::restore_at` meets its contract: each way through it by its law.
+use borrow.Author.Needs.{needs}
+use Rattle.vfs.proofs.MountWays.{large-restored, placed-restored}
+use Rattle.vfs.proofs.restoring.restore_at.Statement.{statement}
+use Rattle.vfs.proofs.restoring.restore_at.Tie as tie
+
+returns : tie.Need-returns
+returns c = search (large-restored, needs)
+
+finish-requires : tie.Need-finish-requires
+finish-requires c κs = search needs
+
+same-length : tie.Need-same-length
+same-length c = search needs
+
+returns-2 : tie.Need-returns-2
+returns-2 c = search (placed-restored, needs)
+
+pub restore-at-spec : {M : Type 1} → statement M
+restore-at-spec = tie.close (tie.spec returns finish-requires same-length returns-2)
