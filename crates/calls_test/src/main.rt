@@ -1,37 +1,27 @@
 // Reads a script and makes the calls that it says on lent bytes: one line for each answer (docs/TESTS.md).
 use libc::STDIN_FILENO;
 ghost use mathlib.Core.Path.{_≡_};
-ghost use Prim.Native.Nat.{_≤_};
-ghost use lib.ListN.{length};
+ghost use lib.ListN.{length, replicate};
 
 mod calls;
 mod lines;
 mod memory;
-mod mounts;
 mod regs;
 mod sink;
 mod states;
 mod steering;
-mod sums;
 mod text;
 mod verbs;
 mod views;
 
-// Room for a script, and for the lent bytes.
-fn large() -> [u8; 851968]
-    ensures { λ r. ⌜ 851968 ≡ length r ⌝ }
-{
-    [0; 851968]
-}
-
 fn main() {
-    let mut input = large();
+    let mut input = words::numbers::large();
     let n = io::read_full(STDIN_FILENO, &mut input);
     script(&input[..n]);
 }
 
 fn script(input: &[u8]) {
-    let mut storage = large();
+    let mut storage = words::numbers::large();
     let mut kept = larger();
     let mut text = [0u8; 8192];
     let mut regs = [0u64; regs::CELLS];
@@ -52,16 +42,16 @@ fn run(
         if input.len() <= at {
             return;
         }
-        let end = text::line_end(input, at);
+        let end = path::components::part_end(input, at, b'\n');
         regs[regs::PLACE] = end as u64 + 1;
         lines::line(&input[at..end], storage, kept, text, regs);
         turns -= 1;
     }
 }
 
-// Room for the copies of lent bytes, and for saved bytes behind them.
+// Room for the copies of lent bytes, and for saved bytes behind them: zeros.
 fn larger() -> [u8; 1417216]
-    ensures { λ r. ⌜ 1417216 ≡ length r ⌝ }
+    ensures { λ r. ⌜ (r ≡ replicate 1417216 0) × (1417216 ≡ length r) ⌝ }
 {
     [0; 1417216]
 }

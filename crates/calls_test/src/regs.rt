@@ -1,6 +1,8 @@
 // The registers of a run: the script's variables, what it has set, and the numbers of the line at hand.
+ghost use mathlib.Core.Path.{_≡_};
+ghost use Prim.Native.Nat.{_+_, _*_, _%_, _^_};
 
-// The variables a to h stand in cells 0 to 7.
+// The variables a to h stand in cells 0 to 7; a line names one by its cell, modulo this.
 pub const VARIABLES: u64 = 8;
 
 // The generator of numbers.
@@ -21,6 +23,9 @@ pub const SUM: usize = 13;
 
 pub const CALLS: usize = 14;
 
+// The number of the answer at hand.
+pub const CODE: usize = 15;
+
 // Where the next line starts, how many loops are open, and three cells for each: first line, variable, turns left.
 pub const PLACE: usize = 16;
 
@@ -28,7 +33,7 @@ pub const DEPTH: usize = 17;
 
 pub const LOOPS: usize = 20;
 
-// The numbers of the line at hand: how many, whether it has a text, and how long the text is.
+// The words of the line at hand: how many numbers, how many texts, how long the text is, and the numbers, eight at most.
 pub const NUMBERS: usize = 32;
 
 pub const TEXTS: usize = 33;
@@ -37,48 +42,12 @@ pub const TEXT_LEN: usize = 34;
 
 pub const ARGS: usize = 40;
 
-pub const MOST_ARGS: u64 = 8;
-
-pub type Args = [u64; 8];
-
 // How many cells there are.
 pub const CELLS: usize = 64;
 
-// The numbers of the line at hand.
-pub fn args(r: &[u64; CELLS]) -> Args {
-    let mut a = [0u64; 8];
-    let mut i = 0;
-    while i < 8 {
-        a[i] = r[ARGS + i];
-        i += 1;
-    }
-    a
-}
-
-// A variable, or 0 where there is none.
-pub fn variable(r: &[u64; CELLS], v: u64) -> u64 {
-    if v < 8 {
-        return r[v as usize];
-    }
-    0
-}
-
-// A variable becomes a number, if there is one.
-pub fn assign(r: &mut [u64; CELLS], v: u64, n: u64) {
-    if v < 8 {
-        r[v as usize] = n;
-    }
-}
-
-pub fn low32(x: u64) -> u32 {
-    (x % 4294967296) as u32
-}
-
-pub fn low8(x: u64) -> u8 {
-    (x % 256) as u8
-}
-
 // The next number of the generator, below 2^32.
-pub fn following(x: u64) -> u64 {
+pub fn following(x: u64) -> u64
+    ensures { λ r. ⌜ r ≡ (x % 2 ^ 32 * 1664525 + 1013904223) % 2 ^ 32 ⌝ }
+{
     (x % 4294967296 * 1664525 + 1013904223) % 4294967296
 }

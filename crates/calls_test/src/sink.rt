@@ -2,32 +2,48 @@
 use crate::regs;
 use crate::regs::CELLS;
 use libc::STDOUT_FILENO;
-ghost use Prim.Native.Nat.{_≤_};
-ghost use lib.ListN.{length};
 
-// As many bytes as the number says, if the slice has them.
-pub fn upto(n: u64, s: &[u8]) -> usize
-    ensures { λ r. ⌜ r ≤ length (now (s .entry)) ⌝ }
-{
-    let l = s.len();
-    if (l as u64) < n {
-        return l;
-    }
-    n as usize
-}
-
-pub fn bytes(regs: &mut [u64; CELLS], s: &[u8]) {
+pub fn bytes(s: &[u8], regs: &mut [u64; CELLS]) {
     if regs[regs::FOLDING] == 0 {
         io::write_all(STDOUT_FILENO, s);
-        return;
+    } else {
+        regs[regs::SUM] = words::sums::with_run(regs[regs::SUM], s);
     }
-    regs[regs::SUM] = crate::sums::with_run(regs[regs::SUM], s, 0, s.len());
+}
+
+pub fn byte(b: u8, regs: &mut [u64; CELLS]) {
+    let one = [b];
+    bytes(&one, regs);
 }
 
 // A space and the number.
-pub fn number(regs: &mut [u64; CELLS], n: u64) {
+pub fn number(n: u64, regs: &mut [u64; CELLS]) {
     let mut digits = [0u8; 20];
     let k = io::decimal(n, &mut digits);
-    bytes(regs, b" ");
-    bytes(regs, &digits[..k]);
+    byte(b' ', regs);
+    bytes(&digits[..k], regs);
+}
+
+// The number of an answer, which is kept, and its values.
+pub fn answer(code: u32, values: &[u64], regs: &mut [u64; CELLS]) {
+    regs[regs::CODE] = code as u64;
+    number(code as u64, regs);
+    let mut i = 0;
+    while i < values.len() {
+        number(values[i], regs);
+        i += 1;
+    }
+}
+
+// The number of an answer that has no values.
+pub fn code(code: u32, regs: &mut [u64; CELLS]) {
+    answer(code, &[], regs);
+}
+
+// A line that is none of a script's, or cannot be done: behind `!`. Answers false.
+pub fn fault(line: &[u8], regs: &mut [u64; CELLS]) -> bool {
+    bytes(b"! ", regs);
+    bytes(line, regs);
+    byte(b'\n', regs);
+    false
 }

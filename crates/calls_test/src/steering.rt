@@ -1,140 +1,116 @@
-// What steers a run: loops, variables, the text, and how answers are told.
-ghost use Prim.Native.Nat.{_≤_};
-use crate::calls::Answer;
-use crate::calls::in_way;
-use crate::calls::short;
-use crate::calls::silent;
+// What steers a run: loops, variables, the text, and how answers are told. Where a line cannot be done, it is told behind `!`.
 use crate::regs;
+use crate::regs::ARGS;
 use crate::regs::CELLS;
-use crate::text;
+use crate::regs::VARIABLES;
+use crate::sink;
 use crate::verbs;
+use words::numbers::least;
 
-// A verb that steers the run, with its numbers.
-pub fn steer(
-    verb: u64,
-    a: u64,
-    b: u64,
-    c: u64,
-    text: &mut [u8],
-    regs: &mut [u64; CELLS],
-) -> Answer {
+// A verb that steers the run, or 0 for a line that was told: false for any other.
+pub fn steer(verb: u64, line: &[u8], text: &mut [u8], regs: &mut [u64; CELLS]) -> bool {
+    let a = regs[ARGS];
+    let b = regs[ARGS + 1];
+    let v = (a % VARIABLES) as usize;
     match verb {
-        verbs::LOOP => way(open(regs, a, b, c)),
-        verbs::END => way(close(regs)),
-        verbs::TEXT => silent(),
-        verbs::MORE => way(text::append_many(text, regs, a, regs::low8(b))),
-        verbs::FOLD => way(fold(regs)),
-        verbs::PLAIN => plain(regs),
-        _ => way(assign(verb, a, b, regs)),
-    }
-}
-
-fn way(well: bool) -> Answer {
-    if well {
-        return silent();
-    }
-    in_way(crate::calls::BAD)
-}
-
-fn assign(verb: u64, a: u64, b: u64, regs: &mut [u64; CELLS]) -> bool {
-    match verb {
-        verbs::SET => regs::assign(regs, a, b),
-        verbs::ADD => add(regs, a, b),
-        verbs::RANDOM => return random(regs, a, b),
-        _ => setting(verb, a, regs),
-    }
-    true
-}
-
-fn setting(verb: u64, a: u64, regs: &mut [u64; CELLS]) {
-    match verb {
+        verbs::LOOP => open(line, regs),
+        verbs::END => close(line, regs),
+        verbs::MORE => more(line, text, regs),
+        verbs::FOLD | verbs::PLAIN => fold(verb, line, regs),
+        verbs::RANDOM => random(line, regs),
+        verbs::SET => regs[v] = b,
+        verbs::ADD => regs[v] = std::num::wrapping_add_u64(regs[v], b),
         verbs::SEED => regs[regs::SEED] = a,
         verbs::WATCH => regs[regs::WATCH] = a,
         verbs::VIEWS => regs[regs::VIEWS] = a,
-        _ => regs[regs::LENT] = a,
+        verbs::LENGTH => regs[regs::LENT] = a,
+        0 | verbs::TEXT => {}
+        _ => return false,
     }
-}
-
-fn add(regs: &mut [u64; CELLS], v: u64, n: u64) {
-    let x = regs::variable(regs, v);
-    regs::assign(regs, v, std::num::wrapping_add_u64(x, n));
+    true
 }
 
 // A variable becomes the generator's next number, below a limit.
-fn random(regs: &mut [u64; CELLS], v: u64, limit: u64) -> bool {
+fn random(line: &[u8], regs: &mut [u64; CELLS]) {
+    let limit = regs[ARGS + 1];
     if limit == 0 {
-        return false;
+        sink::fault(line, regs);
+        return;
     }
     let x = regs::following(regs[regs::SEED]);
     regs[regs::SEED] = x;
-    regs::assign(regs, v, x / 256 % limit);
-    true
+    let v = (regs[ARGS] % VARIABLES) as usize;
+    regs[v] = x / 256 % limit;
+}
+
+// A byte, so many times behind the text, if there is room.
+fn more(line: &[u8], text: &mut [u8], regs: &mut [u64; CELLS]) {
+    let n = least(regs[regs::TEXT_LEN], text.len());
+    let k = least(regs[ARGS], text.len() - n);
+    if k as u64 != regs[ARGS] {
+        sink::fault(line, regs);
+        return;
+    }
+    le::runs::fill_at(text, n, k, words::numbers::low8(regs[ARGS + 1]));
+    regs[regs::TEXT_LEN] = (n + k) as u64;
 }
 
 // Opens a loop: the variable, its first value, and how many turns.
-fn open(regs: &mut [u64; CELLS], v: u64, first: u64, turns: u64) -> bool {
+fn open(line: &[u8], regs: &mut [u64; CELLS]) {
     let depth = regs[regs::DEPTH];
-    if 4 <= depth {
-        return false;
+    let turns = regs[ARGS + 2];
+    if 4 <= depth || turns == 0 {
+        sink::fault(line, regs);
+        return;
     }
-    if turns == 0 {
-        return false;
-    }
+    let v = regs[ARGS] % VARIABLES;
     let at = regs::LOOPS + 3 * depth as usize;
-    let place = regs[regs::PLACE];
-    regs[at] = place;
+    regs[at] = regs[regs::PLACE];
     regs[at + 1] = v;
     regs[at + 2] = turns;
     regs[regs::DEPTH] = depth + 1;
-    regs::assign(regs, v, first);
-    true
+    regs[v as usize] = regs[ARGS + 1];
 }
 
 // The end of a loop: its next turn, or on.
-fn close(regs: &mut [u64; CELLS]) -> bool {
-    let depth = regs[regs::DEPTH];
-    if depth == 0 {
-        return false;
+fn close(line: &[u8], regs: &mut [u64; CELLS]) {
+    let depth = std::num::wrapping_sub_u64(regs[regs::DEPTH], 1);
+    if 4 <= depth {
+        sink::fault(line, regs);
+        return;
     }
-    if 4 < depth {
-        return false;
-    }
-    turned(regs, depth - 1);
-    true
-}
-
-fn turned(regs: &mut [u64; CELLS], depth: u64)
-    requires { ⌜ depth ≤ 3 ⌝ }
-{
     let at = regs::LOOPS + 3 * depth as usize;
     let turns = regs[at + 2];
     if turns <= 1 {
         regs[regs::DEPTH] = depth;
-    } else {
-        regs[at + 2] = turns - 1;
-        let place = regs[at];
-        regs[regs::PLACE] = place;
-        let v = regs[at + 1];
-        add(regs, v, 1);
+        return;
     }
+    regs[at + 2] = turns - 1;
+    regs[regs::PLACE] = regs[at];
+    let v = (regs[at + 1] % VARIABLES) as usize;
+    regs[v] = std::num::wrapping_add_u64(regs[v], 1);
 }
 
-// From here on answers go into a sum.
-fn fold(regs: &mut [u64; CELLS]) -> bool {
-    if regs[regs::FOLDING] != 0 {
-        return false;
+// Answers go into a sum from here on; or they are written, and what was folded is told: how many answers, and their sum.
+fn fold(verb: u64, line: &[u8], regs: &mut [u64; CELLS]) {
+    let folding = regs[regs::FOLDING];
+    if verb == verbs::FOLD {
+        if folding != 0 {
+            sink::fault(line, regs);
+            return;
+        }
+        regs[regs::FOLDING] = 1;
+        regs[regs::SUM] = words::sums::START;
+        regs[regs::CALLS] = 0;
+        return;
     }
-    regs[regs::FOLDING] = 1;
-    regs[regs::SUM] = crate::sums::START;
-    regs[regs::CALLS] = 0;
-    true
-}
-
-// From here on answers are written; what was folded is told: how many answers, and their sum.
-fn plain(regs: &mut [u64; CELLS]) -> Answer {
-    if regs[regs::FOLDING] == 0 {
-        return in_way(crate::calls::BAD);
+    if folding == 0 {
+        sink::fault(line, regs);
+        return;
     }
     regs[regs::FOLDING] = 0;
-    short(regs[regs::CALLS], 1, regs[regs::SUM])
+    sink::bytes(line, regs);
+    sink::number(regs[regs::CALLS], regs);
+    sink::number(regs[regs::SUM], regs);
+    sink::byte(b'\n', regs);
 }

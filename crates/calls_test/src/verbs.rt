@@ -1,170 +1,114 @@
-// The verbs of a script, each as the number that its letters make, first letter highest; what a verb does, and how many words it takes.
-ghost use Prim.Native.Nat.{_≤_};
-ghost use lib.ListN.{length};
+// The verbs of a script, each as the number that `scan::names::key_of` makes of it: its length lowest, then its letters; and the words that each takes.
+use crate::regs;
+use crate::regs::CELLS;
+use crate::sink;
 
 // loop
-pub const LOOP: u64 = 0x6c6f6f70;
+pub const LOOP: u64 = 0x706f6f6c04;
 // end
-pub const END: u64 = 0x656e64;
+pub const END: u64 = 0x646e6503;
 // set
-pub const SET: u64 = 0x736574;
+pub const SET: u64 = 0x74657303;
 // add
-pub const ADD: u64 = 0x616464;
+pub const ADD: u64 = 0x64646103;
 // random
-pub const RANDOM: u64 = 0x72616e646f6d;
+pub const RANDOM: u64 = 0x6d6f646e617206;
 // seed
-pub const SEED: u64 = 0x73656564;
+pub const SEED: u64 = 0x6465657304;
 // text
-pub const TEXT: u64 = 0x74657874;
+pub const TEXT: u64 = 0x7478657404;
 // more
-pub const MORE: u64 = 0x6d6f7265;
+pub const MORE: u64 = 0x65726f6d04;
 // fold
-pub const FOLD: u64 = 0x666f6c64;
+pub const FOLD: u64 = 0x646c6f6604;
 // plain
-pub const PLAIN: u64 = 0x706c61696e;
+pub const PLAIN: u64 = 0x6e69616c7005;
 // watch
-pub const WATCH: u64 = 0x7761746368;
+pub const WATCH: u64 = 0x686374617705;
 // views
-pub const VIEWS: u64 = 0x7669657773;
+pub const VIEWS: u64 = 0x737765697605;
 // length
-pub const LENGTH: u64 = 0x6c656e677468;
+pub const LENGTH: u64 = 0x6874676e656c06;
 // fill
-pub const FILL: u64 = 0x66696c6c;
+pub const FILL: u64 = 0x6c6c696604;
 // scatter
-pub const SCATTER: u64 = 0x73636174746572;
+pub const SCATTER: u64 = 0x7265747461637307;
 // poke1
-pub const POKE1: u64 = 0x706f6b6531;
+pub const POKE1: u64 = 0x31656b6f7005;
 // poke4
-pub const POKE4: u64 = 0x706f6b6534;
+pub const POKE4: u64 = 0x34656b6f7005;
 // poke8
-pub const POKE8: u64 = 0x706f6b6538;
+pub const POKE8: u64 = 0x38656b6f7005;
 // raise
-pub const RAISE: u64 = 0x7261697365;
+pub const RAISE: u64 = 0x657369617205;
 // keep
-pub const KEEP: u64 = 0x6b656570;
+pub const KEEP: u64 = 0x7065656b04;
 // back
-pub const BACK: u64 = 0x6261636b;
+pub const BACK: u64 = 0x6b63616204;
 // same
-pub const SAME: u64 = 0x73616d65;
+pub const SAME: u64 = 0x656d617304;
 // create
-pub const CREATE: u64 = 0x637265617465;
+pub const CREATE: u64 = 0x65746165726306;
 // laid
-pub const LAID: u64 = 0x6c616964;
+pub const LAID: u64 = 0x6469616c04;
 // remove
-pub const REMOVE: u64 = 0x72656d6f7665;
+pub const REMOVE: u64 = 0x65766f6d657206;
 // init
-pub const INIT: u64 = 0x696e6974;
+pub const INIT: u64 = 0x74696e6904;
 // options
-pub const OPTIONS: u64 = 0x6f7074696f6e73;
+pub const OPTIONS: u64 = 0x736e6f6974706f07;
 // walk
-pub const WALK: u64 = 0x77616c6b;
+pub const WALK: u64 = 0x6b6c617704;
 // look
-pub const LOOK: u64 = 0x6c6f6f6b;
+pub const LOOK: u64 = 0x6b6f6f6c04;
 // list
-pub const LIST: u64 = 0x6c697374;
+pub const LIST: u64 = 0x7473696c04;
 // mount
-pub const MOUNT: u64 = 0x6d6f756e74;
+pub const MOUNT: u64 = 0x746e756f6d05;
 // mountat
-pub const MOUNT_AT: u64 = 0x6d6f756e746174;
+pub const MOUNT_AT: u64 = 0x7461746e756f6d07;
 // umount
-pub const UMOUNT: u64 = 0x756d6f756e74;
+pub const UMOUNT: u64 = 0x746e756f6d7506;
 // route
-pub const ROUTE: u64 = 0x726f757465;
+pub const ROUTE: u64 = 0x6574756f7205;
 // root
-pub const ROOT: u64 = 0x726f6f74;
+pub const ROOT: u64 = 0x746f6f7204;
 // lookup
-pub const LOOKUP: u64 = 0x6c6f6f6b7570;
+pub const LOOKUP: u64 = 0x70756b6f6f6c06;
 // ids
-pub const IDS: u64 = 0x696473;
+pub const IDS: u64 = 0x73646903;
 // save
-pub const SAVE: u64 = 0x73617665;
+pub const SAVE: u64 = 0x6576617304;
 // restore
-pub const RESTORE: u64 = 0x726573746f7265;
+pub const RESTORE: u64 = 0x65726f7473657207;
 
-// The longest verb.
-const LONGEST: usize = 8;
-
-// The number with one letter more.
-fn with_letter(x: u64, b: u8) -> u64 {
-    x % 72057594037927936 * 256 + b as u64
-}
-
-// The number that the letters of a word make; 0 for a longer word than any verb.
-pub fn verb(w: &[u8]) -> u64 {
-    if LONGEST < w.len() {
-        return 0;
+// A line's verb, where the line has just so many numbers and texts; else 0, and the line is told behind `!`.
+fn taking(n: u64, t: u64, verb: u64, line: &[u8], regs: &mut [u64; CELLS]) -> u64 {
+    if regs[regs::NUMBERS] == n {
+        if regs[regs::TEXTS] == t {
+            return verb;
+        }
     }
-    let mut x: u64 = 0;
-    let mut i = 0;
-    while i < w.len() {
-        x = with_letter(x, w[i]);
-        i += 1;
-    }
-    x
+    sink::fault(line, regs);
+    0
 }
 
-// What a line is: nothing, a heading, no line of a script, or by its verb.
-pub enum Kind {
-    Nothing,
-    Heading,
-    Bad,
-    Steers,
-    Sets,
-    Calls,
-}
-
-// What stands for a line that is no verb with its words.
-pub const NOTHING: u64 = 1;
-
-pub const HEADING: u64 = 2;
-
-pub const BAD: u64 = 0;
-
-// What a line is; all that is not named is a call.
-pub fn kind_of(verb: u64) -> Kind {
+// The verb of a line whose words are read, by its name and the words that it takes; or 0, as above.
+pub fn verb_of(name: &[u8], line: &[u8], regs: &mut [u64; CELLS]) -> u64 {
+    let verb = scan::names::key_of(name).word;
     match verb {
-        NOTHING => Kind::Nothing,
-        HEADING => Kind::Heading,
-        BAD => Kind::Bad,
-        LOOP
-        | END
-        | SET
-        | ADD
-        | RANDOM
-        | SEED
-        | TEXT
-        | MORE
-        | FOLD
-        | PLAIN
-        | WATCH
-        | VIEWS
-        | LENGTH => Kind::Steers,
-        FILL | SCATTER | POKE1 | POKE4 | POKE8 | RAISE | KEEP | BACK | SAME => Kind::Sets,
-        _ => Kind::Calls,
-    }
-}
-
-// How many numbers a verb takes, and 10 more where it takes a text; 9 is none of a line's.
-pub fn shape(verb: u64) -> u64 {
-    match verb {
-        END | FOLD | PLAIN | LAID | REMOVE | INIT | OPTIONS => 0,
-        TEXT | WALK | UMOUNT | ROOT => 10,
-        SEED | WATCH | VIEWS | LENGTH | KEEP | BACK | ROUTE | RESTORE => 1,
-        LOOK | LOOKUP => 11,
-        SET | ADD | RANDOM | MORE | POKE1 | POKE4 | POKE8 | RAISE | SAME | SAVE => 2,
-        LOOP | FILL | SCATTER | IDS => 3,
-        LIST => 4,
-        MOUNT => 16,
-        MOUNT_AT => 17,
-        CREATE => 8,
-        _ => 9,
-    }
-}
-
-// Whether a call that is done writes to the lent bytes.
-pub fn writes(verb: u64) -> bool {
-    match verb {
-        CREATE | REMOVE | MOUNT | MOUNT_AT | UMOUNT | RESTORE => true,
-        _ => false,
+        END | FOLD | PLAIN | LAID | REMOVE | INIT | OPTIONS => taking(0, 0, verb, line, regs),
+        TEXT | WALK | UMOUNT | ROOT => taking(0, 1, verb, line, regs),
+        SEED | WATCH | VIEWS | LENGTH => taking(1, 0, verb, line, regs),
+        KEEP | BACK | ROUTE | RESTORE => taking(1, 0, verb, line, regs),
+        LOOK | LOOKUP => taking(1, 1, verb, line, regs),
+        SET | ADD | RANDOM | MORE | SAME | SAVE => taking(2, 0, verb, line, regs),
+        POKE1 | POKE4 | POKE8 | RAISE => taking(2, 0, verb, line, regs),
+        LOOP | FILL | SCATTER | IDS => taking(3, 0, verb, line, regs),
+        LIST => taking(4, 0, verb, line, regs),
+        MOUNT => taking(6, 1, verb, line, regs),
+        MOUNT_AT => taking(7, 1, verb, line, regs),
+        CREATE => taking(8, 0, verb, line, regs),
+        _ => taking(9, 0, verb, line, regs),
     }
 }

@@ -1,8 +1,9 @@
--- `calls_test::run` is free of faults: places within the slices, sums within their widths.
-use borrow.Author.Needs.{needs}
-use Prim.Native.Nat.{_-_, _+_, _≤_, _<_}
+-- `calls_test::run` is safe and ends: the turns are counted down. Assumes nothing.
+use native.Mathlib.Omega.{arith}
 use mathlib.Core.Path.{_≡_}
 use lib.ListN.{length}
+use Rattle.words.proofs.Finding.{ends}
+use borrow.Author.Needs.{needs}
 use Rattle.calls_test.proofs.run.Statement.{statement}
 use Rattle.calls_test.proofs.run.Tie as tie
 
@@ -27,29 +28,26 @@ same-length-2 c = search needs
 same-length-3 : tie.Need-same-length-3 Inv-loop μ-loop
 same-length-3 c = search needs
 
-same-length-4 : tie.Need-same-length-4 Inv-loop μ-loop
-same-length-4 c = search needs
-
 returns : tie.Need-returns Inv-loop μ-loop
 returns c = search needs
 
-line-end-requires : tie.Need-line-end-requires Inv-loop μ-loop
-line-end-requires c κs = search needs
+part-end-requires : tie.Need-part-end-requires Inv-loop μ-loop
+part-end-requires c κs = search needs
 
 add-regs : tie.Need-add-regs Inv-loop μ-loop
-add-regs c = search needs
+add-regs c = omega (arith, ends _ _ _ _ (c .part-end .ensures) (c .before .if1 .left) .1)
 
 element-write-regs : tie.Need-element-write-regs Inv-loop μ-loop
 element-write-regs c = search needs
 
 sub-line : tie.Need-sub-line Inv-loop μ-loop
-sub-line c = search needs
+sub-line c = omega (arith, ends _ _ _ _ (c .part-end .ensures) (c .before .if1 .left) .0)
 
 part-line-start : tie.Need-part-line-start Inv-loop μ-loop
-part-line-start c = search needs
+part-line-start c = omega (arith, ends _ _ _ _ (c .part-end .ensures) (c .before .if1 .left) .0)
 
 part-line-end : tie.Need-part-line-end Inv-loop μ-loop
-part-line-end c = search needs
+part-line-end c = omega (arith, ends _ _ _ _ (c .part-end .ensures) (c .before .if1 .left) .0, ends _ _ _ _ (c .part-end .ensures) (c .before .if1 .left) .1)
 
 line-requires : tie.Need-line-requires Inv-loop μ-loop
 line-requires c κs = search needs
@@ -62,6 +60,9 @@ loop-less c = search needs
 
 loop-again : tie.Need-loop-again Inv-loop μ-loop
 loop-again c = search needs
+
+same-length-4 : tie.Need-same-length-4 Inv-loop μ-loop
+same-length-4 c = search needs
 
 same-length-5 : tie.Need-same-length-5 Inv-loop μ-loop
 same-length-5 c = search needs
@@ -84,7 +85,7 @@ run-spec =
     same-length-2
     same-length-3
     returns
-    line-end-requires
+    part-end-requires
     add-regs
     element-write-regs
     sub-line

@@ -1,13 +1,15 @@
--- `calls_test::text::words` is free of faults: places within the slices, sums within their widths.
-use borrow.Author.Needs.{needs}
-use Prim.Native.Nat.{_-_, _+_, _≤_, _<_}
+-- `calls_test::text::words` is safe and ends: each turn goes past a word. Assumes nothing.
+use Prim.Native.Nat.{_-_}
+use native.Mathlib.Omega.{arith}
 use mathlib.Core.Path.{_≡_}
 use lib.ListN.{length}
+use Rattle.words.proofs.Finding.{ends}
+use borrow.Author.Needs.{needs}
 use Rattle.calls_test.proofs.text.words.Statement.{statement}
 use Rattle.calls_test.proofs.text.words.Tie as tie
 
 abbrev Inv-loop : tie.InvT-loop
-Inv-loop line from text₀ regs₀ at₀ text regs at = (length text ≡ length text₀)
+Inv-loop line from text₀ regs₀ at₀ text regs at = length text ≡ length text₀
 
 abbrev μ-loop : tie.MeasureT-loop
 μ-loop line from text₀ regs₀ at₀ text regs at = length line - at
@@ -21,17 +23,17 @@ element-write-regs-2 c = search needs
 loop-holds : tie.Need-loop-holds Inv-loop μ-loop
 loop-holds c = search needs
 
-word-end-requires : tie.Need-word-end-requires Inv-loop μ-loop
-word-end-requires c κs = search needs
+part-end-requires : tie.Need-part-end-requires Inv-loop μ-loop
+part-end-requires c κs = search needs
 
 sub-word : tie.Need-sub-word Inv-loop μ-loop
-sub-word c = search needs
+sub-word c = omega (arith, ends _ _ _ _ (c .part-end .ensures) (c .before .loop-test .taken) .0)
 
 part-word-start : tie.Need-part-word-start Inv-loop μ-loop
-part-word-start c = search needs
+part-word-start c = omega (arith, ends _ _ _ _ (c .part-end .ensures) (c .before .loop-test .taken) .0)
 
 part-word-end : tie.Need-part-word-end Inv-loop μ-loop
-part-word-end c = search needs
+part-word-end c = omega (arith, ends _ _ _ _ (c .part-end .ensures) (c .before .loop-test .taken) .0, ends _ _ _ _ (c .part-end .ensures) (c .before .loop-test .taken) .1)
 
 word-requires : tie.Need-word-requires Inv-loop μ-loop
 word-requires c κs = search needs
@@ -43,10 +45,10 @@ returns : tie.Need-returns Inv-loop μ-loop
 returns c = search needs
 
 add-at : tie.Need-add-at Inv-loop μ-loop
-add-at c = search needs
+add-at c = omega (arith, ends _ _ _ _ (c .before .before .before .before .before .before .before .part-end .ensures) (c .before .before .before .before .before .before .before .before .loop-test .taken) .1)
 
 loop-less : tie.Need-loop-less Inv-loop μ-loop
-loop-less c = search needs
+loop-less c = omega (arith, ends _ _ _ _ (c .before .before .before .before .before .before .before .part-end .ensures) (c .before .before .before .before .before .before .before .before .loop-test .taken) .0)
 
 loop-again : tie.Need-loop-again Inv-loop μ-loop
 loop-again c = search needs
@@ -66,7 +68,7 @@ words-spec =
     element-write-regs
     element-write-regs-2
     loop-holds
-    word-end-requires
+    part-end-requires
     sub-word
     part-word-start
     part-word-end
