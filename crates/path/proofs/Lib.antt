@@ -1,6 +1,5 @@
 -- What is proved of paths, for the proofs of this crate and of its callers.
 pub mod Places
-pub mod Table
 pub mod Naming
 pub mod Together
 pub mod Words

@@ -1,28 +1,20 @@
--- Eight bytes together: what is found in parts is found in the whole; a plain text is well formed. Assumes nothing.
+-- Eight bytes together: what is found in parts is found in the whole. Assumes nothing.
 use mathlib.Core.Path.{_≡_, refl, sym, ap, _∙_}
-use mathlib.Core.Bool.{Bool, true, false, not, _&&_, _||_, false≢true}
-use mathlib.Core.List.{List, [], _∷_}
+use mathlib.Core.Bool.{Bool, true, false, _||_}
+use mathlib.Core.List.{List}
 use Prim.Native.Nat.{ℕ, zero, suc, _+_, _-_, _≤_, _<_}
 use native.Mathlib.Nat.{add-zero, zero-add}
-use native.Mathlib.Numerals.{one-add}
 use native.Mathlib.Omega.{arith}
-use borrow.Author.Tests.{eq-eqb, ne-eqb, eqb-true, eqb-false, ltb-false, le-leb, lt-leb, leb-true, not-true}
+use borrow.Author.Tests.{eq-eqb, ne-eqb, eqb-true, eqb-false}
 use lib.ListN.{length, getD, drop}
-use lib.Dec.{eqb, leb, ltb}
+use lib.Dec.{eqb}
 use Rattle.rules.specs.Bytes.{holds}
-use Rattle.rules.specs.Path.{dot, isDot, isDots}
-use Rattle.rules.specs.Utf8.{table, fits, sequence, validTo, wellFormed}
 use Rattle.scan.specs.First.{anyOf}
 use Rattle.scan.proofs.First.{neither, any-add, any-part, any-last, any-more}
 use Rattle.path.specs.Steps.{partEnd}
-use Rattle.path.specs.Together.{odd, isOdd, isByte, plainLong}
-use Rattle.path.proofs.Table.{sequence-row, valid-next, valid-done}
+use Rattle.path.specs.Together.{isByte}
 use Rattle.path.proofs.Words.{end-more}
-use Rattle.path.proofs.Naming.{same-length, holds-end, holds-here, holds-more}
-
-both : (a b : Bool) → (a && b) ≡ true → (a ≡ true) × (b ≡ true)
-both true b e = (refl, e)
-both false b e = (e, absurd (false≢true e))
+use Rattle.path.proofs.Naming.{holds-end, holds-here, holds-more}
 
 -- ---- one byte
 
@@ -70,7 +62,7 @@ end-eight b s i l h e = (omega (arith, l .0), sym (end-skip b s i 8 (omega (arit
 -- ---- a byte in a string
 
 -- the first of the places, and those behind it
-any-first : (f : ℕ → Bool) (i k : ℕ) → anyOf f i (suc k) ≡ (f i || anyOf f (i + 1) k)
+pub any-first : (f : ℕ → Bool) (i k : ℕ) → anyOf f i (suc k) ≡ (f i || anyOf f (i + 1) k)
 unfolding anyOf
 any-first f i k =
     let z : suc k ≡ 1 + k = omega arith in
@@ -89,58 +81,3 @@ holds-from b s (suc k) i e = go (eqb (getD s i 0) b) refl (holds-from b s k (i +
 
 pub holds-any : (b : ℕ) (s : List ℕ) → holds b s ≡ anyOf (isByte b s) 0 (length s)
 holds-any b s = holds-from b s (length s) 0 (zero-add (length s))
-
--- ---- a plain text is well formed
-
-one-byte : (s : List ℕ) (i : ℕ) → i < length s → getD s i 0 ≤ 127 → sequence (drop i s) ≡ 1
-unfolding table fits
-one-byte s i h l = sequence-row s i h 0 (omega arith)
-
-plain-from : (s : List ℕ) (k i : ℕ) → i + k ≡ length s → anyOf (isOdd s) i k ≡ false → validTo (drop i s) ≡ k
-unfolding odd
-plain-from s zero i e f = valid-done s i (omega arith)
-plain-from s (suc k) i e f =
-    let n = neither (isOdd s i) (anyOf (isOdd s) (i + 1) k) (sym (any-first (isOdd s) i k) ∙ f) in
-    let m = neither (eqb (getD s i 0) 0) (ltb 127 (getD s i 0)) (n .0) in
-    valid-next s i 1 (one-byte s i (omega arith) (ltb-false 127 (getD s i 0) (m .1))) (omega arith)
-    ∙ ap (λ (m : ℕ). 1 + m) (plain-from s k (i + 1) (omega arith) (n .1)) ∙ one-add k
-
-pub plain-formed : (s : List ℕ) → plainLong s ≡ true → wellFormed s ≡ true
-unfolding plainLong wellFormed
-plain-formed s e =
-    let n = both (leb 8 (length s)) (not (anyOf (isOdd s) 0 (length s))) e in
-    eq-eqb (validTo s) (length s) (plain-from s (length s) 0 (zero-add (length s)) (not-true (anyOf (isOdd s) 0 (length s)) (n .1)))
-
--- it has no byte 0, and is no dots
-
-no-zero : (s : List ℕ) (i k : ℕ) → anyOf (isOdd s) i k ≡ false → anyOf (isByte 0 s) i k ≡ false
-unfolding anyOf odd isByte
-no-zero s i zero e = refl
-no-zero s i (suc k) e =
-    let n = neither (anyOf (isOdd s) i k) (isOdd s (i + k)) e in
-    let m = neither (eqb (getD s (i + k) 0) 0) (ltb 127 (getD s (i + k) 0)) (n .1) in
-    rw (no-zero s i k (n .0), m .0)
-
-module _ (s : List ℕ) (e : plainLong s ≡ true) where
-  plain-long : 8 ≤ length s
-  unfolding plainLong
-  plain-long = leb-true 8 (length s) (both (leb 8 (length s)) (not (anyOf (isOdd s) 0 (length s))) e .0)
-
-  pub plain-no-zero : holds 0 s ≡ false
-  unfolding plainLong
-  plain-no-zero = holds-any 0 s ∙ no-zero s 0 (length s) (not-true (anyOf (isOdd s) 0 (length s)) (both (leb 8 (length s)) (not (anyOf (isOdd s) 0 (length s))) e .1))
-
-  pub plain-no-dot : isDot s ≡ false
-  plain-no-dot = sym (same-length s (dot ∷ []) (λ q. omega (arith, plain-long, q)))
-
-  pub plain-no-dots : isDots s ≡ false
-  plain-no-dots = sym (same-length s (dot ∷ dot ∷ []) (λ q. omega (arith, plain-long, q)))
-
-module _ (s : List ℕ) where
-  pub short-not-plain : length s < 8 → plainLong s ≡ false
-  unfolding plainLong
-  short-not-plain h = rw (lt-leb 8 (length s) h)
-
-  pub long-plain : 8 ≤ length s → plainLong s ≡ not (anyOf (isOdd s) 0 (length s))
-  unfolding plainLong
-  long-plain h = rw (le-leb 8 (length s) h)

@@ -1,23 +1,10 @@
--- Tests of one byte of a string.
+-- The test of one byte of a string.
 use Prim.Native.Nat.{ℕ}
-use mathlib.Core.Bool.{Bool, not, _&&_, _||_}
+use mathlib.Core.Bool.{Bool}
 use mathlib.Core.List.{List}
-use lib.ListN.{length, getD}
-use lib.Dec.{eqb, leb, ltb}
-use Rattle.scan.specs.First.{anyOf}
-
--- a byte that a plain text has not: 0, or 128 and more
-unfoldable pub odd : ℕ → Bool
-odd b = eqb b 0 || ltb 127 b
-
--- byte i is such a byte
-abbrev pub isOdd : List ℕ → ℕ → Bool
-isOdd s i = odd (getD s i 0)
+use lib.ListN.{getD}
+use lib.Dec.{eqb}
 
 -- byte i is b
 unfoldable pub isByte : ℕ → List ℕ → ℕ → Bool
 isByte b s i = eqb (getD s i 0) b
-
--- eight bytes or more, and none of them is odd
-unfoldable pub plainLong : List ℕ → Bool
-plainLong s = leb 8 (length s) && not (anyOf (isOdd s) 0 (length s))

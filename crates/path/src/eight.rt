@@ -3,33 +3,7 @@ ghost use mathlib.Core.Path.{_≡_};
 ghost use Prim.Native.Nat.{_+_, _≤_};
 ghost use lib.ListN.{length};
 ghost use Rattle.scan.specs.First.{anyOf};
-ghost use Rattle.path.specs.Together.{odd, isOdd, isByte};
-
-// Whether a byte is 0, or 128 or more.
-fn is_odd(b: u8) -> bool
-    ensures { λ r. ⌜ r ≡ odd b ⌝ }
-{
-    if b == 0 {
-        return true;
-    }
-    127 < b
-}
-
-// Whether one of the eight bytes at a place is 0, or 128 or more.
-pub fn any_odd(s: &[u8], at: usize) -> bool
-    requires { ⌜ at + 8 ≤ length (now s) ⌝ }
-    ensures { λ r. ⌜ r ≡ anyOf (isOdd (now (s .entry))) at 8 ⌝ }
-{
-    let mut hit = false;
-    let mut k = 0;
-    while k < 8 {
-        if is_odd(s[at + k]) {
-            hit = true;
-        }
-        k += 1;
-    }
-    hit
-}
+ghost use Rattle.path.specs.Together.{isByte};
 
 // Whether one of the eight bytes at a place is b.
 pub fn any_byte(s: &[u8], at: usize, b: u8) -> bool

@@ -24,8 +24,8 @@ fn all(input: &[u8], bytes: &mut [u8]) {
 }
 
 fn report(s: &[u8]) {
-    number(path::utf8::valid_to(s));
-    flag(path::utf8::is_utf8(s));
+    number(utf8::valid_to(s));
+    flag(utf8::is_utf8(s));
     flag(path::components::is_rooted(s));
     flag(path::limits::is_too_long(s));
     checked(path::names::validate_path_component(s));

@@ -55,7 +55,7 @@ fn is_good_name(name: &[u8]) -> bool
     if path::names::is_dots(name) {
         return false;
     }
-    path::utf8::is_utf8(name)
+    utf8::is_utf8(name)
 }
 
 // Whether the record at a place has a number above the last one and below the next, and a good name (R129).

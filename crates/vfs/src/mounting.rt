@@ -134,7 +134,7 @@ pub fn mount(s: &mut [u8], path: &[u8], b: Backend) -> Mounted
     if path::limits::is_too_long(path) {
         return Mounted::TooLong;
     }
-    if !path::utf8::is_utf8(path) {
+    if !utf8::is_utf8(path) {
         return Mounted::Inval { count: 0 };
     }
     if rules::VFS_MAX_INO < b.max {

@@ -87,7 +87,7 @@ pub fn restore_mount(s: &mut [u8], k: u8, path: &[u8], b: Backend) -> Restored
     if path::limits::is_too_long(path) {
         return Restored::TooLong;
     }
-    if !path::utf8::is_utf8(path) {
+    if !utf8::is_utf8(path) {
         return Restored::Inval;
     }
     if k == 0 {

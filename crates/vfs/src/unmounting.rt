@@ -9,12 +9,12 @@ ghost use Rattle.tables.specs.Call.{Does};
 ghost use Rattle.vfs.specs.Unmounting.{unmountedTold, unmountMem, Unmounts};
 use inode::NodeNumber;
 use path::components::is_rooted;
-use path::utf8::is_utf8;
 use pseudo_fs::inner::Walked;
 use pseudo_fs::inner::walk;
 use storage::is_laid;
 use tables::mounts::MountOn;
 use tables::slots::Tag;
+use utf8::is_utf8;
 
 // What an unmount answers: the node, its parent and the tag released, or a refusal.
 pub enum Unmounted {

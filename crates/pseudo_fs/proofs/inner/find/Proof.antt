@@ -8,7 +8,7 @@ use Rattle.rules.specs.Utf8.{wellFormed}
 use Rattle.rules.specs.Path.{isDot, isDots}
 use Rattle.rules.specs.Tree.{isKnown}
 use Rattle.tables.specs.View.{nodesOf}
-use Rattle.path.proofs.Together.{plain-formed, plain-no-zero, plain-no-dot, plain-no-dots}
+use Rattle.utf8.proofs.Plain.{plain-formed, plain-no-zero, plain-no-dot, plain-no-dots}
 use Rattle.pseudo_fs.proofs.Finds.{unknown-parent, byte-zero, bad-name, itself, its-parent, by-child}
 use borrow.Author.Needs.{needs}
 use Rattle.pseudo_fs.proofs.inner.find.Statement.{statement}

@@ -1,0 +1,18 @@
+-- `utf8::two` meets its contract. Assumes nothing.
+use borrow.Author.Needs.{needs}
+use mathlib.Core.Path.{sym, _∙_}
+use Rattle.utf8.proofs.Table.{cond-yes, cond-no}
+use Rattle.utf8.proofs.two.Statement.{statement}
+use Rattle.utf8.proofs.two.Tie as tie
+
+is-in-requires : tie.Need-is-in-requires
+is-in-requires c κs = search needs
+
+returns : tie.Need-returns
+returns c = cond-yes _ _ (sym (c .before .is-in .ensures) ∙ c .if1 .taken)
+
+returns-2 : tie.Need-returns-2
+returns-2 c = cond-no _ _ (sym (c .before .is-in .ensures) ∙ c .if1 .left)
+
+pub two-spec : {M : Type 1} → statement M
+two-spec = tie.close (tie.spec is-in-requires returns returns-2)
