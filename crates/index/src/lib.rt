@@ -4,6 +4,8 @@ ghost use Rattle.rules.specs.Round.{freeOf, allocate};
 ghost use Rattle.index.specs.Slots.{heldIn, New};
 ghost use Rattle.index.specs.Search.{readOf, told};
 ghost use Rattle.index.specs.Take.{tableOf, Steps};
+use rules::codes::DONE;
+use rules::codes::FULL;
 
 // The slots and the counter, of numbers alone, as a host lends them: a slot is held where its occupancy byte is not 0 (R56, R90).
 #[repr(C)]
@@ -39,11 +41,6 @@ const EMPTY: u8 = 0;
 const HELD: u8 = 1;
 
 const NO_TAG: u32 = 0;
-
-// The numbers of the answers (R15).
-const DONE: u32 = 0;
-
-const FULL: u32 = 5;
 
 // A new instance's: 256 empty slots, and counter 1 (R31).
 pub fn new() -> FsIndexes
