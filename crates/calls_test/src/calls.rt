@@ -84,7 +84,7 @@ fn list(s: &[u8], regs: &mut [u64; CELLS]) {
 }
 
 // A mount for 0, or a restored mount for 1: the index of that stands before the other numbers.
-fn mount(k: usize, s: &mut [u8], path: &[u8], regs: &mut [u64; CELLS]) {
+fn placed(k: usize, s: &mut [u8], path: &[u8], regs: &mut [u64; CELLS]) {
     let at = ARGS + k % 2;
     let b = Backend {
         tag: low32(regs[at]),
@@ -95,24 +95,35 @@ fn mount(k: usize, s: &mut [u8], path: &[u8], regs: &mut [u64; CELLS]) {
         mode: low32(regs[at + 5]),
     };
     if k == 0 {
-        let a = flat::mounted(vfs::mounting::mount(s, path, b));
-        let v = [
-            a.fs_idx as u64,
-            a.count as u64,
-            a.has_replaced as u64,
-            a.replaced as u64,
-        ];
-        sink::answer(a.code, &v, regs);
-        return;
+        mount(s, path, b, regs);
+    } else {
+        mount_at(low8(regs[ARGS]), s, path, b, regs);
     }
-    let index = low8(regs[ARGS]);
+}
+
+// Index, count, whether a tag was replaced, and that tag.
+fn mount(s: &mut [u8], path: &[u8], b: Backend, regs: &mut [u64; CELLS]) {
+    let a = flat::mounted(vfs::mounting::mount(s, path, b));
+    let count = a.count as u64;
+    let v = [
+        a.fs_idx as u64,
+        count,
+        a.has_replaced as u64,
+        a.replaced as u64,
+    ];
+    sink::answer(a.code, &v, regs);
+}
+
+// Whether a tag was replaced, that tag, whether one was displaced, and that tag.
+fn mount_at(index: u8, s: &mut [u8], path: &[u8], b: Backend, regs: &mut [u64; CELLS]) {
     let a = flat::restored_mount(vfs::restoring::restore_mount(s, index, path, b));
     let replaced = a.replaced as u64;
+    let displaced = a.displaced as u64;
     let v = [
         a.has_replaced as u64,
         replaced,
         a.has_displaced as u64,
-        a.displaced as u64,
+        displaced,
     ];
     sink::answer(a.code, &v, regs);
 }
@@ -184,8 +195,8 @@ pub fn call(verb: u64, s: &mut [u8], text: &[u8], regs: &mut [u64; CELLS]) {
     match verb {
         verbs::CREATE => create(s, regs),
         verbs::REMOVE => sink::code(flat::removal(storage::set_remove_pseudo_root(s)).code, regs),
-        verbs::MOUNT => mount(0, s, path, regs),
-        verbs::MOUNT_AT => mount(1, s, path, regs),
+        verbs::MOUNT => placed(0, s, path, regs),
+        verbs::MOUNT_AT => placed(1, s, path, regs),
         verbs::UMOUNT => umount(s, path, regs),
         _ => ask(verb, s, path, regs),
     }

@@ -42,6 +42,7 @@ fn change(verb: u64, line: &[u8], s: &mut [u8], regs: &mut [u64; CELLS]) {
     }
 }
 
+// One byte, so many times.
 fn fill(line: &[u8], s: &mut [u8], regs: &mut [u64; CELLS]) {
     let at = least(regs[ARGS], s.len());
     let n = least(regs[ARGS + 1], s.len() - at);

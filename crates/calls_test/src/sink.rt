@@ -3,6 +3,7 @@ use crate::regs;
 use crate::regs::CELLS;
 use libc::STDOUT_FILENO;
 
+// Bytes as they are.
 pub fn bytes(s: &[u8], regs: &mut [u64; CELLS]) {
     if regs[regs::FOLDING] == 0 {
         io::write_all(STDOUT_FILENO, s);
@@ -11,6 +12,7 @@ pub fn bytes(s: &[u8], regs: &mut [u64; CELLS]) {
     }
 }
 
+// One byte.
 pub fn byte(b: u8, regs: &mut [u64; CELLS]) {
     let one = [b];
     bytes(&one, regs);

@@ -82,33 +82,29 @@ pub const SAVE: u64 = 0x6576617304;
 // restore
 pub const RESTORE: u64 = 0x65726f7473657207;
 
-// A line's verb, where the line has just so many numbers and texts; else 0, and the line is told behind `!`.
-fn taking(n: u64, t: u64, verb: u64, line: &[u8], regs: &mut [u64; CELLS]) -> u64 {
-    if regs[regs::NUMBERS] == n {
-        if regs[regs::TEXTS] == t {
-            return verb;
+// The verb of a line whose words are read: its name's, where that takes so many numbers (and 10 for a text); else 0, and the line is told behind `!`.
+pub fn verb_of(name: &[u8], line: &[u8], regs: &mut [u64; CELLS]) -> u64 {
+    let verb = scan::names::key_of(name).word;
+    let shape: u64 = match verb {
+        END | FOLD | PLAIN | LAID | REMOVE | INIT | OPTIONS => 0,
+        SEED | WATCH | VIEWS | LENGTH | KEEP | BACK | ROUTE | RESTORE => 1,
+        SET | ADD | RANDOM | MORE | POKE1 | POKE4 | POKE8 | RAISE | SAME | SAVE => 2,
+        LOOP | FILL | SCATTER | IDS => 3,
+        LIST => 4,
+        CREATE => 8,
+        TEXT | WALK | UMOUNT | ROOT => 10,
+        LOOK | LOOKUP => 11,
+        MOUNT => 16,
+        MOUNT_AT => 17,
+        _ => 9,
+    };
+    if shape % 10 == regs[regs::NUMBERS] {
+        if shape / 10 == regs[regs::TEXTS] {
+            if name.len() <= 7 {
+                return verb;
+            }
         }
     }
     sink::fault(line, regs);
     0
-}
-
-// The verb of a line whose words are read, by its name and the words that it takes; or 0, as above.
-pub fn verb_of(name: &[u8], line: &[u8], regs: &mut [u64; CELLS]) -> u64 {
-    let verb = scan::names::key_of(name).word;
-    match verb {
-        END | FOLD | PLAIN | LAID | REMOVE | INIT | OPTIONS => taking(0, 0, verb, line, regs),
-        TEXT | WALK | UMOUNT | ROOT => taking(0, 1, verb, line, regs),
-        SEED | WATCH | VIEWS | LENGTH => taking(1, 0, verb, line, regs),
-        KEEP | BACK | ROUTE | RESTORE => taking(1, 0, verb, line, regs),
-        LOOK | LOOKUP => taking(1, 1, verb, line, regs),
-        SET | ADD | RANDOM | MORE | SAME | SAVE => taking(2, 0, verb, line, regs),
-        POKE1 | POKE4 | POKE8 | RAISE => taking(2, 0, verb, line, regs),
-        LOOP | FILL | SCATTER | IDS => taking(3, 0, verb, line, regs),
-        LIST => taking(4, 0, verb, line, regs),
-        MOUNT => taking(6, 1, verb, line, regs),
-        MOUNT_AT => taking(7, 1, verb, line, regs),
-        CREATE => taking(8, 0, verb, line, regs),
-        _ => taking(9, 0, verb, line, regs),
-    }
 }
