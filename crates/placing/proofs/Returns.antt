@@ -1,19 +1,19 @@
 -- What each way through the functions gives. Assumes nothing.
 use mathlib.Core.Path.{_≡_, refl, sym, ap, _∙_, subst}
 use mathlib.Core.Bool.{Bool, true, false, cond, not, _&&_}
-use mathlib.Core.List.{List}
+use mathlib.Core.List.{List, [], _∷_}
 use mathlib.Core.Option.{Option, none, some}
 use Prim.Native.Nat.{ℕ, _<_}
 use lib.Dec.{eqb}
 use borrow.Author.Tests.{not-true, not-false, eq-eqb, ne-eqb}
 use Rattle.rules.specs.Numbers.{rootNumber}
-use Rattle.rules.specs.Tree.{Mount}
-use Rattle.rules.specs.Instance.{Instance, tagIn as tagInSlot, tagOf, mountOf}
-use Rattle.rules.specs.Mount.{tagAt}
+use Rattle.rules.specs.Tree.{Mount, Node, mountAt, withMount}
+use Rattle.rules.specs.Instance.{Tree, Instance, tagIn as tagInSlot, tagOf, mountOf, setMount}
+use Rattle.rules.specs.Mount.{freed, tagAt}
 use Rattle.tables.specs.View.{flag, headOf, slotAt, nodesOf, view}
 use Rattle.tables.specs.Rule.{laid}
 use Rattle.tables.specs.Write.{setSlot, removeRow}
-use Rattle.tables.specs.Answer.{tagIn, rowIn, mountOfPoint, mountIn, placeIn, atPlace, mountMem, removeMem}
+use Rattle.tables.specs.Answer.{tagIn, rowIn, mountOfPoint, mountIn, placeIn, rowFor, RowOf, atPlace, mountMem, removeMem}
 use Rattle.tables.specs.declared.slots.Tag.{Tag}
 use Rattle.tables.specs.declared.slots.Tag.the-variants.{Empty}
 use Rattle.tables.specs.declared.mounts.MountPoint.{MountPoint}
@@ -24,8 +24,9 @@ use Rattle.placing.specs.Place.{freedMem, placeMem, outMem, takeOffMem, 
 use Rattle.tables.specs.Layout.{countOf}
 use Rattle.tables.specs.declared.rows.Row.{Row}
 use Rattle.tables.specs.declared.rows.Row.the-variants.{At, Nothing as RowNothing}
-use Rattle.tables.proofs.Find.{row-below}
-use Rattle.tables.proofs.Keeps.{keeps-mount}
+use Rattle.tables.proofs.Find.{row-below, row-else}
+use Rattle.tables.proofs.Places.{view-mount}
+use Rattle.tables.proofs.Keeps.{laid-is, keeps-mount}
 use Rattle.placing.proofs.Stands.{tag-of-is, view-freed, keeps-freed}
 
 pub frees-point : (mem : List ℕ) (old : MountOn) (m : MountPoint) (r : Tag) (after : List ℕ) → old ≡ Point m → m .«fs_idx» < 256
@@ -60,9 +61,45 @@ laid-freed mem m₁ old r e f = ap laid (f .bytes) ∙ keeps-freed mem e (mountI
 pub laid-mounted : (mem m₁ : List ℕ) (m : Option Mount) (x : ℕ) → laid mem ≡ true → m₁ ≡ mountMem (nodesOf mem) m x mem → laid m₁ ≡ true
 laid-mounted mem m₁ m x e f = ap laid f ∙ keeps-mount mem e m x
 
-pub row-of : (mem : List ℕ) (x : ℕ) (w : Row) (i : ℕ) → rowIn w ≡ placeIn (nodesOf mem) x → w ≡ At i → i < countOf mem
+pub row-of : (mem : List ℕ) (x : ℕ) (w : Row) (i : ℕ) → RowOf mem x w → (x ≡ rootNumber → ⊥) → w ≡ At i → i < countOf mem
 unfolding rowIn
-row-of mem x w i e f = row-below mem x i (sym e ∙ ap rowIn f)
+row-of mem x w i e n f = row-below mem x i (sym (e ∙ row-else mem x n) ∙ ap rowIn f)
+
+-- ---- the row of a node on the way
+
+place-mounted : (m : Option Mount) (ns : List Node) (x y : ℕ) → placeIn (mountAt m ns x) y ≡ placeIn ns y
+unfolding placeIn mountAt
+place-mounted m [] x y = refl
+place-mounted m (n ∷ ns) x y = go (eqb (n .number) x) (place-mounted m ns x y)
+  where
+    go : (b : Bool) → placeIn (mountAt m ns x) y ≡ placeIn ns y → placeIn (cond b (withMount m n ∷ ns) (n ∷ mountAt m ns x)) y ≡ placeIn (n ∷ ns) y
+    go true ih = refl
+    go false ih = rw ih
+
+place-set : (t : Tree) (x : ℕ) (m : Option Mount) (y : ℕ) → placeIn (setMount t x m .nodes) y ≡ placeIn (t .nodes) y
+unfolding setMount
+place-set t x m y = go (eqb x rootNumber)
+  where
+    go : (b : Bool) → placeIn (cond {A = Tree} b (record { next = t .next; root = m; nodes = t .nodes }) (record { next = t .next; root = t .root; nodes = mountAt m (t .nodes) x }) .nodes) y ≡ placeIn (t .nodes) y
+    go true = refl
+    go false = place-mounted m (t .nodes) x y
+
+freed-nodes : (m : Option Mount) (i : Instance) → freed m i .tree .nodes ≡ i .tree .nodes
+unfolding freed
+freed-nodes none i = refl
+freed-nodes (some m) i = refl
+
+pub row-freed : (mem m₁ : List ℕ) (old : MountOn) (r : Tag) → laid mem ≡ true → Frees mem old r m₁ → (x : ℕ) (w : Row) → RowOf mem x w → RowOf m₁ x w
+unfolding view rowFor
+row-freed mem m₁ old r e f x w p =
+    let v : nodesOf m₁ ≡ nodesOf mem = (λ i. (ap view (f .bytes) ∙ view-freed mem e (mountIn old) (f .within)) i .tree .nodes) ∙ freed-nodes (mountIn old) (view mem) in
+    p ∙ sym (ap (λ (ns : List Node). rowFor ns x) v)
+
+pub row-mounted : (mem m₁ : List ℕ) (x : ℕ) → laid mem ≡ true → m₁ ≡ mountMem (nodesOf mem) none x mem → (w : Row) → RowOf mem x w → RowOf m₁ x w
+unfolding view rowFor
+row-mounted mem m₁ x e f w p =
+    let v : nodesOf m₁ ≡ setMount (view mem .tree) x none .nodes = λ i. (ap view f ∙ view-mount mem (laid-is mem e) x none tt) i .tree .nodes in
+    p ∙ sym (ap (λ (ns : List Node). rowFor ns x) v ∙ ap (λ (o : Option ℕ). cond (eqb x rootNumber) none o) (place-set (view mem .tree) x none x))
 
 -- ---- the node taken out, or not; r says whether nodes are removed
 
@@ -79,13 +116,13 @@ module _ (x : ℕ) (mem : List ℕ) (r : Bool) (set : r ≡ flag 15 (headOf mem)
   unfolding outMem
   out-removes e q = rw (sym set ∙ not-false r e, ne-eqb x rootNumber q)
 
-  pub goes : not r ≡ false → (x ≡ rootNumber → ⊥) → (w : Row) (i : ℕ) (after : List ℕ) → rowIn w ≡ placeIn (nodesOf mem) x → w ≡ At i → after ≡ removeRow i mem → after ≡ outMem x mem
+  pub goes : not r ≡ false → (x ≡ rootNumber → ⊥) → (w : Row) (i : ℕ) (after : List ℕ) → RowOf mem x w → w ≡ At i → after ≡ removeRow i mem → after ≡ outMem x mem
   unfolding removeMem rowIn
-  goes e q w i after p f a = a ∙ sym (out-removes e q ∙ rw (sym p ∙ ap rowIn f))
+  goes e q w i after p f a = a ∙ sym (out-removes e q ∙ rw (sym (p ∙ row-else mem x q) ∙ ap rowIn f))
 
-  pub nothing-goes : not r ≡ false → (x ≡ rootNumber → ⊥) → (w : Row) → rowIn w ≡ placeIn (nodesOf mem) x → w ≡ RowNothing → mem ≡ outMem x mem
+  pub nothing-goes : not r ≡ false → (x ≡ rootNumber → ⊥) → (w : Row) → RowOf mem x w → w ≡ RowNothing → mem ≡ outMem x mem
   unfolding removeMem rowIn
-  nothing-goes e q w p f = sym (out-removes e q ∙ rw (sym p ∙ ap rowIn f))
+  nothing-goes e q w p f = sym (out-removes e q ∙ rw (sym (p ∙ row-else mem x q) ∙ ap rowIn f))
 
 pub takes-off : (mem m₁ m₂ after : List ℕ) (x : ℕ) (m : Mount) (r : Tag) → m .index < 256 → tagIn r ≡ tagInSlot (slotAt mem (m .index)) → m₁ ≡ mountMem (nodesOf mem) none x mem
     → m₂ ≡ outMem x m₁ → after ≡ setSlot (m .index) false 0 m₂ → TakesOff mem m x r after

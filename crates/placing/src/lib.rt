@@ -4,7 +4,7 @@ ghost use mathlib.Core.Path.{_≡_};
 ghost use mathlib.Core.Bool.{true};
 ghost use Prim.Native.Nat.{_<_, _≤_, _^_};
 ghost use Rattle.tables.specs.Rule.{laid};
-ghost use Rattle.tables.specs.Answer.{mountOfPoint};
+ghost use Rattle.tables.specs.Answer.{mountOfPoint, RowOf};
 ghost use Rattle.placing.specs.Place.{outMem, Frees, Places, TakesOff};
 use tables::mounts::MountOn;
 use tables::mounts::MountPoint;
@@ -40,10 +40,12 @@ pub fn place(s: &mut [u8], x: u64, m: MountPoint, tag: u32) -> Tags
     requires { ⌜ 1 ≤ m .«fs_idx» ⌝ }
     ensures { λ r. ⌜ Places (now (s .entry)) (mountOfPoint m) tag x r (now (s .exit)) ⌝ }
 {
-    let old = tables::mounts::of_node(s, x);
+    let here = tables::mounts::under_parent(s, x);
+    let old = here.on;
+    let row = here.row;
     let replaced = free_old(s, old);
     let displaced = tables::slots::tag_of(s, m.fs_idx);
-    tables::mounts::set(s, x, m);
+    tables::mounts::set(s, x, row, m);
     tables::slots::hold(s, m.fs_idx, tag);
     Tags {
         replaced,
@@ -51,9 +53,10 @@ pub fn place(s: &mut [u8], x: u64, m: MountPoint, tag: u32) -> Tags
     }
 }
 
-// With removal set, the node is taken out of the table unless it is the root (R100).
-fn take_out(s: &mut [u8], x: u64)
+// With removal set, the node, in that row, is taken out of the table unless it is the root (R100).
+fn take_out(s: &mut [u8], x: u64, row: Row)
     requires { ⌜ laid (now s) ≡ true ⌝ }
+    requires { ⌜ RowOf (now s) x row ⌝ }
     ensures { λ _. ⌜ now (s .exit) ≡ outMem x (now (s .entry)) ⌝ }
 {
     if !tables::header::removes(s) {
@@ -62,21 +65,22 @@ fn take_out(s: &mut [u8], x: u64)
     if x == rules::ROOT_ID {
         return;
     }
-    match tables::rows::find_row(s, x) {
+    match row {
         Row::At(i) => tables::rows::remove(s, i),
         Row::Nothing => {}
     }
 }
 
-// The mount m is taken off the node x, and its index freed; answers the tag released, or none (R97, R98, R100).
-pub fn take_off(s: &mut [u8], x: u64, m: MountPoint) -> Tag
+// The mount m is taken off the node x, in that row, and its index freed; answers the tag released, or none (R97, R98, R100).
+pub fn take_off(s: &mut [u8], x: u64, row: Row, m: MountPoint) -> Tag
     requires { ⌜ laid (now s) ≡ true ⌝ }
+    requires { ⌜ RowOf (now s) x row ⌝ }
     ensures { λ r. ⌜ TakesOff (now (s .entry)) (mountOfPoint m) x r (now (s .exit)) ⌝ }
 {
     let freed = m.fs_idx;
     let tag = tables::slots::tag_of(s, freed);
-    tables::mounts::clear(s, x);
-    take_out(s, x);
+    tables::mounts::clear(s, x, row);
+    take_out(s, x, row);
     tables::slots::free(s, freed);
     tag
 }

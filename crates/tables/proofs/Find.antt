@@ -16,7 +16,7 @@ use Rattle.tables.specs.Table.{row, putRow, tab}
 use Rattle.tables.specs.Layout.{mountCellAt, capacityOf, countOf}
 use Rattle.tables.specs.View.{nodeAt, nodesFrom, nodesOf, view}
 use Rattle.tables.specs.Write.{putHeader, setRootMount, setRowMount}
-use Rattle.tables.specs.Answer.{later, placeIn, inPlace, mountMem}
+use Rattle.tables.specs.Answer.{later, placeIn, inPlace, mountMem, rowFor}
 use Rattle.tables.proofs.Tab.{tab-next, tab-done}
 
 -- the nodes by their count
@@ -240,6 +240,16 @@ module _ (mem : List ℕ) (x : ℕ) where
   pub set-missing : (m : Option Mount) → (x ≡ rootNumber → ⊥) → placeIn (nodesOf mem) x ≡ none → mountMem (nodesOf mem) m x mem ≡ mem
   unfolding mountMem
   set-missing m r e = rw (ne-eqb x 1 r, e)
+
+  -- ---- its row, for the functions that do not search it
+
+  pub row-root : x ≡ rootNumber → none ≡ rowFor (nodesOf mem) x
+  unfolding rowFor
+  row-root r = rw (eq-eqb x 1 r)
+
+  pub row-else : (x ≡ rootNumber → ⊥) → rowFor (nodesOf mem) x ≡ placeIn (nodesOf mem) x
+  unfolding rowFor
+  row-else r = rw (ne-eqb x 1 r)
 
 -- no mount: the cell alone
 pub clear-root : (mem : List ℕ) → setRootMount none mem ≡ put 8 mem 88 0

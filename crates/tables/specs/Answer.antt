@@ -3,11 +3,13 @@ use Prim.Native.Nat.{ℕ, suc, _-_}
 use mathlib.Core.Bool.{Bool, cond, not, _&&_}
 use mathlib.Core.List.{List, [], _∷_}
 use mathlib.Core.Option.{Option, none, some}
+use mathlib.Core.Path.{_≡_}
 use lib.Dec.{eqb, ltb}
 use Rattle.rules.specs.Numbers.{rootNumber}
-use Rattle.rules.specs.Tree.{Mount, Node}
+use Rattle.rules.specs.Tree.{Mount, Node, parentIn}
+use Rattle.rules.specs.Instance.{mountOf}
 use Rattle.tables.specs.Layout.{capacityOf, countOf}
-use Rattle.tables.specs.View.{mountFrom, slotAt, nodeAt}
+use Rattle.tables.specs.View.{mountFrom, slotAt, nodeAt, nodesOf, view}
 use Rattle.tables.specs.Write.{setRootMount, setRowMount, removeRow}
 use Rattle.tables.specs.declared.rows.Found.{Found}
 use Rattle.tables.specs.declared.rows.Found.the-variants.{Node as FoundNode, Nothing as FoundNothing}
@@ -16,6 +18,7 @@ use Rattle.tables.specs.declared.rows.Row.the-variants.{At, Nothing as R
 use Rattle.tables.specs.declared.mounts.MountPoint.{MountPoint}
 use Rattle.tables.specs.declared.mounts.MountOn.{MountOn}
 use Rattle.tables.specs.declared.mounts.MountOn.the-variants.{Point, Nothing as MountNothing}
+use Rattle.tables.specs.declared.mounts.MountUnder.{MountUnder}
 use Rattle.tables.specs.declared.slots.Tag.{Tag}
 use Rattle.tables.specs.declared.slots.Tag.the-variants.{Held, Empty}
 
@@ -56,6 +59,20 @@ later (some i) = some (suc i)
 unfoldable pub placeIn : List Node → ℕ → Option ℕ
 placeIn [] x = none
 placeIn (n ∷ ns) x = cond (eqb (n .number) x) (some 0) (later (placeIn ns x))
+
+-- the place of node x; the root has none (R52)
+unfoldable pub rowFor : List Node → ℕ → Option ℕ
+rowFor nodes x = cond (eqb x rootNumber) none (placeIn nodes x)
+
+-- the row is that of node x
+abbrev pub RowOf : List ℕ → ℕ → Row → Type 0
+RowOf mem x r = rowIn r ≡ rowFor (nodesOf mem) x
+
+-- what one search for node x tells: the mount, the parent, the row
+pub record Under (mem : List ℕ) (x : ℕ) (r : MountUnder) : Type 0 where
+  pub mount : mountIn (r .on) ≡ mountOf (view mem .tree) x
+  pub parent : r .up ≡ parentIn (nodesOf mem) x
+  pub row : RowOf mem x (r .row)
 
 -- whether node x stands in the row that it has where no node was removed before it: numbers begin at 2
 unfoldable pub inPlace : List ℕ → ℕ → Bool

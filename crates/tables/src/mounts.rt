@@ -2,13 +2,13 @@
 ghost use mathlib.Core.Path.{_≡_};
 ghost use mathlib.Core.Option.{none, some};
 ghost use Prim.Native.Nat.{_<_, _^_};
-ghost use Rattle.rules.specs.Tree.{parentIn};
 ghost use Rattle.rules.specs.Instance.{mountOf as mountOfTree};
 ghost use Rattle.tables.specs.Layout.{capacityOf, countOf};
 ghost use Rattle.tables.specs.View.{nodeAt, nodesOf, view};
 ghost use Rattle.tables.specs.Rule.{Laid};
 ghost use Rattle.tables.specs.Write.{setRootMount, setRowMount};
-ghost use Rattle.tables.specs.Answer.{mountOfPoint, mountIn, mountFromWord, mountMem};
+ghost use Rattle.tables.specs.Answer.{mountOfPoint, mountIn, mountFromWord, RowOf, Under, mountMem};
+use crate::rows::Row;
 
 // A mount on a node: its index, the backend's root number, and the root's ids and mode as the request brought them (R76, R77).
 pub struct MountPoint {
@@ -81,36 +81,40 @@ pub fn of_node(s: &[u8], x: u64) -> MountOn
         return of_root(s);
     }
     match crate::rows::find_row(s, x) {
-        crate::rows::Row::At(i) => of_row(s, i),
-        crate::rows::Row::Nothing => MountOn::Nothing,
+        Row::At(i) => of_row(s, i),
+        Row::Nothing => MountOn::Nothing,
     }
 }
 
-// The mount on a node and the number of the node's parent.
+// The mount on a node, the number of the node's parent, and the node's row; the root's row is nothing.
 pub struct MountUnder {
     pub on: MountOn,
     pub up: u64,
+    pub row: Row,
 }
 
-// The mount on the node of that number and its parent's number, by one search (R52, R54).
+// The mount on the node of that number, its parent's number and its row, by one search (R52, R54).
 pub fn under_parent(s: &[u8], x: u64) -> MountUnder
     requires { ⌜ Laid (now s) ⌝ }
-    ensures { λ r. ⌜ (mountIn (r .on) ≡ mountOfTree (view (now (s .entry)) .tree) x) × (r .up ≡ parentIn (nodesOf (now (s .entry))) x) ⌝ }
+    ensures { λ r. ⌜ Under (now (s .entry)) x r ⌝ }
 {
     if x == rules::ROOT_ID {
         return MountUnder {
             on: of_root(s),
             up: rules::ROOT_ID,
+            row: Row::Nothing,
         };
     }
     match crate::rows::find_row(s, x) {
-        crate::rows::Row::At(i) => MountUnder {
+        Row::At(i) => MountUnder {
             on: of_row(s, i),
             up: crate::rows::parent(s, i),
+            row: Row::At(i),
         },
-        crate::rows::Row::Nothing => MountUnder {
+        Row::Nothing => MountUnder {
             on: MountOn::Nothing,
             up: rules::ROOT_ID,
+            row: Row::Nothing,
         },
     }
 }
@@ -141,9 +145,10 @@ fn put_row(s: &mut [u8], i: usize, m: MountPoint)
     le::fields::put_u32(s, crate::rows::TABLE + 40 * n + 4 * i, m.mode);
 }
 
-// The node of that number has that mount (R76).
-pub fn set(s: &mut [u8], x: u64, m: MountPoint)
+// The node of that number, in that row, has that mount (R76).
+pub fn set(s: &mut [u8], x: u64, row: Row, m: MountPoint)
     requires { ⌜ Laid (now s) ⌝ }
+    requires { ⌜ RowOf (now s) x row ⌝ }
     requires { ⌜ m .ino < 2 ^ 56 ⌝ }
     ensures { λ _. ⌜ now (s .exit) ≡ mountMem (nodesOf (now (s .entry))) (some (mountOfPoint m)) x (now (s .entry)) ⌝ }
 {
@@ -151,15 +156,16 @@ pub fn set(s: &mut [u8], x: u64, m: MountPoint)
         put_root(s, m);
         return;
     }
-    match crate::rows::find_row(s, x) {
-        crate::rows::Row::At(i) => put_row(s, i, m),
-        crate::rows::Row::Nothing => {}
+    match row {
+        Row::At(i) => put_row(s, i, m),
+        Row::Nothing => {}
     }
 }
 
-// The node of that number has no mount (R98).
-pub fn clear(s: &mut [u8], x: u64)
+// The node of that number, in that row, has no mount (R98).
+pub fn clear(s: &mut [u8], x: u64, row: Row)
     requires { ⌜ Laid (now s) ⌝ }
+    requires { ⌜ RowOf (now s) x row ⌝ }
     ensures { λ _. ⌜ now (s .exit) ≡ mountMem (nodesOf (now (s .entry))) none x (now (s .entry)) ⌝ }
 {
     if x == rules::ROOT_ID {
@@ -167,8 +173,8 @@ pub fn clear(s: &mut [u8], x: u64)
         return;
     }
     let n = crate::header::capacity(s);
-    match crate::rows::find_row(s, x) {
-        crate::rows::Row::At(i) => le::fields::put_u64(s, crate::rows::TABLE + 16 * n + 8 * i, 0),
-        crate::rows::Row::Nothing => {}
+    match row {
+        Row::At(i) => le::fields::put_u64(s, crate::rows::TABLE + 16 * n + 8 * i, 0),
+        Row::Nothing => {}
     }
 }

@@ -35,9 +35,10 @@ fn unmount_at(s: &mut [u8], x: u64) -> Unmounted
 {
     let here = tables::mounts::under_parent(s, x);
     let on = here.on;
+    let row = here.row;
     match on {
         MountOn::Point(m) => {
-            let released = placing::take_off(s, x, m);
+            let released = placing::take_off(s, x, row, m);
             Unmounted::Done {
                 node: NodeNumber(x),
                 parent: NodeNumber(here.up),

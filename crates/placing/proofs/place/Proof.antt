@@ -3,12 +3,12 @@ use borrow.Author.Needs.{needs}
 use native.Mathlib.Omega.{arith}
 use Rattle.tables.proofs.Keeps.{laid-is}
 use Rattle.placing.proofs.Stands.{long}
-use Rattle.placing.proofs.Returns.{laid-freed, places}
+use Rattle.placing.proofs.Returns.{laid-freed, row-freed, places}
 use Rattle.placing.proofs.place.Statement.{statement}
 use Rattle.placing.proofs.place.Tie as tie
 
-of-node-requires : tie.Need-of-node-requires
-of-node-requires c κs = search (laid-is, needs)
+under-parent-requires : tie.Need-under-parent-requires
+under-parent-requires c κs = search (laid-is, needs)
 
 free-old-requires : tie.Need-free-old-requires
 free-old-requires c κs = search needs
@@ -17,7 +17,7 @@ tag-of-requires : tie.Need-tag-of-requires
 tag-of-requires c κs = omega (arith, long _ (c .before .before .before .before .before .before .before .before .pre .0))
 
 set-requires : tie.Need-set-requires
-set-requires c κs = search (laid-freed, laid-is, needs)
+set-requires c κs = (search (laid-freed, laid-is, needs), (search (row-freed, needs), search needs))
 
 hold-requires : tie.Need-hold-requires
 hold-requires c κs = omega (arith, long _ (c .before .before .before .before .before .before .before .before .before .before .before .before .before .before .pre .0))
@@ -32,7 +32,7 @@ pub place-spec : {M : Type 1} → statement M
 place-spec =
     tie.close
     (tie.spec
-    of-node-requires
+    under-parent-requires
     free-old-requires
     tag-of-requires
     set-requires

@@ -1,6 +1,6 @@
 -- `placing::take_off` meets its contract: each way through it by its law.
 use borrow.Author.Needs.{needs}
-use Rattle.placing.proofs.Returns.{laid-mounted, takes-off}
+use Rattle.placing.proofs.Returns.{laid-mounted, row-mounted, takes-off}
 use native.Mathlib.Omega.{arith}
 use Rattle.placing.proofs.Stands.{long}
 use Rattle.tables.proofs.Keeps.{laid-is}
@@ -11,13 +11,13 @@ tag-of-requires : tie.Need-tag-of-requires
 tag-of-requires c κs = search (long, laid-is, needs)
 
 clear-requires : tie.Need-clear-requires
-clear-requires c κs = search (long, laid-is, needs)
+clear-requires c κs = (search (laid-is, needs), search needs)
 
 take-out-requires : tie.Need-take-out-requires
-take-out-requires c κs = search (laid-mounted, needs)
+take-out-requires c κs = (search (laid-mounted, needs), search (row-mounted, needs))
 
 free-requires : tie.Need-free-requires
-free-requires c κs = omega (arith, long _ (c .before .before .before .before .before .before .before .before .before .before .before .before .pre))
+free-requires c κs = omega (arith, long _ (c .before .before .before .before .before .before .before .before .before .before .before .before .pre .0))
 
 same-length : tie.Need-same-length
 same-length c = search needs

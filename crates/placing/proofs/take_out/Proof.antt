@@ -21,11 +21,8 @@ same-length-2 c = search needs
 returns-2 : tie.Need-returns-2
 returns-2 c = search (stays-root, needs)
 
-find-row-requires : tie.Need-find-row-requires
-find-row-requires c κs = search (long, laid-is, needs)
-
-enum-known-i : tie.Need-enum-known-i
-enum-known-i c = search needs
+enum-known-row : tie.Need-enum-known-row
+enum-known-row c = search needs
 
 remove-requires : tie.Need-remove-requires
 remove-requires c κs = search (row-of, laid-is, needs)
@@ -54,8 +51,7 @@ take-out-spec =
     returns
     same-length-2
     returns-2
-    find-row-requires
-    enum-known-i
+    enum-known-row
     remove-requires
     enum-told
     same-length-3

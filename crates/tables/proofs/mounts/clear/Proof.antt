@@ -3,7 +3,7 @@ use mathlib.Core.Path.{sym, ap, _∙_}
 use Prim.Native.Nat.{_<_}
 use Rattle.tables.specs.Layout.{countOf}
 use Rattle.tables.specs.Answer.{rowIn}
-use Rattle.tables.proofs.Find.{row-below, set-root, set-found, set-missing, clear-root, clear-row}
+use Rattle.tables.proofs.Find.{row-below, row-else, set-root, set-found, set-missing, clear-root, clear-row}
 use borrow.Author.Needs.{needs}
 use Rattle.tables.proofs.mounts.clear.Statement.{statement}
 use Rattle.tables.proofs.mounts.clear.Tie as tie
@@ -11,10 +11,10 @@ use Rattle.tables.proofs.mounts.clear.Tie as tie
 returns : tie.Need-returns
 returns c = c .before .before .put-u64 .ensures ∙ sym (set-root _ _ _ (c .before .before .before .before .if1 .taken) ∙ clear-root _)
 
--- the row that was found is live
-low : (c : tie.After-put-u64-arg2) → c .before .before .i .given .0 .0 < countOf (c .before .before .before .before .before .before .before .before .before .before .args .s .now)
+-- the row is live
+low : (c : tie.After-put-u64-arg2) → c .before .before .row .given .0 .0 < countOf (c .before .before .before .before .before .before .before .before .args .s .now)
 unfolding rowIn
-low c = row-below _ _ _ (sym (c .before .before .before .before .find-row .ensures) ∙ ap rowIn (c .before .before .i .given .1))
+low c = row-below _ _ _ (sym (c .before .before .before .before .before .before .before .before .pre .1 ∙ row-else _ _ (c .before .before .before .before .before .before .if1 .left)) ∙ ap rowIn (c .before .before .row .given .1))
 
 mul-put-u64-2 : tie.Need-mul-put-u64-2
 mul-put-u64-2 c = let h = low c in search needs
@@ -28,13 +28,15 @@ put-u64-requires-2 c κs = let h = low c in search needs
 returns-2 : tie.Need-returns-2
 unfolding rowIn
 returns-2 c =
+    let n = c .before .before .before .before .before .before .before .before .before .if1 .left in
     c .before .before .put-u642 .ensures
-    ∙ sym (set-found _ _ _ (c .before .before .before .before .before .before .before .before .before .before .before .if1 .left) _
-    (sym (c .before .before .before .before .before .before .before .find-row .ensures) ∙ ap rowIn (c .before .before .before .before .before .i .given .1)) ∙ clear-row _ _ _ (c .before .before .before .before .before .before .before .before .before .capacity .ensures))
+    ∙ sym (set-found _ _ _ n _ (sym (c .before .before .before .before .before .before .before .before .before .before .before .pre .1 ∙ row-else _ _ n) ∙ ap rowIn (c .before .before .before .before .before .row .given .1)) ∙ clear-row _ _ _ (c .before .before .before .before .before .before .before .capacity .ensures))
 
 returns-3 : tie.Need-returns-3
 unfolding rowIn
-returns-3 c = sym (set-missing _ _ _ (c .before .before .before .before .before .before .if1 .left) (sym (c .before .before .find-row .ensures) ∙ ap rowIn (c .enum-told .given .1)))
+returns-3 c =
+    let n = c .before .before .before .before .if1 .left in
+    sym (set-missing _ _ _ n (sym (c .before .before .before .before .before .before .pre .1 ∙ row-else _ _ n) ∙ ap rowIn (c .enum-told .given .1)))
 
 pub clear-spec : {M : Type 1} → statement M
 clear-spec =
@@ -43,7 +45,6 @@ clear-spec =
     (λ c κs. search needs)
     (λ c. search needs)
     returns
-    (λ c κs. search needs)
     (λ c κs. search needs)
     (λ c. search needs)
     (λ c. search needs)

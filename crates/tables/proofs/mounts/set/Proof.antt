@@ -1,7 +1,7 @@
 -- The mount is written for the root, or in the row that has the number.
 use mathlib.Core.Path.{sym, ap, _∙_}
 use Rattle.tables.specs.Answer.{rowIn}
-use Rattle.tables.proofs.Find.{row-below, set-root, set-found, set-missing}
+use Rattle.tables.proofs.Find.{row-below, row-else, set-root, set-found, set-missing}
 use borrow.Author.Needs.{needs}
 use Rattle.tables.proofs.mounts.set.Statement.{statement}
 use Rattle.tables.proofs.mounts.set.Tie as tie
@@ -11,18 +11,19 @@ returns c = c .before .before .put-root .ensures ∙ sym (set-root _ _ _ (c .bef
 
 put-row-requires : tie.Need-put-row-requires
 unfolding rowIn
-put-row-requires c κs = (search needs, (row-below _ _ _ (sym (c .before .before .before .before .find-row .ensures) ∙ ap rowIn (c .before .before .i .given .1)), search needs))
+put-row-requires c κs = (search needs, (row-below _ _ _ (sym (c .before .before .before .before .before .before .pre .1 .0 ∙ row-else _ _ (c .before .before .before .before .if1 .left)) ∙ ap rowIn (c .before .before .row .given .1)), search needs))
 
 returns-2 : tie.Need-returns-2
 unfolding rowIn
 returns-2 c =
-    c .before .before .put-row .ensures
-    ∙ sym (set-found _ _ _ (c .before .before .before .before .before .before .before .before .before .if1 .left) _
-    (sym (c .before .before .before .before .before .before .before .find-row .ensures) ∙ ap rowIn (c .before .before .before .before .before .i .given .1)))
+    let n = c .before .before .before .before .before .before .before .if1 .left in
+    c .before .before .put-row .ensures ∙ sym (set-found _ _ _ n _ (sym (c .before .before .before .before .before .before .before .before .before .pre .1 .0 ∙ row-else _ _ n) ∙ ap rowIn (c .before .before .before .before .before .row .given .1)))
 
 returns-3 : tie.Need-returns-3
 unfolding rowIn
-returns-3 c = sym (set-missing _ _ _ (c .before .before .before .before .if1 .left) (sym (c .before .before .find-row .ensures) ∙ ap rowIn (c .enum-told .given .1)))
+returns-3 c =
+    let n = c .before .before .if1 .left in
+    sym (set-missing _ _ _ n (sym (c .before .before .before .before .pre .1 .0 ∙ row-else _ _ n) ∙ ap rowIn (c .enum-told .given .1)))
 
 pub set-spec : {M : Type 1} → statement M
 set-spec =
@@ -31,11 +32,9 @@ set-spec =
     (λ c κs. search needs)
     (λ c. search needs)
     returns
-    (λ c κs. search needs)
     (λ c. search needs)
     put-row-requires
     (λ c. search needs)
     (λ c. search needs)
     returns-2
-    (λ c. search needs)
     returns-3)

@@ -1,14 +1,17 @@
--- The root's mount and the root, or mount and parent of the row that has the number.
+-- The root's mount and the root, or mount and parent of the row that has the number, and that row.
 use mathlib.Core.Path.{_≡_, sym, ap, _∙_}
 use mathlib.Core.Option.{some}
 use Rattle.tables.specs.Answer.{rowIn, mountIn}
-use Rattle.tables.proofs.Find.{row-below, mount-root, mount-found, mount-missing, parent-root, parent-found, parent-missing}
+use Rattle.tables.proofs.Find.{row-below, row-root, row-else, mount-root, mount-found, mount-missing, parent-root, parent-found, parent-missing}
 use borrow.Author.Needs.{needs}
 use Rattle.tables.proofs.mounts.under_parent.Statement.{statement}
 use Rattle.tables.proofs.mounts.under_parent.Tie as tie
 
 returns : tie.Need-returns
-returns c = (c .of-root .ensures ∙ sym (mount-root _ _ (c .before .if1 .taken)), sym (parent-root _ _ (c .before .if1 .taken)))
+unfolding rowIn
+returns c =
+    let r = c .before .if1 .taken in
+    record { mount = c .of-root .ensures ∙ sym (mount-root _ _ r); parent = sym (parent-root _ _ r); row = row-root _ _ r }
 
 of-row-requires : tie.Need-of-row-requires
 unfolding rowIn
@@ -23,14 +26,14 @@ unfolding rowIn
 returns-2 c =
     let p = sym (c .before .before .before .before .before .find-row .ensures) ∙ ap rowIn (c .before .before .before .i .given .1) in
     let n = c .before .before .before .before .before .before .if1 .left in
-    (c .before .of-row .ensures ∙ sym (mount-found _ _ n _ p), c .parent .ensures ∙ sym (parent-found _ _ n _ p))
+    record { mount = c .before .of-row .ensures ∙ sym (mount-found _ _ n _ p); parent = c .parent .ensures ∙ sym (parent-found _ _ n _ p); row = sym (row-else _ _ n ∙ p) }
 
 returns-3 : tie.Need-returns-3
 unfolding rowIn mountIn
 returns-3 c =
     let p = sym (c .before .before .find-row .ensures) ∙ ap rowIn (c .enum-told .given .1) in
     let n = c .before .before .before .if1 .left in
-    (sym (mount-missing _ _ n p), sym (parent-missing _ _ n p))
+    record { mount = sym (mount-missing _ _ n p); parent = sym (parent-missing _ _ n p); row = sym (row-else _ _ n ∙ p) }
 
 pub under-parent-spec : {M : Type 1} → statement M
 under-parent-spec =
