@@ -92,8 +92,10 @@ fn called(
 fn told(verb: u64, storage: &[u8], kept: &[u8], regs: &mut [u64; CELLS]) {
     sink::number(words::hex::byte_at(storage, 81) as u64, regs);
     left(verb, storage, kept, regs);
-    let lent = least(regs[regs::LENT], storage.len());
-    crate::views::viewed(&storage[0..lent], regs);
+    if regs[regs::VIEWS] != 0 {
+        let lent = least(regs[regs::LENT], storage.len());
+        viewed(&storage[0..lent], regs);
+    }
     sink::byte(b'\n', regs);
     regs[regs::CALLS] = std::num::wrapping_add_u64(regs[regs::CALLS], 1);
 }
@@ -131,4 +133,13 @@ fn marked(storage: &[u8], kept: &[u8], regs: &mut [u64; CELLS]) {
         }
     }
     sink::byte(b'*', regs);
+}
+
+// The sum of the tables; 0 where the bytes break the layout rule.
+fn viewed(s: &[u8], regs: &mut [u64; CELLS]) {
+    if storage::is_laid(s) {
+        sink::number(words::views::sum_of(s), regs);
+    } else {
+        sink::number(0, regs);
+    }
 }

@@ -12,7 +12,6 @@ mod states;
 mod steering;
 mod text;
 mod verbs;
-mod views;
 
 fn main() {
     let mut input = words::numbers::large();

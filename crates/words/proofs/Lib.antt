@@ -2,3 +2,4 @@
 pub mod Spelling
 pub mod Finding
 pub mod Summing
+pub mod Viewing

@@ -2,3 +2,4 @@
 pub mod Spelt
 pub mod Among
 pub mod Adler
+pub mod Viewed

@@ -2,3 +2,4 @@
 pub mod hex;
 pub mod numbers;
 pub mod sums;
+pub mod views;

@@ -1,0 +1,31 @@
+-- `words::views::name` meets its contract: by its length. Assumes nothing.
+use Rattle.words.proofs.Viewing.{name-short, name-long}
+use borrow.Author.Needs.{needs}
+use Rattle.words.proofs.views.name.Statement.{statement}
+use Rattle.words.proofs.views.name.Tie as tie
+
+run-requires : tie.Need-run-requires
+run-requires c κs = search needs
+
+run-requires-2 : tie.Need-run-requires-2
+run-requires-2 c κs = search needs
+
+returns : tie.Need-returns
+returns c = name-short _ _ _ _ _ _ _ (c .before .before .run .ensures) _ (c .before .if1 .taken) (c .run2 .ensures)
+
+sub-run : tie.Need-sub-run
+sub-run c = search needs
+
+run-requires-3 : tie.Need-run-requires-3
+run-requires-3 c κs = search needs
+
+run-requires-4 : tie.Need-run-requires-4
+run-requires-4 c κs = search needs
+
+returns-2 : tie.Need-returns-2
+returns-2 c = name-long _ _ _ _ _ _ _ (c .before .before .before .run .ensures) _ _ (c .before .before .if1 .left) (c .before .run3 .ensures) (c .run4 .ensures)
+
+pub name-spec : {M : Type 1} → statement M
+name-spec =
+    tie.close
+    (tie.spec run-requires run-requires-2 returns sub-run run-requires-3 run-requires-4 returns-2)

@@ -1,0 +1,37 @@
+-- `words::views::rows` meets its contract. The invariant: with the rows that are left it is the sum with all. Assumes nothing.
+use Prim.Native.Nat.{_-_, _≤_}
+use mathlib.Core.Path.{_≡_}
+use Rattle.words.specs.Adler.{adler}
+use Rattle.words.specs.Viewed.{pieces, rowBytes}
+use Rattle.words.proofs.Viewing.{pieces-all, pieces-more, pieces-end}
+use borrow.Author.Needs.{needs}
+use Rattle.words.proofs.views.rows.Statement.{statement}
+use Rattle.words.proofs.views.rows.Tie as tie
+
+abbrev Inv-loop : tie.InvT-loop
+Inv-loop sum s size count x₀ i₀ x i = (i ≤ count) × (adler x (pieces (rowBytes s size) (count - i) i) ≡ adler sum (pieces (rowBytes s size) count 0))
+
+abbrev μ-loop : tie.MeasureT-loop
+μ-loop sum s size count x₀ i₀ x i = count - i
+
+loop-holds : tie.Need-loop-holds Inv-loop μ-loop
+loop-holds c = (search needs, pieces-all _ _ _)
+
+row-requires : tie.Need-row-requires Inv-loop μ-loop
+row-requires c κs = search needs
+
+add-i : tie.Need-add-i Inv-loop μ-loop
+add-i c = search needs
+
+loop-less : tie.Need-loop-less Inv-loop μ-loop
+loop-less c = search needs
+
+loop-again : tie.Need-loop-again Inv-loop μ-loop
+loop-again c = (search needs, pieces-more _ _ _ _ _ _ (c .before .loop-test .taken) (c .row .ensures) (c .before .before .loop .inv .1))
+
+returns : tie.Need-returns Inv-loop μ-loop
+returns c = pieces-end _ _ _ _ _ (c .loop-test .left) (c .before .loop .inv .1)
+
+pub rows-spec : {M : Type 1} → statement M
+rows-spec =
+    tie.close (tie.spec Inv-loop μ-loop loop-holds row-requires add-i loop-less loop-again returns)

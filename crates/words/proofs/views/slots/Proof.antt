@@ -1,0 +1,50 @@
+-- `words::views::slots` meets its contract. The invariant: with the slots that are left it is the sum with all. Assumes nothing.
+use Prim.Native.Nat.{_-_, _≤_}
+use mathlib.Core.Path.{_≡_}
+use Rattle.words.specs.Adler.{adler}
+use Rattle.words.specs.Viewed.{pieces, slotBytes}
+use Rattle.words.proofs.Viewing.{pieces-all, pieces-more, pieces-end}
+use borrow.Author.Needs.{needs}
+use Rattle.words.proofs.views.slots.Statement.{statement}
+use Rattle.words.proofs.views.slots.Tie as tie
+
+abbrev Inv-loop : tie.InvT-loop
+Inv-loop sum s x₀ k₀ x k = (k ≤ 256) × (adler x (pieces (slotBytes s) (256 - k) k) ≡ adler sum (pieces (slotBytes s) 256 0))
+
+abbrev μ-loop : tie.MeasureT-loop
+μ-loop sum s x₀ k₀ x k = 256 - k
+
+loop-holds : tie.Need-loop-holds Inv-loop μ-loop
+loop-holds c = (search needs, pieces-all _ 256 _)
+
+cast-slot : tie.Need-cast-slot Inv-loop μ-loop
+cast-slot c = search needs
+
+slot-requires : tie.Need-slot-requires Inv-loop μ-loop
+slot-requires c κs = search needs
+
+add-k : tie.Need-add-k Inv-loop μ-loop
+add-k c = search needs
+
+loop-less : tie.Need-loop-less Inv-loop μ-loop
+loop-less c = search needs
+
+loop-again : tie.Need-loop-again Inv-loop μ-loop
+loop-again c = (search needs, pieces-more _ 256 _ _ _ _ (c .before .loop-test .taken) (c .slot .ensures) (c .before .before .loop .inv .1))
+
+returns : tie.Need-returns Inv-loop μ-loop
+returns c = pieces-end _ 256 _ _ _ (c .loop-test .left) (c .before .loop .inv .1)
+
+pub slots-spec : {M : Type 1} → statement M
+slots-spec =
+    tie.close
+    (tie.spec
+    Inv-loop
+    μ-loop
+    loop-holds
+    cast-slot
+    slot-requires
+    add-k
+    loop-less
+    loop-again
+    returns)
