@@ -4,7 +4,7 @@ use mathlib.Core.List.{List, [], _∷_, _++_}
 use Prim.Native.Nat.{ℕ, zero, suc, _+_, _-_, _*_, _/_, _%_, _^_, _≤_, _<_}
 use native.Mathlib.Nat.{pow-zero, pow-suc, mod-lt, div-eq-of-lt, one-le-pow}
 use native.Mathlib.Omega.{arith}
-use lib.ListN.{length, replicate, length-append}
+use lib.ListN.{length, replicate}
 use lib.Dec.{lit<}
 use lib.Pow.{pow-pos, pow-add, shl-exact}
 use Rattle.rules.specs.Fields.{bytesOf, fields}

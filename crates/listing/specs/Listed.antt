@@ -6,7 +6,7 @@ use lib.ListN.{length}
 use Rattle.rules.specs.Numbers.{DONE, NOENT}
 use Rattle.rules.specs.Instance.{Instance}
 use Rattle.rules.specs.Outcome.{nothing, wrote, Outcome}
-use Rattle.rules.specs.Listing.{ListRequest, listRule}
+use Rattle.rules.specs.Listing.{listRule}
 use Rattle.le.specs.Mem.{write}
 use Rattle.tables.specs.Call.{Told, toldSmall, answeredBy, writtenBy}
 use Rattle.listing.specs.declared.Listed.{Listed}

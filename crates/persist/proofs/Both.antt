@@ -16,12 +16,12 @@ use Rattle.rules.specs.Restore.{saved, restoreRule}
 use Rattle.rules.proofs.Restored.{save-then-restore, restore-then-save}
 use Rattle.tables.specs.View.{view}
 use Rattle.tables.specs.Rule.{laid}
-use Rattle.tables.specs.Call.{Told, toldBy, toldSmall, answeredBy}
+use Rattle.tables.specs.Call.{Told}
 use Rattle.storage.proofs.Laid.{told-small, told-by}
 use Rattle.restore_parts.specs.Parts.{stateMem}
 use Rattle.persist.specs.Restoring.{stateTold, restoreStateMem}
 use Rattle.persist.specs.Saving.{Saves}
-use Rattle.persist.specs.Both.{Restores, Back, ComesBack, SavedAgain, Unchanged}
+use Rattle.persist.specs.Both.{Restores, ComesBack, SavedAgain, Unchanged}
 use Rattle.persist.specs.declared.saving.Saved.{Saved}
 use Rattle.persist.specs.declared.saving.Saved.the-variants.{Wrote}
 use Rattle.persist.specs.declared.restoring.StateRestored.{StateRestored}

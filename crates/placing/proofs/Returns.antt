@@ -1,6 +1,6 @@
 -- What each way through the functions gives. Assumes nothing.
 use mathlib.Core.Path.{_≡_, refl, sym, ap, _∙_, subst}
-use mathlib.Core.Bool.{Bool, true, false, cond, not, _&&_}
+use mathlib.Core.Bool.{Bool, true, false, cond, not}
 use mathlib.Core.List.{List, [], _∷_}
 use mathlib.Core.Option.{Option, none, some}
 use Prim.Native.Nat.{ℕ, _<_}
@@ -13,7 +13,7 @@ use Rattle.rules.specs.Mount.{freed, tagAt}
 use Rattle.tables.specs.View.{flag, headOf, slotAt, nodesOf, view}
 use Rattle.tables.specs.Rule.{laid}
 use Rattle.tables.specs.Write.{setSlot, removeRow}
-use Rattle.tables.specs.Answer.{tagIn, rowIn, mountOfPoint, mountIn, placeIn, rowFor, RowOf, atPlace, mountMem, removeMem}
+use Rattle.tables.specs.Answer.{tagIn, rowIn, mountIn, placeIn, rowFor, RowOf, mountMem, removeMem}
 use Rattle.tables.specs.declared.slots.Tag.{Tag}
 use Rattle.tables.specs.declared.slots.Tag.the-variants.{Empty}
 use Rattle.tables.specs.declared.mounts.MountPoint.{MountPoint}

@@ -1,25 +1,23 @@
 -- What placing a mount and taking it off mean by the rules, and that they keep the layout rule. Assumes nothing.
-use mathlib.Core.Path.{_≡_, refl, sym, ap, _∙_, subst}
+use mathlib.Core.Path.{_≡_, refl, sym, ap, _∙_}
 use mathlib.Core.Bool.{Bool, true, false, cond, not, _&&_}
 use mathlib.Core.List.{List}
 use mathlib.Core.Option.{Option, none, some}
-use Prim.Native.Nat.{ℕ, _+_, _^_, _≤_, _<_}
+use Prim.Native.Nat.{ℕ, _^_, _≤_, _<_}
 use native.Mathlib.Nat.{zero-add}
 use native.Mathlib.Omega.{arith}
-use lib.ListN.{length, getD}
+use lib.ListN.{length}
 use lib.Dec.{eqb}
 use Rattle.rules.specs.Numbers.{rootNumber}
 use Rattle.rules.specs.Tree.{Mount}
-use Rattle.rules.specs.Instance.{Slot, Tree, Instance, emptySlot, heldBy, slotOf, tagIn as tagInSlot, tagOf, mountOf, setMount, withSlot, withTree, cut}
-use Rattle.rules.specs.Mount.{Request, mountOn, freed, tagAt, placed}
+use Rattle.rules.specs.Instance.{Tree, Instance, emptySlot, heldBy, slotOf, tagIn as tagInSlot, tagOf, mountOf, setMount, withSlot, withTree, cut}
+use Rattle.rules.specs.Mount.{Request, mountOn, freed, placed}
 use Rattle.rules.specs.Unmount.{taken}
-use Rattle.tables.specs.Table.{row, tab}
 use Rattle.tables.specs.View.{flag, headOf, slotAt, slotsOf, nodesOf, view}
-use Rattle.tables.specs.Rule.{laid, Laid}
-use Rattle.tables.specs.Write.{setSlot}
+use Rattle.tables.specs.Rule.{laid}
 use Rattle.tables.specs.Answer.{mountMem, removeMem}
 use Rattle.tables.proofs.Tab.{tab-at}
-use Rattle.tables.proofs.Refine.{MountFits, MayFit, view-slot}
+use Rattle.tables.proofs.Refine.{MountFits, view-slot}
 use Rattle.tables.proofs.Places.{view-mount, view-gone}
 use Rattle.tables.proofs.Keeps.{ruled, laid-is, open-laid, keeps-slot, keeps-mount, keeps-gone}
 use Rattle.placing.specs.Place.{freedMem, placeMem, outMem, takeOffMem, InSlots}

@@ -15,7 +15,7 @@ use Rattle.tables.specs.Table.{row, over, Fit}
 use Rattle.tables.specs.Layout.{header, capacityOf, countOf, nextOf}
 use Rattle.tables.specs.View.{field, headOf, nodesOf, view}
 use Rattle.tables.specs.Rule.{laidBy, laid, Laid}
-use Rattle.tables.specs.Write.{fromPlace, putHeader, setCount, setNext, appendNode}
+use Rattle.tables.specs.Write.{fromPlace, putHeader, setNext}
 use Rattle.tables.proofs.Table.{length-putRow}
 use Rattle.tables.proofs.Refine.{head-put, view-header, cell-back, view-append}
 use Rattle.tables.proofs.Keeps.{ruled, is-ruled, laid-is, open-laid, length-append, keeps-append}

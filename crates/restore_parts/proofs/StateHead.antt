@@ -6,7 +6,7 @@ use Prim.Native.Nat.{ℕ, _+_, _-_, _^_, _≤_, _<_}
 use native.Mathlib.Omega.{arith}
 use lib.ListN.{length}
 use lib.Dec.{eqb}
-use Rattle.le.specs.Mem.{read, write, value, bytesOf, put}
+use Rattle.le.specs.Mem.{write, bytesOf, put}
 use Rattle.rules.specs.Instance.{Options, Instance}
 use Rattle.rules.specs.Create.{unknown}
 use Rattle.rules.specs.RoundTrip.{OptionsFit}

@@ -1,15 +1,14 @@
 -- Of every set of held indexes and every counter, one allocation is what demand 3 says. Assumes nothing.
 use mathlib.Core.Path.{_≡_, refl, sym, ap, _∙_}
-use mathlib.Core.Bool.{Bool, true, false, not, _&&_, true≢false, false≢true}
+use mathlib.Core.Bool.{Bool, true, false, not, true≢false}
 use mathlib.Core.Logic.{_⊎_, inl, inr, ⊎-elim}
 use mathlib.Core.Option.{Option, none, some}
-use Prim.Native.Nat.{ℕ, suc, _+_, _-_, _%_, _≤_, _<_}
+use Prim.Native.Nat.{ℕ, _+_, _-_, _%_, _≤_, _<_}
 use native.Mathlib.Omega.{arith}
 use native.Mathlib.Nat.{eq-zero-or-pos}
-use lib.ListN.{length}
 use lib.Dec.{eqb}
-use borrow.Author.Tests.{eq-eqb, ne-eqb, eqb-true, eqb-false, not-true, not-false}
-use Rattle.rules.specs.Round.{goingRound, untilTwice, visited, firstFree, freeOf, allocate}
+use borrow.Author.Tests.{eq-eqb, ne-eqb, eqb-false, not-true}
+use Rattle.rules.specs.Round.{untilTwice, freeOf, allocate}
 use Rattle.rules.specs.Allocation.{FirstFree, Exact}
 use Rattle.rules.proofs.Tests.{known, and-both}
 use Rattle.rules.proofs.Round.{meets, finds-none, spent, At, found-at, at-found}

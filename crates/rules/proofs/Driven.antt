@@ -1,39 +1,37 @@
 -- What holds of every driven instance. Assumes nothing.
 use mathlib.Core.Path.{_≡_, refl, sym, ap, _∙_, subst}
 use mathlib.Core.Bool.{Bool, true, false, cond, not, _&&_, _||_, true≢false, false≢true}
-use mathlib.Core.Logic.{_⊎_, inl, inr, ⊎-elim}
-use mathlib.Core.List.{List, [], _∷_, _++_}
+use mathlib.Core.Logic.{_⊎_, ⊎-elim}
+use mathlib.Core.List.{List, [], _∷_}
 use mathlib.Core.Option.{Option, none, some}
-use Prim.Native.Nat.{ℕ, _+_, _%_, _^_, _≤_, _<_}
+use Prim.Native.Nat.{ℕ, _+_, _^_, _≤_, _<_}
 use native.Mathlib.Omega.{arith}
-use native.Mathlib.Nat.{le-trans}
 use lib.Bits.{bitAnd, and-le-r}
 use lib.ListN.{length, getD, set, replicate, length-append, length-set, length-replicate, getD-replicate, List·getD-eq-default}
-use lib.Dec.{eqb, leb, ltb}
-use borrow.Author.Tests.{ltb-false, leb-true, eqb-true, not-true, not-false}
-use Rattle.rules.specs.Numbers.{rootNumber, topNumber, maxNodes, storageFor, maxIno}
+use lib.Dec.{eqb, ltb}
+use borrow.Author.Tests.{ltb-false, leb-true, eqb-true, not-false}
+use Rattle.rules.specs.Numbers.{rootNumber, topNumber, maxNodes, storageFor}
 use Rattle.rules.specs.Bytes.{Bytes}
 use Rattle.rules.specs.Utf8.{wellFormed}
 use Rattle.rules.specs.Path.{tooLong, rooted}
 use Rattle.rules.specs.Ids.{badMapping}
 use Rattle.rules.specs.Round.{allocate}
 use Rattle.rules.specs.Tree.{Mount, Node, isNone, mountAt}
-use Rattle.rules.specs.Instance.{Slot, Options, Tree, Instance, emptySlot, heldIn, heldBy, mountOf, setMount, withSlot, withTree, withCounter, grown, cut, live, newTree, newIndexes, removing, counterOf}
-use Rattle.rules.specs.Outcome.{Outcome, nothing, says}
+use Rattle.rules.specs.Instance.{Slot, Tree, Instance, emptySlot, heldIn, heldBy, mountOf, setMount, withSlot, withTree, grown, cut, live, counterOf}
+use Rattle.rules.specs.Outcome.{Outcome}
 use Rattle.rules.specs.Create.{Creation, Created, outside, unknown, badOptions, tooSmall, newInstance, createRule}
 use Rattle.rules.specs.Mount.{Request, planned, needed, noRoom, freed, mountOn, placed, allocation, stepped, walkedTo, ended, mountAs, mountRule, restoreMountRule}
 use Rattle.rules.specs.Unmount.{reached, mountUnder, taken, unmounts, unmountAt, unmountRule}
-use Rattle.rules.specs.Saved.{Entry, State, stateOf, valid, accepted, goodNodes}
+use Rattle.rules.specs.Saved.{stateOf, valid, accepted, goodNodes}
 use Rattle.rules.specs.Restore.{entriesFor, nodesFrom, noNodes, fresh, restoredTo, restoreRule}
-use Rattle.rules.specs.RoundTrip.{OptionsFit}
-use Rattle.rules.specs.Calls.{Call, mount, restore-mount, umount, set-remove-pseudo-root, restore, rule}
-use Rattle.rules.specs.Driven.{Typed, Driven, creation, call, Rises, Below, Named, Unique, Shape, IsAt, MountIn, Mounted, Facts, EveryDriven}
+use Rattle.rules.specs.Calls.{Call, rule}
+use Rattle.rules.specs.Driven.{Typed, creation, call, Rises, Below, Named, Unique, Shape, IsAt, MountIn, Mounted, Facts, EveryDriven}
 use Rattle.rules.proofs.Tests.{known, le-or-lt, and-both, or-neither, passed}
 use Rattle.rules.proofs.Rows.{first-of, each-of}
-use Rattle.rules.proofs.Ids.{Within, within}
-use Rattle.rules.proofs.Still.{Still, Cases, every-call}
+use Rattle.rules.proofs.Ids.{within}
+use Rattle.rules.proofs.Still.{every-call}
 use Rattle.rules.proofs.RoundTrip.{fits, good}
-use Rattle.rules.proofs.Shape.{entries-append, entries-mount, entries-from, entries-length, shape-less, length-less, length-mount, good-shape}
+use Rattle.rules.proofs.Shape.{entries-mount, entries-from, entries-length, shape-less, length-less, length-mount, good-shape}
 use Rattle.rules.proofs.Walk.{Reached, Walking, planned-walking}
 use Rattle.rules.proofs.Held.{Held, held-grown, held-placed, held-taken}
 

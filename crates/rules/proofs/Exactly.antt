@@ -1,6 +1,6 @@
 -- Each call answers a number exactly if a test with that number holds and none before it does. Assumes nothing.
 use mathlib.Core.Path.{_≡_, refl, sym, ap, _∙_}
-use mathlib.Core.Bool.{Bool, true, false, cond, not, _&&_, _||_, true≢false, false≢true, and-false}
+use mathlib.Core.Bool.{Bool, true, false, cond, not, _&&_, _||_, and-false}
 use mathlib.Core.List.{List, [], _∷_}
 use mathlib.Core.Option.{Option, none, some}
 use Prim.Native.Nat.{ℕ, zero, suc, _+_, _≤_, _<_}
@@ -15,7 +15,7 @@ use Rattle.rules.specs.Ids.{badMapping}
 use Rattle.rules.specs.Tree.{Mount, isNone, parentIn, childIn}
 use Rattle.rules.specs.Instance.{Instance, heldIn, tagOf, mountOf, counterOf}
 use Rattle.rules.specs.Round.{allocate}
-use Rattle.rules.specs.Outcome.{Outcome, Row, _⇒_, firstOf, refused}
+use Rattle.rules.specs.Outcome.{Outcome, _⇒_, firstOf, refused}
 use Rattle.rules.specs.Create.{Creation, Created, outside, unknown, badOptions, tooSmall, createRule}
 use Rattle.rules.specs.Mount.{Request, noRoom, allocation, mountAs, mountRule, restoreMountRule}
 use Rattle.rules.specs.Unmount.{badPath, reached, mountUnder, walkRule, unmounts, unmountAt, unmountRule, rootHeld, rootAt, rootRule}

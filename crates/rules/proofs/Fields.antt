@@ -11,7 +11,6 @@ use lib.Arith.{mod-mul}
 use lib.Dec.{lit<}
 use Rattle.rules.specs.Bytes.{Bytes}
 use Rattle.rules.specs.Fields.{read, value, bytesOf, get, fields, fieldsAt}
-use Rattle.rules.proofs.Tests.{known}
 
 -- ---- lengths
 

@@ -1,8 +1,8 @@
 -- What a refusal leaves, of every call. Assumes nothing.
-use mathlib.Core.Path.{_≡_, refl, sym, ap, _∙_}
-use mathlib.Core.Bool.{Bool, true, false, not}
+use mathlib.Core.Path.{_≡_, refl, ap}
+use mathlib.Core.Bool.{false}
 use mathlib.Core.Logic.{_⊎_, inl, inr, ⊎-elim}
-use mathlib.Core.List.{List, [], _∷_}
+use mathlib.Core.List.{List}
 use mathlib.Core.Option.{Option, none, some}
 use Prim.Native.Nat.{ℕ, _+_, _%_}
 use native.Mathlib.Omega.{arith}
@@ -18,10 +18,10 @@ use Rattle.rules.specs.Mount.{Request, allocation, allocated, stepped, w
 use Rattle.rules.specs.Unmount.{unmounts, unmountAt, unmountRule, reached, mountUnder}
 use Rattle.rules.specs.Restore.{restoreRule}
 use Rattle.rules.specs.Calls.{Call, mount, restore-mount, umount, restore}
-use Rattle.rules.specs.Leaves.{moved, Row6, Row7, RestoredRow7, Leaves, EveryRefusal}
+use Rattle.rules.specs.Leaves.{Leaves, EveryRefusal}
 use Rattle.rules.proofs.Rows.{first-of, each-of}
 use Rattle.rules.proofs.Round.{spent}
-use Rattle.rules.proofs.Still.{Still, still-refused, Cases, every-call}
+use Rattle.rules.proofs.Still.{Still, still-refused, every-call}
 
 module _ (i : Instance) (c : Call) where
   -- a call that is done has no refusal to speak of

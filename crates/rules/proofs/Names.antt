@@ -1,18 +1,18 @@
 -- The components of a path within its limits and in UTF-8 are good names. Assumes nothing.
 use mathlib.Core.Path.{_≡_, refl, sym, ap, _∙_, subst}
-use mathlib.Core.Bool.{Bool, true, false, cond, not, _&&_, _||_, true≢false, false≢true}
+use mathlib.Core.Bool.{Bool, true, false, cond, _&&_, true≢false}
 use mathlib.Core.List.{List, [], _∷_}
-use mathlib.Core.Logic.{_⊎_, inl, inr, ⊎-elim}
+use mathlib.Core.Logic.{_⊎_, ⊎-elim}
 use Prim.Native.Nat.{ℕ, zero, suc, _+_, _≤_}
 use native.Mathlib.Nat.{suc-inj}
 use native.Mathlib.Omega.{arith}
 use lib.ListN.{length}
-use lib.Dec.{leb, ltb, eqb}
+use lib.Dec.{ltb, eqb}
 use borrow.Author.Tests.{eqb-true, le-leb, ltb-false, eq-eqb}
 use Rattle.rules.specs.Bytes.{same, holds}
-use Rattle.rules.specs.Utf8.{Range, _‥_, table, within, fits, firstRow, sequence, onSequence, endFrom, validTo, wellFormed}
-use Rattle.rules.specs.Path.{slash, dot, Part, name, parent, onto, partsBy, pieces, isDot, isDots, sorted, kept, components, anyLonger, tooLong}
-use Rattle.rules.specs.Saved.{every, goodName}
+use Rattle.rules.specs.Utf8.{Range, table, within, fits, firstRow, sequence, onSequence, endFrom, validTo, wellFormed}
+use Rattle.rules.specs.Path.{slash, Part, name, parent, onto, partsBy, pieces, isDot, isDots, sorted, kept, components, anyLonger, tooLong}
+use Rattle.rules.specs.Saved.{goodName}
 use Rattle.rules.proofs.Tests.{known, and-both, or-neither, pass}
 
 -- ---- sequences do not reach over a slash

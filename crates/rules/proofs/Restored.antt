@@ -1,25 +1,25 @@
 -- A driven instance whose parents are all present is saved as a valid state, and comes back. Assumes nothing.
-use mathlib.Core.Path.{_≡_, refl, sym, ap, _∙_, subst}
-use mathlib.Core.Bool.{Bool, true, false, cond, not, _&&_, _||_, true≢false, false≢true, or-true}
+use mathlib.Core.Path.{_≡_, refl, sym, ap, _∙_}
+use mathlib.Core.Bool.{Bool, true, false, cond, not, _||_, true≢false, or-true}
 use mathlib.Core.Logic.{_⊎_, inl, inr, ⊎-elim}
 use mathlib.Core.List.{List, [], _∷_}
-use mathlib.Core.Option.{Option, none, some}
-use Prim.Native.Nat.{ℕ, _+_, _*_, _^_, _≤_, _<_}
+use mathlib.Core.Option.{some}
+use Prim.Native.Nat.{ℕ, _+_, _≤_}
 use native.Mathlib.Omega.{arith}
 use lib.ListN.{length}
-use lib.Dec.{eqb, leb, ltb}
+use lib.Dec.{eqb, ltb}
 use borrow.Author.Tests.{eqb-true, eq-eqb, leb-true, le-leb, le-ltb, not-true, not-false}
 use Rattle.rules.specs.Numbers.{rootNumber, topNumber}
-use Rattle.rules.specs.Bytes.{Bytes, same}
+use Rattle.rules.specs.Bytes.{Bytes}
 use Rattle.rules.specs.Tree.{Node, isNone, nodeIn, isKnown}
-use Rattle.rules.specs.Instance.{Instance, live}
+use Rattle.rules.specs.Instance.{Instance}
 use Rattle.rules.specs.Outcome.{Outcome}
 use Rattle.rules.specs.Create.{unknown}
-use Rattle.rules.specs.Saved.{Entry, State, lastNumber, present, used, goodName, goodNode, goodNodes, valid, nodesBytes, encode, accepted, stateOf}
-use Rattle.rules.specs.Restore.{entryFor, entriesFor, nodesFrom, saved, fresh, restoredTo, restoreRule}
-use Rattle.rules.specs.RoundTrip.{EntryFits, EntriesFit, OptionsFit, Fits, NamesTo}
-use Rattle.rules.specs.Driven.{Driven, Rises, Below, Named, Unique, Shape, Facts, Present}
-use Rattle.rules.specs.Restored.{bareTree, GivesBack, SaveThenRestore, RestoreThenSave, NoLonger}
+use Rattle.rules.specs.Saved.{Entry, lastNumber, present, used, goodName, goodNodes, valid, encode, accepted, stateOf}
+use Rattle.rules.specs.Restore.{entriesFor, nodesFrom, saved, restoredTo, restoreRule}
+use Rattle.rules.specs.RoundTrip.{EntriesFit, Fits, NamesTo}
+use Rattle.rules.specs.Driven.{Rises, Below, Named, Unique, Facts, Present}
+use Rattle.rules.specs.Restored.{GivesBack, SaveThenRestore, RestoreThenSave, NoLonger}
 use Rattle.rules.proofs.Tests.{known, or-neither, pass, passed}
 use Rattle.rules.proofs.Rows.{first-of}
 use Rattle.rules.proofs.RoundTrip.{state-read, is-accepted, written, longest, most-bytes}

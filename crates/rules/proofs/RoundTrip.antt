@@ -1,9 +1,9 @@
 -- Saved bytes give back the state, and no other bytes are accepted for it. Assumes nothing.
 use mathlib.Core.Path.{_≡_, refl, sym, ap, ap₂, _∙_, subst}
-use mathlib.Core.Bool.{Bool, true, false, cond, _&&_, false≢true}
+use mathlib.Core.Bool.{Bool, true, false, cond}
 use mathlib.Core.Option.{Option, some, none}
 use mathlib.Core.List.{List, [], _∷_, _++_, append-assoc, append-nil}
-use Prim.Native.Nat.{ℕ, zero, suc, _+_, _-_, _*_, _^_, _≤_, _<_}
+use Prim.Native.Nat.{ℕ, zero, suc, _+_, _-_, _*_, _≤_}
 use native.Mathlib.Nat.{zero-add, add-assoc}
 use native.Mathlib.Omega.{arith}
 use lib.ListN.{length, length-append}
@@ -12,10 +12,10 @@ use borrow.Author.Tests.{le-leb, lt-ltb, eq-eqb, leb-true, eqb-true, ltb-true}
 use Rattle.rules.specs.Bytes.{Bytes}
 use Rattle.rules.specs.Fields.{read, get, fields, fieldsAt}
 use Rattle.rules.specs.Instance.{Options}
-use Rattle.rules.specs.Create.{Creation, newInstance}
-use Rattle.rules.specs.Saved.{Entry, State, nodeRow, optionsRow, trailerRow, nodeBytes, nodesBytes, optionsBytes, trailerBytes, encode, nodeAt, behind, nodesAt, endAt, optionsAt, optionsIn, trailerIn, offsetOf, countOf, nextOf, counterIn, stateOf, every, laidOut, valid, accepted, decode}
+use Rattle.rules.specs.Create.{newInstance}
+use Rattle.rules.specs.Saved.{Entry, State, nodeRow, optionsRow, trailerRow, nodeBytes, nodesBytes, optionsBytes, trailerBytes, encode, nodeAt, behind, nodesAt, endAt, optionsAt, optionsIn, trailerIn, offsetOf, countOf, nextOf, counterIn, stateOf, laidOut, valid, accepted, decode}
 use Rattle.rules.specs.Restore.{saved, entriesFor}
-use Rattle.rules.specs.RoundTrip.{EntryFits, EntriesFit, OptionsFit, Fits, ThereAndBack, Only, NoOther, FreshLength, NamesTo, NamesOf, Longest}
+use Rattle.rules.specs.RoundTrip.{EntryFits, EntriesFit, Fits, ThereAndBack, Only, NoOther, FreshLength, NamesTo, NamesOf, Longest}
 use Rattle.rules.proofs.Tests.{and-both, Holds, pass, passed}
 use Rattle.rules.proofs.Fields.{length-read, read-add, read-all, read-behind, get-fits, total, Fit, fields-length, fields-back, fields-read}
 

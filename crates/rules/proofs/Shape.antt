@@ -1,16 +1,16 @@
 -- The nodes of a driven instance, mounts left aside: one more, one less, and as saved. Assumes nothing.
-use mathlib.Core.Path.{_≡_, refl, sym, ap, ap₂, _∙_}
-use mathlib.Core.Bool.{Bool, true, false, cond, not, _&&_, _||_, true≢false, false≢true}
+use mathlib.Core.Path.{_≡_, refl, sym, ap, _∙_}
+use mathlib.Core.Bool.{Bool, true, false, cond, _&&_, _||_}
 use mathlib.Core.List.{List, [], _∷_, _++_}
 use mathlib.Core.Option.{Option, none, some}
 use Prim.Native.Nat.{ℕ, suc, _+_, _≤_, _<_}
 use native.Mathlib.Omega.{arith}
 use lib.ListN.{length}
-use lib.Dec.{eqb, ltb}
-use borrow.Author.Tests.{eqb-true, eqb-false, eq-eqb, ne-eqb, not-true, not-false, ltb-true, lt-ltb}
+use lib.Dec.{eqb}
+use borrow.Author.Tests.{eqb-true, eqb-false, eq-eqb, ne-eqb, not-true, ltb-true, lt-ltb}
 use Rattle.rules.specs.Numbers.{rootNumber}
 use Rattle.rules.specs.Bytes.{same}
-use Rattle.rules.specs.Tree.{Mount, Node, isChild, childIn, bare, withMount, mountAt, without}
+use Rattle.rules.specs.Tree.{Mount, Node, isChild, childIn, withMount, mountAt, without}
 use Rattle.rules.specs.Saved.{Entry, lastNumber, present, used, goodName, goodNode, goodNodes}
 use Rattle.rules.specs.Restore.{entryFor, entriesFor, nodesFrom}
 use Rattle.rules.specs.Driven.{Rises, Below, Named, Unique, Shape}

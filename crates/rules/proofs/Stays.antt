@@ -1,28 +1,26 @@
 -- What never changes, of every call. Assumes nothing.
 use mathlib.Core.Path.{_≡_, refl, sym, ap, _∙_}
-use mathlib.Core.Bool.{Bool, true, false, cond, not, _&&_, false≢true}
-use mathlib.Core.Logic.{_⊎_, inl, inr, ⊎-elim}
+use mathlib.Core.Bool.{not, _&&_}
 use mathlib.Core.List.{List, [], _∷_}
 use mathlib.Core.Option.{Option, none, some}
 use Prim.Native.Nat.{ℕ, _+_, _≤_, _<_}
 use native.Mathlib.Omega.{arith}
-use lib.ListN.{length}
 use lib.Dec.{eqb}
 use borrow.Author.Tests.{not-false}
 use Rattle.rules.specs.Numbers.{rootNumber}
-use Rattle.rules.specs.Tree.{Mount, Node, isNone, mountAt}
-use Rattle.rules.specs.Instance.{Tree, Instance, mountOf, setMount, cut}
+use Rattle.rules.specs.Tree.{Mount, Node, isNone}
+use Rattle.rules.specs.Instance.{Tree, Instance, mountOf, setMount}
 use Rattle.rules.specs.Outcome.{Outcome, refused}
-use Rattle.rules.specs.Mount.{Request, planned, freed, placed, allocation, stepped, walkedTo, ended, mountAs, mountRule, restoreMountRule}
+use Rattle.rules.specs.Mount.{Request, freed, placed, allocation, stepped, walkedTo, ended, mountAs, mountRule, restoreMountRule}
 use Rattle.rules.specs.Unmount.{reached, mountUnder, taken, unmounts, unmountAt, unmountRule}
 use Rattle.rules.specs.Saved.{Entry, stateOf}
 use Rattle.rules.specs.Restore.{entriesFor, nodesFrom, noNodes, fresh, restoredTo, restoreRule}
 use Rattle.rules.specs.Calls.{Call, mount, restore-mount, umount, restore}
 use Rattle.rules.specs.Driven.{Rises}
-use Rattle.rules.specs.Stays.{mounted, mountsIn, mountsOf, NoMounting, Stays, EveryStays, Absent, Distinct, NumbersOnce}
+use Rattle.rules.specs.Stays.{mountsIn, mountsOf, NoMounting, Stays, EveryStays, Absent, Distinct, NumbersOnce}
 use Rattle.rules.proofs.Tests.{and-both}
 use Rattle.rules.proofs.Rows.{first-of, each-of, either}
-use Rattle.rules.proofs.Still.{Still, Cases, every-call}
+use Rattle.rules.proofs.Still.{Still, every-call}
 use Rattle.rules.proofs.Driven.{facts, no-nodes, no-root}
 
 -- ---- what a mounting call keeps

@@ -3,13 +3,13 @@ use mathlib.Core.Path.{_≡_, refl, ap, _∙_}
 use mathlib.Core.Logic.{_⊎_, inl, inr, ⊎-elim}
 use mathlib.Core.List.{List, [], _∷_, _++_}
 use mathlib.Core.Option.{Option, none, some}
-use Prim.Native.Nat.{ℕ, suc, _+_, _-_, _%_, _≤_, _<_}
+use Prim.Native.Nat.{ℕ, _+_, _-_, _%_, _≤_, _<_}
 use native.Mathlib.Omega.{arith}
 use lib.ListN.{length, length-append}
 use Rattle.rules.specs.Round.{after, goingRound}
 use Rattle.rules.specs.Instance.{Instance, counterOf}
 use Rattle.rules.specs.Calls.{Call, rule}
-use Rattle.rules.specs.Trace.{NoRestore, Unrestored, afterAll, visitsOf, total, lastFound, Meets, Met, GoesRound, Laps, EveryRun, EveryLap}
+use Rattle.rules.specs.Trace.{NoRestore, Unrestored, afterAll, visitsOf, total, lastFound, Met, EveryRun, EveryLap}
 use Rattle.rules.proofs.Tests.{le-or-lt}
 use Rattle.rules.proofs.Round.{round-append}
 use Rattle.rules.proofs.Turn.{turn, found-no-restore}

@@ -1,10 +1,10 @@
 -- What one call does to the counter. Assumes nothing.
 use mathlib.Core.Path.{_≡_, refl, sym, ap, _∙_}
-use mathlib.Core.Bool.{Bool, true, false}
+use mathlib.Core.Bool.{true}
 use mathlib.Core.Logic.{_⊎_, inl, inr, ⊎-elim}
-use mathlib.Core.List.{List, [], _∷_}
+use mathlib.Core.List.{List}
 use mathlib.Core.Option.{Option, none, some}
-use Prim.Native.Nat.{ℕ, suc, _+_, _%_, _≤_, _<_}
+use Prim.Native.Nat.{ℕ, _+_, _%_, _<_}
 use native.Mathlib.Omega.{arith}
 use lib.ListN.{length}
 use Rattle.rules.specs.Round.{after, goingRound, untilTwice, visited, freeOf, allocate}
@@ -14,12 +14,12 @@ use Rattle.rules.specs.Outcome.{Answer, Outcome, refused}
 use Rattle.rules.specs.Mount.{Request, freed, placed, allocation, stepped, allocated, walkedTo, ended, mountAs, mountRule, restoreMountRule}
 use Rattle.rules.specs.Unmount.{unmounts, unmountAt, unmountRule, reached, mountUnder}
 use Rattle.rules.specs.Restore.{restoreRule}
-use Rattle.rules.specs.Calls.{Call, mount, restore, rule}
+use Rattle.rules.specs.Calls.{Call, mount, rule}
 use Rattle.rules.specs.Trace.{NoRestore, Has, Meets, Moves, Keeps, OnlyMounts}
-use Rattle.rules.proofs.Rows.{first-of, each-of}
+use Rattle.rules.proofs.Rows.{each-of}
 use Rattle.rules.proofs.Round.{visited-round, ends, meets}
 use Rattle.rules.proofs.Allocation.{not-free}
-use Rattle.rules.proofs.Still.{Still, Cases, every-call}
+use Rattle.rules.proofs.Still.{every-call}
 
 keeps-refused : (i : Instance) (code : ℕ) → Keeps i (refused code i)
 keeps-refused i code = record { visits = refl; found = refl; counter = refl }

@@ -1,10 +1,10 @@
 -- A mount walk from the root ends at a live node, and what it makes keeps the shape. Assumes nothing.
-use mathlib.Core.Path.{_≡_, refl, sym, ap, _∙_, subst}
-use mathlib.Core.Bool.{Bool, true, false, cond, _&&_, true≢false, false≢true}
-use mathlib.Core.Logic.{_⊎_, inl, inr, ⊎-elim}
+use mathlib.Core.Path.{_≡_, refl}
+use mathlib.Core.Bool.{Bool, true, false, cond, _&&_}
+use mathlib.Core.Logic.{_⊎_, inl, inr}
 use mathlib.Core.List.{List, [], _∷_, _++_, append-assoc, append-nil}
 use mathlib.Core.Option.{Option, none, some}
-use Prim.Native.Nat.{ℕ, suc, _+_, _≤_, _<_}
+use Prim.Native.Nat.{ℕ, _+_, _≤_, _<_}
 use native.Mathlib.Nat.{add-zero}
 use native.Mathlib.Omega.{arith}
 use lib.ListN.{length, length-append}
@@ -16,11 +16,10 @@ use Rattle.rules.specs.Path.{Part, name, parent, components, tooLong}
 use Rattle.rules.specs.Utf8.{wellFormed}
 use Rattle.rules.specs.Tree.{Node, Made, bare, isChild, childIn, nodeIn, aboveOf, parentIn, orMake, step, makes, atRoot}
 use Rattle.rules.specs.Instance.{Tree}
-use Rattle.rules.specs.Saved.{Entry, goodName}
+use Rattle.rules.specs.Saved.{goodName}
 use Rattle.rules.specs.Restore.{entryFor, entriesFor}
 use Rattle.rules.specs.Mount.{planned}
 use Rattle.rules.specs.Driven.{Rises, Shape}
-use Rattle.rules.proofs.Tests.{pass}
 use Rattle.rules.proofs.Names.{GoodParts, components-good}
 use Rattle.rules.proofs.Shape.{entries-append, child-unused, shape-more, rises-end}
 

@@ -1,13 +1,13 @@
 -- Creation.
 use Prim.Native.Nat.{ℕ}
-use mathlib.Core.Bool.{Bool, true, false, not, _||_}
-use mathlib.Core.List.{List, [], _∷_}
+use mathlib.Core.Bool.{Bool, false, not, _||_}
+use mathlib.Core.List.{[], _∷_}
 use mathlib.Core.Option.{Option, none, some}
 use lib.Bits.{bitAnd}
 use lib.Dec.{eqb, ltb}
 use Rattle.rules.specs.Numbers.{maxNodes, storageFor, SMALL, BADOPT, BADMAP}
-use Rattle.rules.specs.Ids.{Mapping, badMapping}
-use Rattle.rules.specs.Instance.{Fixed, Options, Instance, newIndexes, newTree}
+use Rattle.rules.specs.Ids.{badMapping}
+use Rattle.rules.specs.Instance.{Options, Instance, newIndexes, newTree}
 use Rattle.rules.specs.Outcome.{_⇒_, firstOf}
 
 -- what creation takes: N, the mask of known option bits, the options (R26, R27)

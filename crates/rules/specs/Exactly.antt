@@ -12,13 +12,11 @@ use Rattle.rules.specs.Numbers.{rootNumber, maxIno, topNumber, maxNodes,
 use Rattle.rules.specs.Bytes.{holds}
 use Rattle.rules.specs.Utf8.{wellFormed}
 use Rattle.rules.specs.Path.{rooted, tooLong, isDot, isDots}
-use Rattle.rules.specs.Ids.{Mapping}
 use Rattle.rules.specs.Tree.{Mount, isNone, isKnown, childIn}
 use Rattle.rules.specs.Instance.{Instance, live, tagOf, heldIn, counterOf}
 use Rattle.rules.specs.Create.{Creation, outside, createRule}
 use Rattle.rules.specs.Mount.{Request, needed}
 use Rattle.rules.specs.Unmount.{reached, mountUnder}
-use Rattle.rules.specs.Listing.{ListRequest}
 use Rattle.rules.specs.Saved.{encode, accepted, stateOf}
 use Rattle.rules.specs.Restore.{saved, fresh}
 use Rattle.rules.specs.Calls.{Call, mount, restore-mount, umount, set-remove-pseudo-root, path-walk, get-rootfs, route, lookup, readdir, remap-attr-id, options, initialized, save, restore, rule}

@@ -8,7 +8,7 @@ use lib.Dec.{eqb, ltb}
 use Rattle.rules.specs.Numbers.{maxIno, topNumber, TOOLONG, INVAL, INODE, FULL, NOROOM, BADINDEX}
 use Rattle.rules.specs.Utf8.{wellFormed}
 use Rattle.rules.specs.Path.{components, rooted, tooLong}
-use Rattle.rules.specs.Tree.{Mount, Node, Made, makes, atRoot}
+use Rattle.rules.specs.Tree.{Mount, Made, makes, atRoot}
 use Rattle.rules.specs.Round.{Allocation, allocate}
 use Rattle.rules.specs.Instance.{Tree, Instance, withTree, withCounter, withSlot, emptySlot, heldBy, tagOf, heldIn, mountOf, setMount, grown, live}
 use Rattle.rules.specs.Outcome.{Answer, nothing, mounted, restored, Outcome, refused, says, _⇒_, firstOf}

@@ -1,5 +1,4 @@
 -- What a mount walk makes on a new tree, as a table of paths under one statement (R38, R50).
-use Prim.Native.Nat.{ℕ}
 use Prim.Native.String.{String}
 use mathlib.Core.Path.{_≡_}
 use mathlib.Core.List.{List, [], _∷_}

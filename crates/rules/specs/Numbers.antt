@@ -1,6 +1,6 @@
 -- The numbers of the trade, inode numbers, and the numbers of the refusals.
 use Prim.Native.Nat.{ℕ, _+_, _*_, _-_, _/_, _%_, _^_}
-use mathlib.Core.Bool.{Bool, cond}
+use mathlib.Core.Bool.{cond}
 use mathlib.Core.Option.{Option, none, some}
 use lib.Dec.{eqb, ltb}
 

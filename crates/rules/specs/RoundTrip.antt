@@ -2,11 +2,11 @@
 use Prim.Native.Nat.{ℕ, _^_, _≤_, _<_}
 use mathlib.Core.Bool.{true}
 use mathlib.Core.List.{List, [], _∷_}
-use mathlib.Core.Option.{Option, some}
+use mathlib.Core.Option.{some}
 use mathlib.Core.Path.{_≡_}
 use lib.ListN.{length}
 use Rattle.rules.specs.Bytes.{Bytes}
-use Rattle.rules.specs.Instance.{Options, Instance}
+use Rattle.rules.specs.Instance.{Options}
 use Rattle.rules.specs.Create.{Creation, newInstance}
 use Rattle.rules.specs.Saved.{Entry, State, nodesBytes, encode, valid, decode}
 use Rattle.rules.specs.Restore.{saved}

@@ -12,7 +12,7 @@ use Rattle.rules.specs.Tree.{onward}
 use Rattle.rules.specs.Instance.{Instance}
 use Rattle.rules.specs.Mount.{Request}
 use Rattle.rules.specs.Outcome.{Answer, nothing, mounted, restored, unmounted, walked, rootfs, toTree, toBackend, entry, ids, wrote, settings, truth, Outcome, count}
-use Rattle.rules.specs.Calls.{Call, mount as mount-call, umount as umount-call, path-walk, route, lookup, rule}
+use Rattle.rules.specs.Calls.{mount as mount-call, umount as umount-call, path-walk, route, lookup, rule}
 
 -- the byte between fields (R146)
 abbrev pub space : ℕ

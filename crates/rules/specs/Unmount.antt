@@ -7,7 +7,7 @@ use lib.Dec.{eqb}
 use Rattle.rules.specs.Numbers.{rootNumber, INVAL, NOTFOUND}
 use Rattle.rules.specs.Utf8.{wellFormed}
 use Rattle.rules.specs.Path.{components, rooted}
-use Rattle.rules.specs.Tree.{Mount, walk, parentIn, isNone}
+use Rattle.rules.specs.Tree.{Mount, walk, parentIn}
 use Rattle.rules.specs.Instance.{Tree, Instance, withTree, withSlot, emptySlot, tagOf, mountOf, setMount, cut}
 use Rattle.rules.specs.Outcome.{walked, unmounted, rootfs, Outcome, refused, says, _⇒_, firstOf}
 

@@ -7,7 +7,6 @@ use native.Mathlib.Nat.{zero-add}
 use native.Mathlib.Omega.{arith}
 use borrow.Author.Tests.{eq-eqb, ne-eqb}
 use lib.Bits.{bitAnd}
-use lib.Dec.{eqb}
 use Rattle.le.specs.Mem.{get}
 use Rattle.scan.specs.First.{cellIs, anyOf, firstOf}
 

@@ -1,17 +1,17 @@
 -- The key of a name: the masks as shifts, and the bytes of a short name put together from the last one on. Assumes nothing.
-use mathlib.Core.Path.{_≡_, refl, sym, ap, _∙_}
+use mathlib.Core.Path.{_≡_, sym, ap, _∙_}
 use mathlib.Core.List.{List}
-use Prim.Native.Nat.{ℕ, zero, suc, _+_, _-_, _*_, _/_, _%_, _^_, _≤_, _<_, min}
-use native.Mathlib.Nat.{pow-suc, pow-le-pow-right, zero-lt-suc, lt-of-lt-of-le}
+use Prim.Native.Nat.{ℕ, _+_, _-_, _*_, _/_, _%_, _^_, _≤_, _<_, min}
+use native.Mathlib.Nat.{pow-suc, pow-le-pow-right, zero-lt-suc}
 use native.Mathlib.Numerals.{one-add}
 use native.Mathlib.Omega.{arith}
 use lib.ListN.{length}
 use lib.Arith.{digits-div}
-use lib.Pow.{pow-pos, pow-mono, pow-add, high-ones}
+use lib.Pow.{pow-pos, pow-mono, high-ones}
 use Rattle.le.specs.Mem.{read, value, get, Bytes}
 use Rattle.le.proofs.Lens.{get-add}
 use Rattle.rules.proofs.Fields.{get-fits}
-use Rattle.scan.specs.Key.{kept, maskOf, wordOf}
+use Rattle.scan.specs.Key.{maskOf, wordOf}
 
 -- ones, shifted down, are fewer ones
 ones-down : (j k : ℕ) → (2 ^ (j + k) - 1) / 2 ^ k ≡ 2 ^ j - 1

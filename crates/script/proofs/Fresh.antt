@@ -1,14 +1,13 @@
 -- The program's creation is done, and the theorem on any cutting goes on from it. Assumes nothing.
 use Prim.Native.Nat.{ℕ}
 use mathlib.Core.Path.{_≡_, _∙_}
-use mathlib.Core.List.{List}
 use lib.ListN.{length}
 use Rattle.rules.specs.Ids.{badMapping}
 use Rattle.rules.specs.Outcome.{firstOf}
 use Rattle.rules.specs.Create.{tooSmall, outside, unknown, badOptions, createRule}
 use Rattle.rules.specs.Whole.{session}
 use Rattle.storage.specs.Creation.{createdCode}
-use Rattle.script.specs.Runs.{written, WholeOf}
+use Rattle.script.specs.Runs.{WholeOf}
 use Rattle.script.specs.Fresh.{fresh, EverySession}
 use Rattle.script.proofs.Runs.{every-cutting}
 

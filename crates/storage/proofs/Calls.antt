@@ -1,13 +1,13 @@
 -- Calls that are refused, in general. Assumes nothing.
-use mathlib.Core.Path.{_≡_, refl, sym, _∙_}
-use mathlib.Core.Bool.{Bool, true, false, true≢false}
+use mathlib.Core.Path.{_≡_, sym, _∙_}
+use mathlib.Core.Bool.{true, false, true≢false}
 use mathlib.Core.List.{List}
 use Prim.Native.Nat.{ℕ}
 use Rattle.rules.specs.Instance.{Instance}
 use Rattle.rules.specs.Outcome.{Outcome}
 use Rattle.tables.specs.View.{view}
 use Rattle.tables.specs.Rule.{laid}
-use Rattle.tables.specs.Call.{Told, toldBy, toldSmall, answeredBy, Does}
+use Rattle.tables.specs.Call.{Told, toldBy, toldSmall, Does}
 use Rattle.storage.proofs.Laid.{told-small, told-by}
 
 module _ (mem : List ℕ) (f : Instance → Outcome) where

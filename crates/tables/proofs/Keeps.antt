@@ -1,25 +1,25 @@
 -- Every write keeps the layout rule. Assumes nothing.
-use mathlib.Core.Path.{_≡_, refl, sym, ap, ap₂, _∙_, subst}
-use mathlib.Core.Bool.{Bool, true, false, cond, not}
-use mathlib.Core.List.{List, [], _∷_, _++_}
+use mathlib.Core.Path.{_≡_, refl, ap₂, _∙_}
+use mathlib.Core.Bool.{Bool, true, false, cond}
+use mathlib.Core.List.{List, [], _∷_}
 use mathlib.Core.Option.{Option, none, some}
 use Prim.Native.Nat.{ℕ, _+_, _-_, _*_, _^_, _≤_, _<_}
 use native.Mathlib.Omega.{arith}
 use lib.ListN.{length}
-use lib.Dec.{eqb, leb, ltb}
+use lib.Dec.{eqb}
 use borrow.Author.Tests.{eqb-true, eq-eqb, leb-true, le-leb, ltb-true, lt-ltb, not-true}
-use Rattle.le.specs.Mem.{read, value, bytesOf, get}
+use Rattle.le.specs.Mem.{bytesOf, get}
 use Rattle.rules.specs.Numbers.{rootNumber}
 use Rattle.rules.specs.Ids.{badMapping}
-use Rattle.rules.specs.Tree.{Mount, Node}
+use Rattle.rules.specs.Tree.{Mount}
 use Rattle.rules.specs.Create.{unknown}
 use Rattle.rules.proofs.Fields.{length-bytesOf}
 use Rattle.rules.proofs.Tests.{pass, passed}
-use Rattle.tables.specs.Table.{row, putRow, closeUp, over, Fit}
+use Rattle.tables.specs.Table.{row, putRow, over, Fit}
 use Rattle.tables.specs.Layout.{header, slotTable, nodeTable, mark, capacityOf, countOf, nextOf}
 use Rattle.tables.specs.View.{field, mappingFrom, optionsFrom, headOf, nodesOf}
 use Rattle.tables.specs.Rule.{laidBy, laid, Laid}
-use Rattle.tables.specs.Write.{fromPlace, putHeader, setCount, setNext, setCounter, setRemoval, heldByte, setSlot, mountCells, rowMountCells, setRootMount, setRowMount, nodeCells, appendNode, removeRow}
+use Rattle.tables.specs.Write.{fromPlace, putHeader, setCount, setNext, setCounter, setRemoval, heldByte, setSlot, mountCells, rowMountCells, setRootMount, setRowMount, appendNode, removeRow}
 use Rattle.tables.specs.Answer.{placeIn, atPlace, mountMem, removeMem}
 use Rattle.tables.proofs.Table.{length-putRow, length-closeUp}
 use Rattle.tables.proofs.Refine.{cell-back, low-head, put-low, head-put, head-append, head-remove, root-fit, slot-head}

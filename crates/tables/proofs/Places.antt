@@ -3,14 +3,14 @@ use mathlib.Core.Path.{_≡_, refl, sym, ap, _∙_, subst}
 use mathlib.Core.Bool.{Bool, true, false, cond}
 use mathlib.Core.List.{List, [], _∷_}
 use mathlib.Core.Option.{Option, none, some}
-use Prim.Native.Nat.{ℕ, zero, suc, _+_, _<_, _≤_}
+use Prim.Native.Nat.{ℕ, suc, _<_}
 use native.Mathlib.Nat.{zero-add}
 use native.Mathlib.Omega.{arith}
 use lib.ListN.{length, getD, set}
 use lib.Dec.{eqb}
 use Rattle.rules.specs.Numbers.{rootNumber}
 use Rattle.rules.specs.Tree.{Mount, Node, nodeIn, mountAt, without, withMount, bare}
-use Rattle.rules.specs.Instance.{Tree, Instance, setMount, withTree, cut}
+use Rattle.rules.specs.Instance.{setMount, withTree, cut}
 use Rattle.le.specs.Mem.{get}
 use Rattle.tables.specs.Table.{row, tab, removeAt}
 use Rattle.tables.specs.Layout.{capacityOf, countOf}

@@ -1,25 +1,24 @@
 -- What each write does to the instance that the bytes stand for. Assumes nothing.
-use mathlib.Core.Path.{_≡_, refl, sym, ap, ap₂, _∙_, subst}
-use mathlib.Core.Bool.{Bool, true, false, cond, not}
+use mathlib.Core.Path.{_≡_, refl, ap, _∙_, subst}
+use mathlib.Core.Bool.{Bool, true, false, not}
 use mathlib.Core.Logic.{_⊎_, inl, inr, ⊎-elim}
 use mathlib.Core.List.{List, [], _∷_, _++_, append-nil}
 use mathlib.Core.Option.{Option, none, some}
-use Prim.Native.Nat.{ℕ, zero, suc, _+_, _-_, _*_, _/_, _%_, _^_, _≤_, _<_, min}
+use Prim.Native.Nat.{ℕ, suc, _+_, _-_, _*_, _/_, _%_, _^_, _≤_, _<_, min}
 use native.Mathlib.Nat.{mod-eq-of-lt, zero-add, add-zero}
 use native.Mathlib.Omega.{arith}
-use native.Mathlib.Decide.{ℕ-discrete}
-use lib.ListN.{length, getD, set, take, drop, length-append, length-take, length-drop, take-append-drop}
+use lib.ListN.{length, set, take, drop, length-append, length-take, length-drop, take-append-drop}
 use lib.Seq.{take-at, length-take-le}
 use lib.Dec.{eqb}
-use borrow.Author.Tests.{eq-eqb, ne-eqb}
+use borrow.Author.Tests.{ne-eqb}
 use Rattle.le.specs.Mem.{read, write, value, bytesOf, get}
 use Rattle.rules.proofs.Fields.{length-bytesOf, value-bytes}
 use Rattle.rules.proofs.Tests.{le-or-lt}
 use Rattle.rules.specs.Tree.{Mount, Node, bare, withMount}
-use Rattle.rules.specs.Instance.{Slot, Instance, withCounter, withSlot, withTree, removing, grown}
-use Rattle.tables.specs.Table.{Col, off, row, putRow, closeUp, over, Above, Beneath, Behind, Fit, tab, removeAt}
-use Rattle.tables.specs.Layout.{header, slotTable, nodeTable, tableAt, capacityOf, countOf, nextOf}
-use Rattle.tables.specs.View.{cell, field, flag, mountFrom, nameFrom, nodeFrom, slotFrom, mappingFrom, optionsFrom, instanceFrom, headOf, slotAt, nodeAt, slotsOf, nodesFrom, nodesOf, view}
+use Rattle.rules.specs.Instance.{withCounter, withSlot, withTree, removing, grown}
+use Rattle.tables.specs.Table.{row, putRow, closeUp, over, Above, Beneath, Behind, Fit, tab, removeAt}
+use Rattle.tables.specs.Layout.{header, slotTable, nodeTable, capacityOf, countOf, nextOf}
+use Rattle.tables.specs.View.{field, mountFrom, nameFrom, nodeFrom, slotFrom, instanceFrom, headOf, slotAt, nodeAt, slotsOf, nodesFrom, nodesOf, view}
 use Rattle.tables.specs.Write.{fromPlace, putHeader, setCount, setNext, setCounter, setRemoval, heldByte, setSlot, mountCells, rowMountCells, setRootMount, setRowMount, nodeCells, appendNode, removeRow}
 use Rattle.tables.proofs.Tab.{tab-same, tab-set, tab-append, tab-remove}
 use Rattle.tables.specs.Rule.{Laid}

@@ -1,22 +1,22 @@
 -- What each way through an unmount gives. Assumes nothing.
 use mathlib.Core.Path.{_≡_, refl, sym, ap, _∙_, subst}
-use mathlib.Core.Bool.{Bool, true, false, cond, not, _||_}
-use mathlib.Core.List.{List, [], _∷_}
+use mathlib.Core.Bool.{Bool, true, false, not}
+use mathlib.Core.List.{List}
 use mathlib.Core.Option.{Option, none, some}
 use Prim.Native.Nat.{ℕ, _<_}
 use borrow.Author.Tests.{not-true, not-false}
-use Rattle.rules.specs.Numbers.{rootNumber, INVAL, NOTFOUND}
+use Rattle.rules.specs.Numbers.{INVAL, NOTFOUND}
 use Rattle.rules.specs.Utf8.{wellFormed}
 use Rattle.rules.specs.Path.{rooted, components}
-use Rattle.rules.specs.Tree.{Mount, Node, walk, parentIn}
+use Rattle.rules.specs.Tree.{Mount, Node, parentIn}
 use Rattle.rules.specs.Instance.{Instance, mountOf}
 use Rattle.rules.specs.Outcome.{Outcome, unmounted, refused, firstOf}
-use Rattle.rules.specs.Unmount.{badPath, reached, mountUnder, unmounts, unmountAt, unmountRule}
+use Rattle.rules.specs.Unmount.{badPath, reached, unmounts, unmountAt, unmountRule}
 use Rattle.tables.specs.View.{nodesOf, view}
 use Rattle.tables.specs.Rule.{laid, Laid}
 use Rattle.tables.proofs.Keeps.{laid-is}
-use Rattle.tables.specs.Answer.{tagIn, mountOfPoint, mountIn}
-use Rattle.tables.specs.Call.{Told, toldBy, toldSmall, Does}
+use Rattle.tables.specs.Answer.{mountOfPoint, mountIn}
+use Rattle.tables.specs.Call.{toldBy, Does}
 use Rattle.tables.specs.declared.slots.Tag.{Tag}
 use Rattle.tables.specs.declared.mounts.MountPoint.{MountPoint}
 use Rattle.tables.specs.declared.mounts.MountOn.{MountOn}
@@ -25,7 +25,7 @@ use Rattle.inode.specs.declared.NodeNumber.{NodeNumber}
 use Rattle.pseudo_fs.specs.Walks.{Walks, walkedOf}
 use Rattle.pseudo_fs.specs.declared.inner.Walked.{Walked}
 use Rattle.pseudo_fs.specs.declared.inner.Walked.the-variants.{At, Missing}
-use Rattle.placing.specs.Place.{takeOffMem, TakesOff}
+use Rattle.placing.specs.Place.{TakesOff}
 use Rattle.placing.proofs.Stands.{view-taken-off, keeps-taken-off}
 use Rattle.vfs.specs.Unmounting.{unmountedTold, offMem, unmountMem, Unmounts}
 use Rattle.vfs.specs.declared.unmounting.Unmounted.{Unmounted}

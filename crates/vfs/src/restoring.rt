@@ -2,7 +2,7 @@
 ghost use mathlib.Core.Path.{_≡_};
 ghost use mathlib.Core.Bool.{true, false};
 ghost use Prim.Native.Nat.{_≤_};
-ghost use Rattle.rules.specs.Path.{rooted, tooLong};
+ghost use Rattle.rules.specs.Path.{tooLong};
 ghost use Rattle.rules.specs.Instance.{Instance};
 ghost use Rattle.rules.specs.Mount.{restoreMountRule};
 ghost use Rattle.tables.specs.View.{view};

@@ -1,9 +1,8 @@
 // Unmount.
 ghost use mathlib.Core.Path.{_≡_};
 ghost use mathlib.Core.Bool.{true};
-ghost use Rattle.rules.specs.Instance.{Instance, mountOf};
+ghost use Rattle.rules.specs.Instance.{Instance};
 ghost use Rattle.rules.specs.Unmount.{unmountRule};
-ghost use Rattle.tables.specs.View.{view};
 ghost use Rattle.tables.specs.Rule.{laid};
 ghost use Rattle.tables.specs.Call.{Does};
 ghost use Rattle.vfs.specs.Unmounting.{unmountedTold, unmountMem, Unmounts};

@@ -13,13 +13,12 @@ use Rattle.rules.specs.Outcome.{Answer, Outcome, says}
 use Rattle.rules.specs.Lookup.{entryOf, lookupRule, outward}
 use Rattle.tables.specs.View.{mappingFrom, headOf, nodesOf, view}
 use Rattle.tables.specs.Rule.{laid}
-use Rattle.tables.specs.Call.{Told, toldBy, answeredBy}
+use Rattle.tables.specs.Call.{toldBy, answeredBy}
 use Rattle.tables.specs.Answer.{mountOfPoint}
 use Rattle.tables.specs.declared.mounts.MountPoint.{MountPoint}
 use Rattle.inode.specs.declared.VfsInode.{VfsInode}
 use Rattle.storage.proofs.Laid.{told-by}
 use Rattle.pseudo_fs.specs.declared.Entry.{Entry}
-use Rattle.pseudo_fs.specs.declared.Looked.{Looked}
 use Rattle.pseudo_fs.specs.declared.Looked.the-variants.{Entry as LookedEntry, NoEnt as LookedNoEnt, Inval as LookedInval}
 use Rattle.pseudo_fs.specs.declared.inner.Finding.{Finding}
 use Rattle.pseudo_fs.specs.declared.inner.Finding.the-variants.{Node as FindingNode, NoEnt, Inval}

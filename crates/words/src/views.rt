@@ -4,7 +4,6 @@ use crate::numbers::least;
 use crate::sums::START;
 use crate::sums::with_run;
 ghost use mathlib.Core.Path.{_≡_};
-ghost use lib.ListN.{getD};
 ghost use Rattle.path.specs.Steps.{part};
 ghost use Rattle.words.specs.Adler.{adler};
 ghost use Rattle.words.specs.Viewed.{flagOf, mountBytes, slotBytes, nameBytes, rowBytes, pieces, tableBytes};

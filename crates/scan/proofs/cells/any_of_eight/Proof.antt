@@ -1,5 +1,4 @@
 -- After k cells, whether one of them was hit.
-use mathlib.Core.Path.{sym, _∙_}
 use mathlib.Core.Logic.{⊎-elim}
 use Prim.Native.Nat.{_-_}
 use Rattle.scan.specs.First.{cellIs}

@@ -1,7 +1,6 @@
 -- After the cells before i, eight at a time, none of which is the one sought, the cells that are left decide.
 use mathlib.Core.Path.{sym, _∙_}
 use Prim.Native.Nat.{_-_}
-use borrow.Author.Tests.{not-true, not-false}
 use Rattle.scan.specs.First.{cellIs}
 use Rattle.scan.proofs.First.{Left, none-left, eight-left}
 use borrow.Author.Needs.{needs}

@@ -1,5 +1,4 @@
 -- After the cells before i, none of which is the one sought, the cells that are left decide.
-use mathlib.Core.Path.{sym, _∙_}
 use Prim.Native.Nat.{_-_}
 use Rattle.scan.specs.First.{cellIs}
 use Rattle.scan.proofs.First.{Left, none-left, here-left, on-left, done-left, cell-here, cell-other}

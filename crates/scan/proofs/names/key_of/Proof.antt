@@ -1,5 +1,4 @@
 -- The last seven bytes of a long name stand in its last eight; a short name is spelt whole.
-use mathlib.Core.Path.{sym, _∙_}
 use denote.Ref.{now}
 use native.Mathlib.Omega.{arith}
 use Rattle.scan.proofs.Keys.{short-mask, long-mask, short-key, long-key, short-fits}

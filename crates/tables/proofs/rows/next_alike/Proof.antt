@@ -1,5 +1,4 @@
 -- The cells are those of the names' column.
-use mathlib.Core.Path.{ap, _∙_}
 use borrow.Author.Needs.{needs}
 use Rattle.tables.proofs.rows.next_alike.Statement.{statement}
 use Rattle.tables.proofs.rows.next_alike.Tie as tie
