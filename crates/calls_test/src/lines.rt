@@ -138,7 +138,7 @@ fn marked(storage: &[u8], kept: &[u8], regs: &mut [u64; CELLS]) {
 // The sum of the tables; 0 where the bytes break the layout rule.
 fn viewed(s: &[u8], regs: &mut [u64; CELLS]) {
     if storage::is_laid(s) {
-        sink::number(words::views::sum_of(s), regs);
+        sink::number(view_sum::sum_of(s), regs);
     } else {
         sink::number(0, regs);
     }

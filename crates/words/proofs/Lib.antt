@@ -2,4 +2,3 @@
 pub mod Spelling
 pub mod Finding
 pub mod Summing
-pub mod Viewing

@@ -2,4 +2,3 @@
 pub mod Spelt
 pub mod Among
 pub mod Adler
-pub mod Viewed

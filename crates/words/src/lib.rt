@@ -2,4 +2,3 @@
 pub mod hex;
 pub mod numbers;
 pub mod sums;
-pub mod views;

@@ -1,12 +1,12 @@
 // The sum of the tables that lent bytes stand for, by the page of the layout (docs/LAYOUT.md).
-use crate::hex::byte_at;
-use crate::numbers::least;
-use crate::sums::START;
-use crate::sums::with_run;
+use words::hex::byte_at;
+use words::numbers::least;
+use words::sums::START;
+use words::sums::with_run;
 ghost use mathlib.Core.Path.{_≡_};
 ghost use Rattle.path.specs.Steps.{part};
 ghost use Rattle.words.specs.Adler.{adler};
-ghost use Rattle.words.specs.Viewed.{flagOf, mountBytes, slotBytes, nameBytes, rowBytes, pieces, tableBytes};
+ghost use Rattle.view_sum.specs.Viewed.{flagOf, mountBytes, slotBytes, nameBytes, rowBytes, pieces, tableBytes};
 
 const TABLE: usize = 8192;
 

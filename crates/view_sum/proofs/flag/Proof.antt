@@ -1,8 +1,8 @@
--- `words::views::flag` meets its contract. Assumes nothing.
-use Rattle.words.proofs.Viewing.{flag-none, flag-some}
+-- `view_sum::flag` meets its contract. Assumes nothing.
+use Rattle.view_sum.proofs.Viewing.{flag-none, flag-some}
 use borrow.Author.Needs.{needs}
-use Rattle.words.proofs.views.flag.Statement.{statement}
-use Rattle.words.proofs.views.flag.Tie as tie
+use Rattle.view_sum.proofs.flag.Statement.{statement}
+use Rattle.view_sum.proofs.flag.Tie as tie
 
 slice-aggregate-with-run : tie.Need-slice-aggregate-with-run
 slice-aggregate-with-run c = search needs

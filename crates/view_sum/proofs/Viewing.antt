@@ -9,8 +9,8 @@ use lib.Dec.{leb}
 use lib.ListN.{length, getD, take, drop, length-drop, drop-of-length-le}
 use borrow.Author.Tests.{le-leb, lt-leb, leb-true, leb-false, eq-eqb, ne-eqb}
 use Rattle.path.specs.Steps.{part}
 use Rattle.words.specs.Adler.{summed, adler}
-use Rattle.words.specs.Viewed.{flagOf, optional, mountBytes, slotBytes, nameBytes, rowBytes, pieces, tableBytes}
+use Rattle.view_sum.specs.Viewed.{flagOf, optional, mountBytes, slotBytes, nameBytes, rowBytes, pieces, tableBytes}
 
 -- ---- a run of bytes
 

@@ -1,12 +1,12 @@
--- `words::views::slots` meets its contract. The invariant: with the slots that are left it is the sum with all. Assumes nothing.
+-- `view_sum::slots` meets its contract. The invariant: with the slots that are left it is the sum with all. Assumes nothing.
 use Prim.Native.Nat.{_-_, _≤_}
 use mathlib.Core.Path.{_≡_}
 use Rattle.words.specs.Adler.{adler}
-use Rattle.words.specs.Viewed.{pieces, slotBytes}
-use Rattle.words.proofs.Viewing.{pieces-all, pieces-more, pieces-end}
+use Rattle.view_sum.specs.Viewed.{pieces, slotBytes}
+use Rattle.view_sum.proofs.Viewing.{pieces-all, pieces-more, pieces-end}
 use borrow.Author.Needs.{needs}
-use Rattle.words.proofs.views.slots.Statement.{statement}
-use Rattle.words.proofs.views.slots.Tie as tie
+use Rattle.view_sum.proofs.slots.Statement.{statement}
+use Rattle.view_sum.proofs.slots.Tie as tie
 
 abbrev Inv-loop : tie.InvT-loop
 Inv-loop sum s x₀ k₀ x k = (k ≤ 256) × (adler x (pieces (slotBytes s) (256 - k) k) ≡ adler sum (pieces (slotBytes s) 256 0))

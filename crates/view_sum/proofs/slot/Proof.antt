@@ -1,8 +1,8 @@
--- `words::views::slot` meets its contract: held or not. Assumes nothing.
-use Rattle.words.proofs.Viewing.{slot-none, slot-some}
+-- `view_sum::slot` meets its contract: held or not. Assumes nothing.
+use Rattle.view_sum.proofs.Viewing.{slot-none, slot-some}
 use borrow.Author.Needs.{needs}
-use Rattle.words.proofs.views.slot.Statement.{statement}
-use Rattle.words.proofs.views.slot.Tie as tie
+use Rattle.view_sum.proofs.slot.Statement.{statement}
+use Rattle.view_sum.proofs.slot.Tie as tie
 
 add-byte-at : tie.Need-add-byte-at
 add-byte-at c = search needs

@@ -1,8 +1,8 @@
--- `words::views::run` meets its contract. Assumes nothing.
-use Rattle.words.proofs.Viewing.{run-is}
+-- `view_sum::run` meets its contract. Assumes nothing.
+use Rattle.view_sum.proofs.Viewing.{run-is}
 use borrow.Author.Needs.{needs}
-use Rattle.words.proofs.views.run.Statement.{statement}
-use Rattle.words.proofs.views.run.Tie as tie
+use Rattle.view_sum.proofs.run.Statement.{statement}
+use Rattle.view_sum.proofs.run.Tie as tie
 
 least-requires : tie.Need-least-requires
 least-requires c κs = search needs

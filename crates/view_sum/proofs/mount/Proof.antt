@@ -1,8 +1,8 @@
--- `words::views::mount` meets its contract: by its index. Assumes nothing.
-use Rattle.words.proofs.Viewing.{mount-none, mount-some}
+-- `view_sum::mount` meets its contract: by its index. Assumes nothing.
+use Rattle.view_sum.proofs.Viewing.{mount-none, mount-some}
 use borrow.Author.Needs.{needs}
-use Rattle.words.proofs.views.mount.Statement.{statement}
-use Rattle.words.proofs.views.mount.Tie as tie
+use Rattle.view_sum.proofs.mount.Statement.{statement}
+use Rattle.view_sum.proofs.mount.Tie as tie
 
 flag-requires : tie.Need-flag-requires
 flag-requires c κs = search needs

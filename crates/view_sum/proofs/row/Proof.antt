@@ -1,8 +1,8 @@
--- `words::views::row` meets its contract. Assumes nothing.
-use Rattle.words.proofs.Viewing.{row-is}
+-- `view_sum::row` meets its contract. Assumes nothing.
+use Rattle.view_sum.proofs.Viewing.{row-is}
 use borrow.Author.Needs.{needs}
-use Rattle.words.proofs.views.row.Statement.{statement}
-use Rattle.words.proofs.views.row.Tie as tie
+use Rattle.view_sum.proofs.row.Statement.{statement}
+use Rattle.view_sum.proofs.row.Tie as tie
 
 mul-run : tie.Need-mul-run
 mul-run c = search needs

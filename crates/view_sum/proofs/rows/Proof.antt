@@ -1,12 +1,12 @@
--- `words::views::rows` meets its contract. The invariant: with the rows that are left it is the sum with all. Assumes nothing.
+-- `view_sum::rows` meets its contract. The invariant: with the rows that are left it is the sum with all. Assumes nothing.
 use Prim.Native.Nat.{_-_, _≤_}
 use mathlib.Core.Path.{_≡_}
 use Rattle.words.specs.Adler.{adler}
-use Rattle.words.specs.Viewed.{pieces, rowBytes}
-use Rattle.words.proofs.Viewing.{pieces-all, pieces-more, pieces-end}
+use Rattle.view_sum.specs.Viewed.{pieces, rowBytes}
+use Rattle.view_sum.proofs.Viewing.{pieces-all, pieces-more, pieces-end}
 use borrow.Author.Needs.{needs}
-use Rattle.words.proofs.views.rows.Statement.{statement}
-use Rattle.words.proofs.views.rows.Tie as tie
+use Rattle.view_sum.proofs.rows.Statement.{statement}
+use Rattle.view_sum.proofs.rows.Tie as tie
 
 abbrev Inv-loop : tie.InvT-loop
 Inv-loop sum s size count x₀ i₀ x i = (i ≤ count) × (adler x (pieces (rowBytes s size) (count - i) i) ≡ adler sum (pieces (rowBytes s size) count 0))

@@ -1,8 +1,8 @@
--- `words::views::name` meets its contract: by its length. Assumes nothing.
-use Rattle.words.proofs.Viewing.{name-short, name-long}
+-- `view_sum::name` meets its contract: by its length. Assumes nothing.
+use Rattle.view_sum.proofs.Viewing.{name-short, name-long}
 use borrow.Author.Needs.{needs}
-use Rattle.words.proofs.views.name.Statement.{statement}
-use Rattle.words.proofs.views.name.Tie as tie
+use Rattle.view_sum.proofs.name.Statement.{statement}
+use Rattle.view_sum.proofs.name.Tie as tie
 
 run-requires : tie.Need-run-requires
 run-requires c κs = search needs

@@ -1,8 +1,8 @@
--- `words::views::sum_of` meets its contract. Assumes nothing.
-use Rattle.words.proofs.Viewing.{table-is}
+-- `view_sum::sum_of` meets its contract. Assumes nothing.
+use Rattle.view_sum.proofs.Viewing.{table-is}
 use borrow.Author.Needs.{needs}
-use Rattle.words.proofs.views.sum_of.Statement.{statement}
-use Rattle.words.proofs.views.sum_of.Tie as tie
+use Rattle.view_sum.proofs.sum_of.Statement.{statement}
+use Rattle.view_sum.proofs.sum_of.Tie as tie
 
 run-requires : tie.Need-run-requires
 run-requires c κs = search needs

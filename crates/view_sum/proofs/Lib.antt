@@ -1,0 +1,2 @@
+-- What is proved of view_sum.
+pub mod Viewing

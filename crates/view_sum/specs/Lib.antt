@@ -1,0 +1,2 @@
+-- The tables as one run of bytes.
+pub mod Viewed
