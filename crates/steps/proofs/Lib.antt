@@ -1,0 +1,2 @@
+-- What is proved of steps.
+pub mod Setting

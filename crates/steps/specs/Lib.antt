@@ -1,0 +1,3 @@
+-- What the lines of a script do.
+pub mod Drawn
+pub mod Whole
