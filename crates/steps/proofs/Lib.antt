@@ -1,2 +1,3 @@
 -- What is proved of steps.
 pub mod Setting
+pub mod Nesting

@@ -1,3 +1,4 @@
-// What a line of a script does to the lent bytes, for the program of tests that runs it.
+// What a line of a script does to the lent bytes and to the open loops, for the program of tests that runs it.
 pub mod generator;
 pub mod lent;
+pub mod loops;
