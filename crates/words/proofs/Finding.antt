@@ -6,7 +6,7 @@ use mathlib.Core.Path.{_≡_, refl, sym, ap, _∙_}
 use mathlib.Core.List.{List, [], _∷_}
 use mathlib.Core.Option.{Option}
 use lib.ListN.{length, take, drop, set, replicate, length-set, drop-of-length-le}
-use lib.Seq.{sets, drop-drop}
+use lib.Seq.{sets, take-nil, drop-drop}
 use Rattle.rules.specs.Bytes.{same}
 use Rattle.rules.specs.Path.{partsBy}
 use Rattle.rules.specs.Session.{space, words, number, shown}
@@ -37,10 +37,6 @@ unfolding shown
 shown-sets zero vs = refl
 shown-sets (suc k) [] = ap (λ (l : List ℕ). 0 ∷ l) (shown-none k)
 shown-sets (suc k) (v ∷ vs) = sets-under v (replicate k 0) 0 (take k vs) ∙ ap (λ (l : List ℕ). v ∷ l) (shown-sets k vs)
-
-take-none : (k : ℕ) → take {A = ℕ} k [] ≡ []
-take-none zero = refl
-take-none (suc k) = refl
 
 -- ---- where a part ends
 
@@ -96,7 +92,7 @@ module _ (s r : List ℕ) (k at : ℕ) where
   rest-full h f = (let e : 8 - k ≡ 0 = omega arith in rw e refl) ∙ f .values
 
   pub rest-past : length s ≤ at → Rest s r k at → r ≡ shown 8 (numbersOf (words s))
-  rest-past h f = sym (ap (λ (l : List ℕ). sets r k l) (ap (take (8 - k)) (from-past s at h) ∙ take-none (8 - k))) ∙ f .values
+  rest-past h f = sym (ap (λ (l : List ℕ). sets r k l) (ap (take (8 - k)) (from-past s at h) ∙ take-nil (8 - k))) ∙ f .values
 
   module _ (end : ℕ) (e : end ≡ partEnd space s at) where
     pub rest-value : (v : ℕ) → numberTo largest (between s at end) ≡ valueIn (Value v) → k < 8 → Rest s r k at → Rest s (set r k v) (k + 1) (end + 1)

@@ -1,26 +1,24 @@
--- Laws of hex digits: what a digit is, and what is left to spell behind a place. Assumes nothing.
-use Prim.Native.Nat.{ℕ, zero, suc, _+_, _-_, _*_, _≤_, _<_}
-use native.Mathlib.Nat.{add-zero, sub-zero}
+-- Laws of hex digits: what a digit is, and what is spelt from a place on, by pairs and behind percent signs. Assumes nothing.
+use Prim.Native.Nat.{ℕ, _+_, _-_, _*_, _≤_, _<_}
+use native.Mathlib.Nat.{add-zero}
 use native.Mathlib.Omega.{arith}
-use native.Mathlib.Numerals.{add-one}
 use mathlib.Core.Path.{_≡_, refl, sym, ap, _∙_}
 use mathlib.Core.Bool.{Bool, true, false, cond, _&&_}
 use mathlib.Core.List.{List, [], _∷_}
-use lib.Dec.{leb}
-use lib.ListN.{length, getD, take, drop, set, drop-of-length-le, List·getD-eq-default}
-use lib.Seq.{sets, getD-drop, drop-drop}
-use borrow.Author.Tests.{le-leb, lt-leb, lt-ltb, le-ltb}
+use lib.Dec.{eqb, leb}
+use lib.ListN.{length, getD, drop, length-drop, drop-of-length-le, List·getD-eq-default}
+use lib.Seq.{getD-drop, drop-drop}
+use borrow.Author.Tests.{le-leb, lt-leb, lt-ltb, le-ltb, eq-eqb, ne-eqb}
 use Rattle.rules.specs.Session.{isDigit}
-use Rattle.decimal.specs.Wrote.{Wrote}
-use Rattle.words.specs.Spelt.{hexDigit, hexPair, hexBytes}
+use Rattle.words.specs.Spelt.{hexDigit, hexPair, hexBytes, percentPair, percentBytes}
 
 -- ---- a digit, by where the byte lies
 
-module _ (b : ℕ) where
-  and-false : (t : Bool) → (t && false) ≡ false
-  and-false true = refl
-  and-false false = refl
+pub and-false : (t : Bool) → (t && false) ≡ false
+and-false true = refl
+and-false false = refl
 
+module _ (b : ℕ) where
   pub low-none : b < 48 → 256 ≡ hexDigit b
   unfolding hexDigit isDigit
   low-none h = simp (lt-leb 48 b h, lt-leb 97 b (omega arith))
@@ -80,63 +78,71 @@ bytes-more [] h = absurd (let z : ⊥ = omega (arith, pair-zero 0) in z)
 bytes-more (a ∷ []) h = absurd (let z : ⊥ = omega (arith, pair-zero a) in z)
 bytes-more (a ∷ b ∷ s) h = rw (le-ltb 255 (hexPair a b) h)
 
-take-none : (k : ℕ) → take {A = ℕ} k [] ≡ []
-take-none zero = refl
-take-none (suc k) = refl
+-- ---- the bytes behind a percent sign
 
--- ---- what is left to write behind n bytes, from the place i on
+pub percent-sign : (a b c p : ℕ) → a ≡ 37 → p ≡ hexPair b c → p ≡ percentPair a b c
+unfolding percentPair
+percent-sign a b c p e f = simp (eq-eqb a 37 e) f
 
-abbrev pub left : ℕ → List ℕ → ℕ → ℕ → List ℕ
-left most s n i = take (most - n) (hexBytes (drop i s))
+pub no-percent : (a b c : ℕ) → (a ≡ 37 → ⊥) → 256 ≡ percentPair a b c
+unfolding percentPair
+no-percent a b c h = simp (ne-eqb a 37 h)
 
--- n bytes stand, and with what is left the whole text will
-pub record Rest (most at : ℕ) (s was out : List ℕ) (n i : ℕ) : Type 0 where
-  pub within : n ≤ most
-  pub bytes : sets out n (left most s n i) ≡ sets was 0 (take most (hexBytes (drop at s)))
-  pub count : n + length (left most s n i) ≡ length (take most (hexBytes (drop at s)))
+percent-zero : (a b : ℕ) → 256 ≤ percentPair a b 0
+unfolding percentPair
+percent-zero a b = by-sign (eqb a 37)
+  where
+    by-sign : (t : Bool) → 256 ≤ cond t (hexPair b 0) 256
+    by-sign true = pair-zero b
+    by-sign false = omega arith
 
-module _ (most at : ℕ) (s was : List ℕ) where
-  pub rest-all : Rest most at s was was 0 at
-  rest-all = record { within = omega arith; bytes = rw (sub-zero most); count = rw (sub-zero most) (omega arith) }
+percent-plain : (s : List ℕ) → 0 < length s → 255 < percentPair (getD s 0 0) (getD s 1 0) (getD s 2 0) → percentBytes s ≡ getD s 0 0 ∷ percentBytes (drop 1 s)
+unfolding percentBytes
+percent-plain [] l h = absurd (let z : ⊥ = omega arith in z)
+percent-plain (a ∷ []) l h = refl
+percent-plain (a ∷ b ∷ []) l h = refl
+percent-plain (a ∷ b ∷ c ∷ s) l h = rw (lt-ltb 255 (percentPair a b c) h)
 
-  module _ (out : List ℕ) (n i : ℕ) where
-    rest-none : left most s n i ≡ [] → Rest most at s was out n i → Wrote was 0 most (take most (hexBytes (drop at s))) n out
-    rest-none e f = record {
-      end = omega (arith, f .count, ap length e);
-      within = omega (arith, f .within);
-      bytes = sym (ap (sets out n) e) ∙ f .bytes;
-    }
+percent-spelt : (s : List ℕ) → percentPair (getD s 0 0) (getD s 1 0) (getD s 2 0) ≤ 255
+    → percentBytes s ≡ percentPair (getD s 0 0) (getD s 1 0) (getD s 2 0) ∷ percentBytes (drop 3 s)
+unfolding percentBytes
+percent-spelt [] h = absurd (let z : ⊥ = omega (arith, percent-zero 0 0) in z)
+percent-spelt (a ∷ []) h = absurd (let z : ⊥ = omega (arith, percent-zero a 0) in z)
+percent-spelt (a ∷ b ∷ []) h = absurd (let z : ⊥ = omega (arith, percent-zero a b) in z)
+percent-spelt (a ∷ b ∷ c ∷ s) h = rw (le-ltb 255 (percentPair a b c) h)
 
-    pub rest-past : length s ≤ i → Rest most at s was out n i → Wrote was 0 most (take most (hexBytes (drop at s))) n out
-    unfolding hexBytes
-    rest-past h = rest-none (rw (drop-of-length-le s h) (take-none (most - n)))
+-- ---- the same from a place on
 
-    pub rest-full : most ≤ n → Rest most at s was out n i → Wrote was 0 most (take most (hexBytes (drop at s))) n out
-    rest-full h = rest-none (let e : most - n ≡ 0 = omega arith in rw e)
+module _ (s : List ℕ) (i : ℕ) where
+  pub pairs-past : length s ≤ i → hexBytes (drop i s) ≡ []
+  unfolding hexBytes
+  pairs-past h = rw (drop-of-length-le s h)
 
-    first : getD (drop i s) 0 0 ≡ getD s i 0
-    first = getD-drop i s 0 0 ∙ ap (λ (k : ℕ). getD s k 0) (add-zero i)
+  pub percents-past : length s ≤ i → percentBytes (drop i s) ≡ []
+  unfolding percentBytes
+  percents-past h = rw (drop-of-length-le s h)
 
-    second : getD (drop i s) 1 0 ≡ getD s (i + 1) 0
-    second = getD-drop i s 1 0
+  pub first : getD (drop i s) 0 0 ≡ getD s i 0
+  first = getD-drop i s 0 0 ∙ ap (λ (k : ℕ). getD s k 0) (add-zero i)
 
-    module _ (p b : ℕ) (e : p ≡ hexPair (getD s i 0) b) (f : b ≡ getD s (i + 1) 0) where
-      spelt : hexPair (getD (drop i s) 0 0) (getD (drop i s) 1 0) ≡ p
-      spelt = rw (first, second, ← f, ← e)
+  module _ (p b : ℕ) (e : p ≡ hexPair (getD s i 0) b) (f : b ≡ getD s (i + 1) 0) where
+    pair-here : hexPair (getD (drop i s) 0 0) (getD (drop i s) 1 0) ≡ p
+    pair-here = rw (first, getD-drop i s 1 0, ← f, ← e)
 
-      pub rest-stop : 255 < p → Rest most at s was out n i → Wrote was 0 most (take most (hexBytes (drop at s))) n out
-      rest-stop h = rest-none (rw (bytes-stop (drop i s) (rw spelt h)) (take-none (most - n)))
+    pub pairs-stop : 255 < p → hexBytes (drop i s) ≡ []
+    pairs-stop h = bytes-stop (drop i s) (rw pair-here h)
 
-      left-more : p ≤ 255 → n < most → left most s n i ≡ p ∷ left most s (n + 1) (i + 2)
-      left-more h k =
-          let d : most - n ≡ suc (most - (n + 1)) = omega arith in
-          rw (d, bytes-more (drop i s) (rw spelt h), spelt, drop-drop 2 i s)
+    pub pairs-more : p ≤ 255 → hexBytes (drop i s) ≡ p ∷ hexBytes (drop (i + 2) s)
+    pairs-more h = rw (bytes-more (drop i s) (rw pair-here h), pair-here, drop-drop 2 i s)
 
-      pub rest-more : p ≤ 255 → n < most → Rest most at s was out n i → Rest most at s was (set out n p) (n + 1) (i + 2)
-      rest-more h k r =
-          let l = left-more h k in
-          record {
-            within = omega arith;
-            bytes = ap (λ (j : ℕ). sets (set out n p) j (left most s (n + 1) (i + 2))) (add-one n) ∙ sym (ap (sets out n) l) ∙ r .bytes;
-            count = omega (arith, r .count, ap length l);
-          }
+  module _ (p b c : ℕ) (e : p ≡ percentPair (getD s i 0) b c) (f : b ≡ getD s (i + 1) 0) (g : c ≡ getD s (i + 2) 0) where
+    percent-here : percentPair (getD (drop i s) 0 0) (getD (drop i s) 1 0) (getD (drop i s) 2 0) ≡ p
+    percent-here = rw (first, getD-drop i s 1 0, getD-drop i s 2 0, ← f, ← g, ← e)
+
+    pub percents-plain : i < length s → 255 < p → percentBytes (drop i s) ≡ getD s i 0 ∷ percentBytes (drop (i + 1) s)
+    percents-plain l h =
+        let k : 0 < length (drop i s) = simp length-drop (omega arith) in
+        rw (percent-plain (drop i s) k (rw percent-here h), first, drop-drop 1 i s)
+
+    pub percents-spelt : p ≤ 255 → percentBytes (drop i s) ≡ p ∷ percentBytes (drop (i + 3) s)
+    percents-spelt h = rw (percent-spelt (drop i s) (rw percent-here h), percent-here, drop-drop 3 i s)

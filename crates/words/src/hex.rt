@@ -1,8 +1,8 @@
-// Bytes of a line, as they stand and as pairs of hex digits.
+// Bytes of a line, as they stand and as pairs of hex digits, alone or behind a `%`.
 ghost use mathlib.Core.Path.{_≡_};
 ghost use lib.ListN.{length, getD, take, drop};
 ghost use Rattle.decimal.specs.Wrote.{Wrote};
-ghost use Rattle.words.specs.Spelt.{hexDigit, hexPair, hexBytes};
+ghost use Rattle.words.specs.Spelt.{hexDigit, hexPair, hexBytes, percentPair, percentBytes};
 
 // The byte at a place, or 0 past the end.
 pub fn byte_at(s: &[u8], at: usize) -> u8
@@ -57,6 +57,40 @@ pub fn pairs(s: &[u8], at: usize, out: &mut [u8]) -> usize
         out[n] = p as u8;
         n += 1;
         i += 2;
+    }
+    n
+}
+
+// The byte that a `%` and two hex digits spell; above 255 for any other bytes.
+fn escaped(a: u8, b: u8, c: u8) -> u16
+    ensures { λ r. ⌜ r ≡ percentPair a b c ⌝ }
+{
+    if a == b'%' {
+        return pair(b, c);
+    }
+    256
+}
+
+// Writes the bytes of w, each `%` and two hex digits as the byte that they spell, as many as there is room for, and answers how many.
+pub fn decoded(w: &[u8], out: &mut [u8]) -> usize
+    ensures { λ r. ⌜ Wrote (now (out .entry)) 0 (length (now (out .entry))) (take (length (now (out .entry))) (percentBytes (now (w .entry)))) r (now (out .exit)) ⌝ }
+{
+    let mut n = 0;
+    let mut i = 0;
+    while i < w.len() {
+        if out.len() <= n {
+            return n;
+        }
+        let p = escaped(w[i], byte_at(w, i + 1), byte_at(w, i + 2));
+        if 255 < p {
+            out[n] = w[i];
+            n += 1;
+            i += 1;
+        } else {
+            out[n] = p as u8;
+            n += 1;
+            i += 3;
+        }
     }
     n
 }

@@ -1,20 +1,22 @@
 -- `words::hex::pairs` meets its contract. The invariant: n bytes stand, and with what is left to spell the whole text will. Assumes nothing.
 use Prim.Native.Nat.{_-_}
 use mathlib.Core.Path.{_≡_, refl}
-use lib.ListN.{length}
-use Rattle.words.proofs.Spelling.{Rest, rest-all, rest-past, rest-full, rest-stop, rest-more}
+use lib.ListN.{length, take, drop}
+use Rattle.words.specs.Spelt.{hexBytes}
+use Rattle.words.proofs.Filling.{Rest, rest-all, ended, full, one-more}
+use Rattle.words.proofs.Spelling.{pairs-past, pairs-stop, pairs-more}
 use borrow.Author.Needs.{needs}
 use Rattle.words.proofs.hex.pairs.Statement.{statement}
 use Rattle.words.proofs.hex.pairs.Tie as tie
 
 abbrev Inv-loop : tie.InvT-loop
-Inv-loop s at out₀ n₀ i₀ out n i = (length out ≡ length out₀) × Rest (length out₀) at s out₀ out n i
+Inv-loop s at out₀ n₀ i₀ out n i = (length out ≡ length out₀) × Rest (length out₀) 0 (take (length out₀) (hexBytes (drop at s))) out₀ out n (hexBytes (drop i s))
 
 abbrev μ-loop : tie.MeasureT-loop
 μ-loop s at out₀ n₀ i₀ out n i = length s - i
 
 loop-holds : tie.Need-loop-holds Inv-loop μ-loop
-loop-holds c = (refl, rest-all _ _ _ _)
+loop-holds c = (refl, rest-all _ _ _)
 
 shared-slice-read-pair : tie.Need-shared-slice-read-pair Inv-loop μ-loop
 shared-slice-read-pair c = search needs
@@ -32,13 +34,15 @@ same-length : tie.Need-same-length Inv-loop μ-loop
 same-length c = search needs
 
 returns : tie.Need-returns Inv-loop μ-loop
-returns c = rest-stop _ _ _ _ _ _ _ _ _ (c .before .pair .ensures) (c .before .before .byte-at .ensures) (c .if1 .taken) (c .before .before .before .before .before .loop .inv .1)
+returns c =
+    let l = c .before .before .before .before .before in
+    ended _ (search needs) (pairs-stop (l .before .before .before .args .s .now) (l .loop .i) _ _ (c .before .pair .ensures) (c .before .before .byte-at .ensures) (c .if1 .taken)) (l .loop .inv .1)
 
 same-length-2 : tie.Need-same-length-2 Inv-loop μ-loop
 same-length-2 c = search needs
 
 returns-2 : tie.Need-returns-2 Inv-loop μ-loop
-returns-2 c = rest-full _ _ _ _ _ _ _ (search needs) (c .before .before .before .before .before .before .loop .inv .1)
+returns-2 c = full _ (search needs) (search needs) (c .before .before .before .before .before .before .loop .inv .1)
 
 cast-out : tie.Need-cast-out Inv-loop μ-loop
 cast-out c = search needs
@@ -56,13 +60,17 @@ loop-less : tie.Need-loop-less Inv-loop μ-loop
 loop-less c = search needs
 
 loop-again : tie.Need-loop-again Inv-loop μ-loop
-loop-again c = (search needs, rest-more _ _ _ _ _ _ _ _ _ (c .before .before .pair .ensures) (c .before .before .before .byte-at .ensures) (c .before .if1 .left) (search needs) (c .before .before .before .before .before .before .loop .inv .1))
+loop-again c =
+    let l = c .before .before .before .before .before .before in
+    (search needs, one-more _ _ (search needs) (pairs-more (l .before .before .before .args .s .now) (l .loop .i) _ _ (c .before .before .pair .ensures) (c .before .before .before .byte-at .ensures) (c .before .if1 .left)) (l .loop .inv .1))
 
 same-length-3 : tie.Need-same-length-3 Inv-loop μ-loop
 same-length-3 c = search needs
 
 returns-3 : tie.Need-returns-3 Inv-loop μ-loop
-returns-3 c = rest-past _ _ _ _ _ _ _ (c .loop-test .left) (c .before .loop .inv .1)
+returns-3 c =
+    let l = c .before in
+    ended _ (search needs) (pairs-past (l .before .before .before .args .s .now) (l .loop .i) (c .loop-test .left)) (l .loop .inv .1)
 
 pub pairs-spec : {M : Type 1} → statement M
 pairs-spec =
