@@ -1,0 +1,2 @@
+-- What is proved of expand.
+pub mod Expanding

@@ -1,0 +1,70 @@
+-- `expand::put_run` meets its contract. The invariant: k bytes stand, and with what is left of s the whole run will. Assumes nothing.
+use Prim.Native.Nat.{_-_}
+use mathlib.Core.Path.{_≡_, refl}
+use lib.ListN.{length, take, drop, drop-of-length-le}
+use Rattle.words.proofs.Filling.{Rest, rest-from, ended, full, one-more}
+use Rattle.expand.proofs.Expanding.{next-byte}
+use borrow.Author.Needs.{needs}
+use Rattle.expand.proofs.put_run.Statement.{statement}
+use Rattle.expand.proofs.put_run.Tie as tie
+
+abbrev Inv-loop : tie.InvT-loop
+Inv-loop out₀ n s k₀ i₀ out k i = (length out ≡ length out₀) × Rest (length out₀) n (take (length out₀ - n) s) out₀ out k (drop i s)
+
+abbrev μ-loop : tie.MeasureT-loop
+μ-loop out₀ n s k₀ i₀ out k i = length s - i
+
+loop-holds : tie.Need-loop-holds Inv-loop μ-loop
+loop-holds c = (refl, rest-from _ _ _ _ (search needs))
+
+same-length : tie.Need-same-length Inv-loop μ-loop
+same-length c = search needs
+
+returns : tie.Need-returns Inv-loop μ-loop
+returns c = full _ (search needs) (search needs) (c .before .before .loop .inv .1)
+
+shared-slice-read-out : tie.Need-shared-slice-read-out Inv-loop μ-loop
+shared-slice-read-out c = search needs
+
+slice-write-out : tie.Need-slice-write-out Inv-loop μ-loop
+slice-write-out c = search needs
+
+add-k : tie.Need-add-k Inv-loop μ-loop
+add-k c = search needs
+
+add-i : tie.Need-add-i Inv-loop μ-loop
+add-i c = search needs
+
+loop-less : tie.Need-loop-less Inv-loop μ-loop
+loop-less c = search needs
+
+loop-again : tie.Need-loop-again Inv-loop μ-loop
+loop-again c =
+    let l = c .before .before .before in
+    (search needs, one-more _ _ (search needs) (next-byte (l .before .args .s .now) (l .loop .i) (c .before .before .loop-test .taken)) (l .loop .inv .1))
+
+same-length-2 : tie.Need-same-length-2 Inv-loop μ-loop
+same-length-2 c = search needs
+
+returns-2 : tie.Need-returns-2 Inv-loop μ-loop
+returns-2 c =
+    let l = c .before in
+    ended _ (search needs) (drop-of-length-le (l .before .args .s .now) (c .loop-test .left)) (l .loop .inv .1)
+
+pub put-run-spec : {M : Type 1} → statement M
+put-run-spec =
+    tie.close
+    (tie.spec
+    Inv-loop
+    μ-loop
+    loop-holds
+    same-length
+    returns
+    shared-slice-read-out
+    slice-write-out
+    add-k
+    add-i
+    loop-less
+    loop-again
+    same-length-2
+    returns-2)

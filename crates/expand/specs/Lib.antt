@@ -1,0 +1,2 @@
+-- Cells that a line names.
+pub mod Cells
