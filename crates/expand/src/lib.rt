@@ -1,11 +1,14 @@
 // A line with the numbers of cells in place of their names, `$a` to `$h`.
 use words::hex::byte_at;
 ghost use mathlib.Core.Path.{_≡_};
-ghost use Prim.Native.Nat.{_-_, _≤_};
+ghost use Prim.Native.Nat.{_-_, _≤_, _<_};
 ghost use lib.ListN.{length, getD, take};
 ghost use Rattle.rules.specs.Session.{decimal};
 ghost use Rattle.decimal.specs.Wrote.{Wrote};
 ghost use Rattle.expand.specs.Cells.{cellNamed, expandedBy};
+
+// How many cells a program has; a line names the first eight.
+pub const CELLS: usize = 18;
 
 // The cell that a `$` and a letter name; 8 for any other bytes.
 fn named(a: u8, b: u8) -> u8
@@ -23,14 +26,12 @@ fn named(a: u8, b: u8) -> u8
     b - b'a'
 }
 
-// The number in a cell, or 0 past the end.
-fn number_at(cells: &[u64], at: usize) -> u64
+// The number in a cell.
+fn number_at(cells: &[u64; CELLS], at: usize) -> u64
+    requires { ⌜ at < 18 ⌝ }
     ensures { λ r. ⌜ r ≡ getD (now (cells .entry)) at 0 ⌝ }
 {
-    if at < cells.len() {
-        return cells[at];
-    }
-    0
+    cells[at]
 }
 
 // Writes the bytes of s behind n others, as many as there is room for, and answers how many there are then.
@@ -62,7 +63,7 @@ fn put_number(out: &mut [u8], n: usize, v: u64) -> usize
 }
 
 // Writes the line, each `$` and a letter from `a` to `h` as the decimal of that cell, as many bytes as there is room for, and answers how many (R152).
-pub fn expanded(line: &[u8], cells: &[u64], out: &mut [u8]) -> usize
+pub fn expanded(line: &[u8], cells: &[u64; CELLS], out: &mut [u8]) -> usize
     ensures { λ r. ⌜ Wrote (now (out .entry)) 0 (length (now (out .entry))) (take (length (now (out .entry))) (expandedBy (now (cells .entry)) (now (line .entry)))) r (now (out .exit)) ⌝ }
 {
     let mut n = 0;

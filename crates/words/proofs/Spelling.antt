@@ -96,20 +96,20 @@ percent-zero a b = by-sign (eqb a 37)
     by-sign true = pair-zero b
     by-sign false = omega arith
 
-percent-plain : (s : List ℕ) → 0 < length s → 255 < percentPair (getD s 0 0) (getD s 1 0) (getD s 2 0) → percentBytes s ≡ getD s 0 0 ∷ percentBytes (drop 1 s)
+percent-plain : (s : List ℕ) → 0 < length s → 256 ≤ percentPair (getD s 0 0) (getD s 1 0) (getD s 2 0) → percentBytes s ≡ getD s 0 0 ∷ percentBytes (drop 1 s)
 unfolding percentBytes
 percent-plain [] l h = absurd (let z : ⊥ = omega arith in z)
 percent-plain (a ∷ []) l h = refl
 percent-plain (a ∷ b ∷ []) l h = refl
-percent-plain (a ∷ b ∷ c ∷ s) l h = rw (lt-ltb 255 (percentPair a b c) h)
+percent-plain (a ∷ b ∷ c ∷ s) l h = rw (le-ltb (percentPair a b c) 256 h)
 
-percent-spelt : (s : List ℕ) → percentPair (getD s 0 0) (getD s 1 0) (getD s 2 0) ≤ 255
+percent-spelt : (s : List ℕ) → percentPair (getD s 0 0) (getD s 1 0) (getD s 2 0) < 256
     → percentBytes s ≡ percentPair (getD s 0 0) (getD s 1 0) (getD s 2 0) ∷ percentBytes (drop 3 s)
 unfolding percentBytes
 percent-spelt [] h = absurd (let z : ⊥ = omega (arith, percent-zero 0 0) in z)
 percent-spelt (a ∷ []) h = absurd (let z : ⊥ = omega (arith, percent-zero a 0) in z)
 percent-spelt (a ∷ b ∷ []) h = absurd (let z : ⊥ = omega (arith, percent-zero a b) in z)
-percent-spelt (a ∷ b ∷ c ∷ s) h = rw (le-ltb 255 (percentPair a b c) h)
+percent-spelt (a ∷ b ∷ c ∷ s) h = rw (lt-ltb (percentPair a b c) 256 h)
 
 -- ---- the same from a place on
 
@@ -139,10 +139,10 @@ module _ (s : List ℕ) (i : ℕ) where
     percent-here : percentPair (getD (drop i s) 0 0) (getD (drop i s) 1 0) (getD (drop i s) 2 0) ≡ p
     percent-here = rw (first, getD-drop i s 1 0, getD-drop i s 2 0, ← f, ← g, ← e)
 
-    pub percents-plain : i < length s → 255 < p → percentBytes (drop i s) ≡ getD s i 0 ∷ percentBytes (drop (i + 1) s)
+    pub percents-plain : i < length s → 256 ≤ p → percentBytes (drop i s) ≡ getD s i 0 ∷ percentBytes (drop (i + 1) s)
     percents-plain l h =
         let k : 0 < length (drop i s) = simp length-drop (omega arith) in
         rw (percent-plain (drop i s) k (rw percent-here h), first, drop-drop 1 i s)
 
-    pub percents-spelt : p ≤ 255 → percentBytes (drop i s) ≡ p ∷ percentBytes (drop (i + 3) s)
+    pub percents-spelt : p < 256 → percentBytes (drop i s) ≡ p ∷ percentBytes (drop (i + 3) s)
     percents-spelt h = rw (percent-spelt (drop i s) (rw percent-here h), percent-here, drop-drop 3 i s)

@@ -28,4 +28,4 @@ unfoldable pub percentBytes : List ℕ → List ℕ
 percentBytes [] = []
 percentBytes (a ∷ []) = a ∷ []
 percentBytes (a ∷ b ∷ []) = a ∷ b ∷ []
-percentBytes (a ∷ b ∷ c ∷ s) = cond (ltb 255 (percentPair a b c)) (a ∷ percentBytes (b ∷ c ∷ s)) (percentPair a b c ∷ percentBytes s)
+percentBytes (a ∷ b ∷ c ∷ s) = cond (ltb (percentPair a b c) 256) (percentPair a b c ∷ percentBytes s) (a ∷ percentBytes (b ∷ c ∷ s))

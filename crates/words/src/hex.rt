@@ -82,14 +82,14 @@ pub fn decoded(w: &[u8], out: &mut [u8]) -> usize
             return n;
         }
         let p = escaped(w[i], byte_at(w, i + 1), byte_at(w, i + 2));
-        if 255 < p {
-            out[n] = w[i];
-            n += 1;
-            i += 1;
-        } else {
+        if p < 256 {
             out[n] = p as u8;
             n += 1;
             i += 3;
+        } else {
+            out[n] = w[i];
+            n += 1;
+            i += 1;
         }
     }
     n

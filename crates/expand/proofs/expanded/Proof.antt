@@ -56,7 +56,7 @@ loop-again c =
     let p = c .before .before in
     let t = p .before .before .before in
     let l = t .before .before .before .before .before in
-    let a = l .before .before .before .before .args in
+    let a = l .before .before .before .args in
     (search needs, run-more _ _ _ _ _ _ (l .loop .inv .0) (line-plain (a .cells .now) (a .line .now) (l .loop .i) _ _ (t .before .named .ensures) (t .before .before .byte-at .ensures) (t .before .before .before .before .loop-test .taken) (t .if1 .taken)) (p .put-run .ensures) (l .loop .inv .1))
 
 cast-number-at : tie.Need-cast-number-at Inv-loop μ-loop
@@ -79,7 +79,7 @@ loop-again-2 c =
     let p = c .before .before in
     let t = p .before .before .before in
     let l = t .before .before .before .before .before in
-    let a = l .before .before .before .before .args in
+    let a = l .before .before .before .args in
     (search needs, run-more _ _ _ _ _ _ (l .loop .inv .0) (line-number (a .cells .now) (a .line .now) (l .loop .i) _ _ (t .before .named .ensures) (t .before .before .byte-at .ensures) _ (p .before .number-at .ensures) (t .if1 .left)) (p .put-number .ensures) (l .loop .inv .1))
 
 same-length : tie.Need-same-length Inv-loop μ-loop
@@ -88,7 +88,7 @@ same-length c = search needs
 returns : tie.Need-returns Inv-loop μ-loop
 returns c =
     let l = c .before in
-    ended _ (search needs) (line-past (l .before .before .before .before .args .cells .now) (l .before .before .before .before .args .line .now) (l .loop .i) (c .loop-test .left)) (l .loop .inv .1)
+    ended _ (search needs) (line-past (l .before .before .before .args .cells .now) (l .before .before .before .args .line .now) (l .loop .i) (c .loop-test .left)) (l .loop .inv .1)
 
 pub expanded-spec : {M : Type 1} → statement M
 expanded-spec =

@@ -1,4 +1,5 @@
 -- `words::hex::byte_at` meets its contract. Assumes nothing.
+use mathlib.Core.Path.{refl}
 use Rattle.words.proofs.Spelling.{past}
 use borrow.Author.Needs.{needs}
 use Rattle.words.proofs.hex.byte_at.Statement.{statement}
@@ -8,7 +9,7 @@ shared-slice-read-result : tie.Need-shared-slice-read-result
 shared-slice-read-result c = search needs
 
 returns : tie.Need-returns
-returns c = search needs
+returns c = refl
 
 returns-2 : tie.Need-returns-2
 returns-2 c = past (c .before .args .s .now) _ (c .if1 .left)

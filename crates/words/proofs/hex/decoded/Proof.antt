@@ -42,8 +42,8 @@ byte-at-requires-2 c κs = search needs
 escaped-requires : tie.Need-escaped-requires Inv-loop μ-loop
 escaped-requires c κs = search needs
 
-shared-slice-read-out : tie.Need-shared-slice-read-out Inv-loop μ-loop
-shared-slice-read-out c = search needs
+cast-out : tie.Need-cast-out Inv-loop μ-loop
+cast-out c = search needs
 
 slice-write-out : tie.Need-slice-write-out Inv-loop μ-loop
 slice-write-out c = search needs
@@ -59,12 +59,12 @@ loop-less c = search needs
 
 loop-again : tie.Need-loop-again Inv-loop μ-loop
 loop-again c =
-    let e = c .before .before in
+    let e = c .before in
     let l = e .before .before .before .before .before .before in
-    (search needs, one-more _ _ (search needs) (percents-plain (l .before .before .before .args .w .now) (l .loop .i) _ _ _ (e .escaped .ensures) (e .before .before .byte-at .ensures) (e .before .byte-at2 .ensures) (e .before .before .before .before .before .loop-test .taken) (c .before .if2 .taken)) (l .loop .inv .1))
+    (search needs, one-more _ _ (search needs) (percents-spelt (l .before .before .before .args .w .now) (l .loop .i) _ _ _ (e .escaped .ensures) (e .before .before .byte-at .ensures) (e .before .byte-at2 .ensures) (c .if2 .taken)) (l .loop .inv .1))
 
-cast-out : tie.Need-cast-out Inv-loop μ-loop
-cast-out c = search needs
+shared-slice-read-out : tie.Need-shared-slice-read-out Inv-loop μ-loop
+shared-slice-read-out c = search needs
 
 slice-write-out-2 : tie.Need-slice-write-out-2 Inv-loop μ-loop
 slice-write-out-2 c = search needs
@@ -80,9 +80,9 @@ loop-less-2 c = search needs
 
 loop-again-2 : tie.Need-loop-again-2 Inv-loop μ-loop
 loop-again-2 c =
-    let e = c .before in
+    let e = c .before .before in
     let l = e .before .before .before .before .before .before in
-    (search needs, one-more _ _ (search needs) (percents-spelt (l .before .before .before .args .w .now) (l .loop .i) _ _ _ (e .escaped .ensures) (e .before .before .byte-at .ensures) (e .before .byte-at2 .ensures) (c .if2 .left)) (l .loop .inv .1))
+    (search needs, one-more _ _ (search needs) (percents-plain (l .before .before .before .args .w .now) (l .loop .i) _ _ _ (e .escaped .ensures) (e .before .before .byte-at .ensures) (e .before .byte-at2 .ensures) (e .before .before .before .before .before .loop-test .taken) (c .before .if2 .left)) (l .loop .inv .1))
 
 same-length-2 : tie.Need-same-length-2 Inv-loop μ-loop
 same-length-2 c = search needs
@@ -107,13 +107,13 @@ decoded-spec =
     add-byte-at-2
     byte-at-requires-2
     escaped-requires
-    shared-slice-read-out
+    cast-out
     slice-write-out
     add-n
     add-i
     loop-less
     loop-again
-    cast-out
+    shared-slice-read-out
     slice-write-out-2
     add-n-2
     add-i-2
