@@ -17,8 +17,10 @@ from model import saved, script  # noqa: E402
 
 TOP = 2**56
 MAX64 = 2**64 - 1
-SAVED = script.ROOM      # the place of the first saved byte
+SAVED = script.PLACE      # the place of the first saved byte
 PLAIN_MODE = 16895
+A, B, C, D, E, F, G, H = range(8)      # the cells of the variables $a to $h
+KEPT = None      # in the place of a text: the line has none, and the text stays as it is
 
 
 def size(n):
@@ -31,7 +33,7 @@ class Script:
         self.put = {}      # what `put` has left in the saved bytes, eight at a place
 
     def __call__(self, *words):
-        self.lines.append(" ".join(map(str, words)))
+        self.lines.append(" ".join(str(w) for w in words if w is not KEPT))
 
     def source(self):
         return ("\n".join(self.lines) + "\n").encode()
@@ -55,6 +57,11 @@ def mount(s, path, tag=7, root=1, largest=1000, uid=0, gid=0, mode=PLAIN_MODE):
 
 def mount_at(s, k, path, tag=7, root=1, largest=1000, uid=0, gid=0, mode=PLAIN_MODE):
     s("mountat", path, k, tag, root, largest, uid, gid, mode)
+
+
+def poke4(s, at, v):
+    for k in range(4):
+        s("poke1", at + k, v >> 8 * k & 255)
 
 
 def fresh(s, n=64, watch=True, views=True, **kw):
@@ -203,21 +210,21 @@ def tree(s):
     s(": walks of long paths and names")
     s("text", '"/')
     s("more", 255, 97)
-    s("walk", "@")
+    s("walk", KEPT)
     s("more", 1, 97)
-    s("walk", "@")
-    s("root", "@")
-    s("umount", "@")
+    s("walk", KEPT)
+    s("root", KEPT)
+    s("umount", KEPT)
     s("text", '"')
-    s("loop", "=a", 0, 2700)
+    s("loop", A, 0, 2700)
     s("more", 1, 47)
     s("more", 2, 46)
     s("end")
-    s("walk", "@")
+    s("walk", KEPT)
     s("more", 1, 47)
     s("more", 1, 97)
     for verb in ("walk", "root", "umount"):
-        s(verb, "@")
+        s(verb, KEPT)
 
 
 def listings(s):
@@ -229,16 +236,16 @@ def listings(s):
     s("umount", text("/nnnnnnn"))
     whole = sum(24 + -(-k // 8) * 8 for k in (1, 7, 8, 9, 6, 15, 16, 17, 3, 31, 32, 33))
     for room in (whole + 9, 100):
-        s("loop", "=a", 0, whole + 10)
-        s("list", 1, "a", 0, room)
+        s("loop", A, 0, whole + 10)
+        s("list", 1, "$a", 0, room)
         s("end")
     s("fold")
     s("watch", 0)
     s("views", 0)
-    s("loop", "=b", 0, 15)
-    s("loop", "=a", 0, whole + 10)
-    s("list", 1, "a", "b", whole)
-    s("list", 1, 4096, "b", "a")
+    s("loop", B, 0, 15)
+    s("loop", A, 0, whole + 10)
+    s("list", 1, "$a", "$b", whole)
+    s("list", 1, 4096, "$b", "$a")
     s("end")
     s("end")
     s("plain")
@@ -252,31 +259,31 @@ def listings(s):
     fresh(s, 1024, watch=False)
     s("views", 0)
     s("text", '"/d/')
-    s("loop", "=a", 1, 255)
+    s("loop", A, 1, 255)
     s("more", 1, 120)
-    mount(s, "@")
-    s("umount", "@")
+    mount(s, KEPT)
+    s("umount", KEPT)
     s("end")
     s("views", 1)
     s("list", 2, 65536, 0, 65536)
     s("views", 0)
-    s("set", "=b", 0)
-    s("loop", "=a", 0, 30)
-    s("list", 2, 65536, "b", 40960)
-    s("add", "=b", 9)
+    s("set", B, 0)
+    s("loop", A, 0, 30)
+    s("list", 2, 65536, "$b", 40960)
+    s("add", B, 9)
     s("end")
-    s("loop", "=a", 250, 8)
-    s("list", 2, 65536, "a", 4096)
+    s("loop", A, 250, 8)
+    s("list", 2, 65536, "$a", 4096)
     s("end")
-    s("set", "=b", 0)
+    s("set", B, 0)
     s("fold")
-    s("loop", "=a", 0, 40)
-    s("list", 2, "b", 0, 40960)
-    s("list", 2, 65536, 0, "b")
-    s("add", "=b", 1027)
+    s("loop", A, 0, 40)
+    s("list", 2, "$b", 0, 40960)
+    s("list", 2, 65536, 0, "$b")
+    s("add", B, 1027)
     s("end")
     s("plain")
-    s("loop", "=a", 0, 767)
+    s("loop", A, 0, 767)
     mount(s, '"/d/k$a')
     s("umount", '"/d/k$a')
     s("end")
@@ -298,26 +305,26 @@ def header_bytes(s):
     mount(s, '"/a', 77, 5)
     s("keep", size(2) + 64)
     s("watch", size(2) + 64)
-    s("loop", "=a", 0, 256)
-    s("set", "=b", 0)
+    s("loop", A, 0, 256)
+    s("set", B, 0)
     s("fold")
-    s("loop", "=c", 0, 52)
-    s("poke1", "a", "b")
+    s("loop", C, 0, 52)
+    s("poke1", "$a", "$b")
     s("options")
     s("walk", '"/a')
-    mount(s, '"/a', "b", "a")
+    mount(s, '"/a', "$b", "$a")
     s("back", 1536)
-    s("add", "=b", 5)
+    s("add", B, 5)
     s("end")
     s("plain")
     s("end")
     s(": a byte of the header changed, and every call")
     s("views", 1)
     s("fold")
-    s("loop", "=a", 0, 108)
+    s("loop", A, 0, 108)
     for v in (0, 1, 255):
         s("back", size(2) + 64)
-        s("poke1", "a", v)
+        s("poke1", "$a", v)
         every_call(s)
     s("end")
     s("plain")
@@ -334,7 +341,7 @@ def header_bytes(s):
     for at, values in ((56, (top, top - 11, top - 10)), (60, (top, top - 11, top - 10)), (64, (0, top, top - 9, top - 8)), (68, (top,)), (76, (top,))):
         for v in values:
             s("back", size(2) + 64)
-            s("poke4", at, v)
+            poke4(s, at, v)
             s("laid")
             s("options")
             s("ids", 7, v, 1)
@@ -344,9 +351,9 @@ def header_bytes(s):
 def random_bytes(s):
     s(": random bytes, and random bytes behind a good header")
     s("watch", 0)
-    s("loop", "=a", 0, 20)
+    s("loop", A, 0, 20)
     s("length", size(16))
-    s("scatter", 0, size(16), "a")
+    s("scatter", 0, size(16), "$a")
     s("views", 1)
     s("watch", size(16) + 64)
     s("fold")
@@ -356,26 +363,26 @@ def random_bytes(s):
     for n in (1, 2, 16, 64, 1024):
         s("length", size(n))
         s("watch", size(n) + 64)
-        s("loop", "=a", 0, 4 if n == 1024 else 30)
-        s("scatter", 0, size(n), "a")
+        s("loop", A, 0, 4 if n == 1024 else 30)
+        s("scatter", 0, size(n), "$a")
         create(s, n, MAX64, 3, 5, 7, (0, 1000, 500))
-        s("scatter", 84, size(n) - 84, "a")
+        s("scatter", 84, size(n) - 84, "$a")
         s("poke8", 16, n - 1)
-        s("random", "=b", 1000)
-        s("add", "=b", 2)
-        s("poke8", 24, "b")
-        s("random", "=b", 256)
-        s("poke1", 81, "b")
+        s("random", B, 1000)
+        s("add", B, 2)
+        s("poke8", 24, "$b")
+        s("random", B, 256)
+        s("poke1", 81, "$b")
         s("fold")
         for line in ('walk "/', 'walk "/..', 'look 1 ".', 'lookup 1 "..', 'lookup 1 "', 'root "/', 'route 1', "list 1 65536 0 4096",
                      "list 0 65536 0 4096", "init", "options"):
             s(line)
         s("watch", 0)
         s("views", 0)
-        s("set", "=d", 1)
-        s("loop", "=c", 0, 256)
-        s("route", "d")
-        s("add", "=d", TOP)
+        s("set", D, 1)
+        s("loop", C, 0, 256)
+        s("route", "$d")
+        s("add", D, TOP)
         s("end")
         s("watch", size(n) + 64)
         s("views", 1)
@@ -400,55 +407,55 @@ def odd_tables(s):
     s("watch", size(n) + 64)
     s("views", 1)
     s("seed", 2024)
-    s("loop", "=a", 0, 150)
+    s("loop", A, 0, 150)
     s("watch", size(n) + 64)
     s("views", 1)
     s("fill", 8192, 512 * n, 0)
     create(s, n, 0, 0, 0, 0, (0, 7, 3))
-    s("random", "=b", n)
-    s("poke8", 16, "b")
-    s("random", "=b", 10)
-    s("add", "=b", 2)
-    s("poke8", 24, "b")
-    s("set", "=e", 8192)
-    s("set", "=f", 8192 + 8 * n)
-    s("set", "=g", 8192 + 16 * n)
-    s("set", "=h", 8192 + 24 * n)
-    s("loop", "=c", 0, n - 1)
-    for v in ("e", "f"):
-        s("random", "=d", 12)
-        s("poke8", v, "d")
-        s("add", "=" + v, 7)
-        s("random", "=d", 3)
-        s("poke1", v, "d")
-        s("add", "=" + v, 1)
-    s("random", "=d", 9)
-    s("poke8", "g", "d")
-    s("add", "=g", 7)
-    s("random", "=d", 6)
-    s("poke1", "g", "d")
-    s("add", "=g", 1)
-    s("poke1", "h", 1)
-    s("add", "=h", 1)
-    s("random", "=d", 4)
-    s("add", "=d", 97)
-    s("poke1", "h", "d")
-    s("add", "=h", 7)
+    s("random", B, n)
+    s("poke8", 16, "$b")
+    s("random", B, 10)
+    s("add", B, 2)
+    s("poke8", 24, "$b")
+    s("set", E, 8192)
+    s("set", F, 8192 + 8 * n)
+    s("set", G, 8192 + 16 * n)
+    s("set", H, 8192 + 24 * n)
+    s("loop", C, 0, n - 1)
+    for v, cell in (("$e", E), ("$f", F)):
+        s("random", D, 12)
+        s("poke8", v, "$d")
+        s("add", cell, 7)
+        s("random", D, 3)
+        s("poke1", v, "$d")
+        s("add", cell, 1)
+    s("random", D, 9)
+    s("poke8", "$g", "$d")
+    s("add", G, 7)
+    s("random", D, 6)
+    s("poke1", "$g", "$d")
+    s("add", G, 1)
+    s("poke1", "$h", 1)
+    s("add", H, 1)
+    s("random", D, 4)
+    s("add", D, 97)
+    s("poke1", "$h", "$d")
+    s("add", H, 7)
     s("end")
-    s("loop", "=c", 0, 6)
-    s("random", "=d", 3)
-    s("poke1", 258, "d")
-    s("poke1", 261, "d")
+    s("loop", C, 0, 6)
+    s("random", D, 3)
+    s("poke1", 258, "$d")
+    s("poke1", 261, "$d")
     s("end")
     s("fold")
     s("watch", 0)
     s("views", 0)
-    s("loop", "=c", 0, 13)
+    s("loop", C, 0, 13)
     for name in ("a", "b", "c", "d", ".", ".."):
-        s("look", "c", text(name))
-        s("lookup", "c", text(name))
-    s("list", "c", 4096, 0, 4096)
-    s("list", "c", 100, 1, 300)
+        s("look", "$c", text(name))
+        s("lookup", "$c", text(name))
+    s("list", "$c", 4096, 0, 4096)
+    s("list", "$c", 100, 1, 300)
     s("end")
     paths = ["/a", "/b", "/c", "/a/b", "/a/..", "/a/../b", "/b/../..", "/c/c/c/c", "/a/b/c/d/../..", "/d/a/../e"]
     for p in paths:
@@ -507,33 +514,33 @@ def order(s):
                                     if long:
                                         s("more", 256, 99)
                                     if k is None:
-                                        mount(s, "@", 3, root, largest)
+                                        mount(s, KEPT, 3, root, largest)
                                     else:
-                                        mount_at(s, k, "@", 3, root, largest)
+                                        mount_at(s, k, KEPT, 3, root, largest)
     s(": paths at their limits")
     s("back", size(4) + 64)
     s("text", '"/')
     s("more", 255, 113)
-    mount(s, "@")
-    mount_at(s, 9, "@")
+    mount(s, KEPT)
+    mount_at(s, 9, KEPT)
     s("more", 1, 113)
-    mount(s, "@")
-    mount_at(s, 9, "@")
+    mount(s, KEPT)
+    mount_at(s, 9, KEPT)
     for start, count in (("", 2048), ("a", 2047)):
         s("back", size(4) + 64)
         s("text", '"' + start)
-        s("loop", "=a", 0, count)
+        s("loop", A, 0, count)
         s("more", 1, 47)
         s("more", 1, 46)
         s("end")
-        mount(s, "@")
-        mount_at(s, 9, "@")
+        mount(s, KEPT)
+        mount_at(s, 9, KEPT)
         s("more", 1, 47)
-        mount(s, "@")
-        mount_at(s, 9, "@")
+        mount(s, KEPT)
+        mount_at(s, 9, KEPT)
         s("more", 1, 46)
-        mount(s, "@")
-        mount_at(s, 9, "@")
+        mount(s, KEPT)
+        mount_at(s, 9, KEPT)
     for p in PATHS:
         s("back", size(4) + 64)
         mount(s, text(p), 11)
@@ -599,9 +606,9 @@ def tags(s):
         mount(s, '"/', 13, 0)
         s("route", 1)
         s("lookup", 1, '"..')
-        s("loop", "=a", 0, 8)
-        mount_at(s, "a", '"/s$a', "a")
-        mount_at(s, "a", '"/t$a', 100)
+        s("loop", A, 0, 8)
+        mount_at(s, "$a", '"/s$a', "$a")
+        mount_at(s, "$a", '"/t$a', 100)
         s("umount", '"/s$a')
         s("umount", '"/t$a')
         s("end")
@@ -625,11 +632,11 @@ def removal(s):
     s(": room is used again")
     fresh(s, 3)
     s("remove")
-    s("loop", "=a", 0, 40)
-    mount(s, '"/m$a/n', "a")
-    mount(s, '"/k$a', "a")
+    s("loop", A, 0, 40)
+    mount(s, '"/m$a/n', "$a")
+    mount(s, '"/k$a', "$a")
     s("umount", '"/m$a/n')
-    mount(s, '"/m$a', "a")
+    mount(s, '"/m$a', "$a")
     s("umount", '"/m$a')
     s("end")
     s("list", 1, 4096, 0, 4096)
@@ -646,11 +653,11 @@ def kept_numbers(s):
     s("fold")
     s("watch", 0)
     s("views", 0)
-    s("loop", "=a", 0, 8)
-    s("set", "=b", "a")
-    s("loop", "=c", 0, 256)
-    s("route", "b")
-    s("add", "=b", TOP)
+    s("loop", A, 0, 8)
+    s("set", B, "$a")
+    s("loop", C, 0, 256)
+    s("route", "$b")
+    s("add", B, TOP)
     s("end")
     s("end")
     s("plain")
@@ -662,9 +669,9 @@ def kept_numbers(s):
     s(": each index goes round")
     s("views", 0)
     s("watch", 0)
-    s("loop", "=a", 0, 600)
+    s("loop", A, 0, 600)
     s("umount", '"/k1')
-    mount(s, '"/k1', "a")
+    mount(s, '"/k1', "$a")
     s("end")
     s("views", 1)
     s("laid")
@@ -695,8 +702,8 @@ def full_table(s, removes):
         s("remove")
     mount(s, '"/', 1000, 77)
     s("fold")
-    s("loop", "=a", 2, 254)
-    mount(s, '"/m$a', "a", "a")
+    s("loop", A, 2, 254)
+    mount(s, '"/m$a', "$a", "$a")
     s("end")
     s("plain")
     s("views", 1)
@@ -707,19 +714,19 @@ def full_table(s, removes):
     block = [block_line(rng) for _ in range(150)]
     s("seed", 99 + removes)
     for first, turns, folded in ((0, 2, False), (254, 2, False), (0, 256, True)):
-        s("loop", "=a", first, turns)
+        s("loop", A, first, turns)
         s("back", size(n))
-        s("poke1", 81, "a")
+        s("poke1", 81, "$a")
         if folded:
             s("fold")
         mount(s, '"/one/more')
         mount(s, '"/m9')
         mount(s, '"nine')
-        s("poke1", 81, "a")
+        s("poke1", 81, "$a")
         for verb, words in block:
-            s("random", "=b", 300)
-            s("random", "=c", 255)
-            s("add", "=c", 1)
+            s("random", B, 300)
+            s("random", C, 255)
+            s("add", C, 1)
             s(verb, *words)
         s("views", 1)
         s("laid")
@@ -734,29 +741,29 @@ def block_line(rng):
     what = rng.randrange(100)
     path = rng.choice(['"/m$b'] * 12 + ['"/', '"/m$b/in', '"/m$b/../m$c', '"/new$b/..', '"/m$c/./'])
     if what < 34:
-        root = rng.choice([0, 1, 5, TOP - 1, TOP, "b"])
+        root = rng.choice([0, 1, 5, TOP - 1, TOP, "$b"])
         largest = rng.choice([TOP - 1] * 8 + [TOP])
         bad = rng.choice([None] * 12 + ['"m$b', '"', '"/%ff', '"/m$b/%e2%82'])
-        return "mount", (bad or path, "b", root, largest, "b", "c", PLAIN_MODE)
+        return "mount", (bad or path, "$b", root, largest, "$b", "$c", PLAIN_MODE)
     if what < 48:
-        root = rng.choice([0, 1, TOP - 1, TOP, "c"])
-        k = rng.choice(["c"] * 9 + [0])
-        return "mountat", (path, k, "c", root, rng.choice([5] * 8 + [TOP]), "c", "b", 1)
+        root = rng.choice([0, 1, TOP - 1, TOP, "$c"])
+        k = rng.choice(["$c"] * 9 + [0])
+        return "mountat", (path, k, "$c", root, rng.choice([5] * 8 + [TOP]), "$c", "$b", 1)
     if what < 72:
         return "umount", (path,)
     if what < 80:
         return "root", (path,)
     if what < 88:
-        return "lookup", (rng.choice([1, 1, "b"]), rng.choice(['"m$b', '".', '"..', '"in']))
+        return "lookup", (rng.choice([1, 1, "$b"]), rng.choice(['"m$b', '".', '"..', '"in']))
     if what < 94:
         return "walk", (path,)
-    return "route", (rng.choice([1, "b"]),)
+    return "route", (rng.choice([1, "$b"]),)
 
 
 def no_room(s):
     s(": a full tree of 1,024 nodes")
     fresh(s, 1024, watch=False, views=False)
-    s("loop", "=a", 0, 340)
+    s("loop", A, 0, 340)
     mount(s, '"/p$a/q/r')
     s("umount", '"/p$a/q/r')
     s("end")
@@ -839,18 +846,18 @@ def grown(s, n, count, long):
     if not count:
         return
     if long:
-        s("loop", "=a", 1000, count)
+        s("loop", A, 1000, count)
         mount(s, '"/' + "x" * 251 + "$a")
-        s("umount", "@")
+        s("umount", KEPT)
         s("end")
     else:
         s("text", '"')
-        s("loop", "=a", 0, count)
+        s("loop", A, 0, count)
         s("more", 1, 47)
         s("more", 1, 49)
         s("end")
-        mount(s, "@")
-        s("umount", "@")
+        mount(s, KEPT)
+        s("umount", KEPT)
 
 
 def saved_trees(s):
@@ -866,40 +873,40 @@ def saved_trees(s):
         s("views", 1)
         s("fill", SAVED, length + 128, 165)
         for room in (0, 55, length - 1, length, length + 7, length + 64):
-            s("save", "=b", room)
-        s("restore", "b")
+            s("save", B, room)
+        s("restore", "$b")
         for capacity in (n, count, 1024):
             if not capacity:
                 continue
             s("scatter", 0, min(size(capacity) + 64, 60000), count)
             fresh(s, capacity, known=0x85, mapping=(7, 8, 9))
-            for at, turns in (("b", 1), (length - 1, 1), (length + 1, 1), ("b", 2)):
+            for at, turns in (("$b", 1), (length - 1, 1), (length + 1, 1), ("$b", 2)):
                 for _ in range(turns):
                     s("restore", at)
             for line in ("init", "options", 'walk "/1', "ids 3 7 1", "list 1 65536 0 4096"):
                 s(line)
-            s("save", "=c", length)
+            s("save", C, length)
             mount(s, '"/1')
         s("views", 0)
     s(": a deep tree, names that differ late, and mounts that are not saved")
     fresh(s, 64, known=1, in_opts=1)
     for p in ("/a/b/c/d/e/f", "/a/b/c/\u00e9\u20ac\U0001f600", "/a/..b/.c/...", "/a/b/x1234567y", "/a/b/x1234567z", b"/a/nul\0nul", "/"):
         mount(s, text(p), 9, 77)
-    s("save", "=b", 1000)
-    s("restore", "b")
+    s("save", B, 1000)
+    s("restore", "$b")
     for line in ('umount "/', 'umount "/a/b/c/d/e/f'):
         s(line)
-    s("save", "=b", 1000)
+    s("save", B, 1000)
     for n in (14, 15, 64):
         fresh(s, n, known=1)
         s("remove")
         s("poke1", 260, 1)
-        s("poke4", 512 + 4 * 4, 1234)
-        s("restore", "b")
+        poke4(s, 512 + 4 * 4, 1234)
+        s("restore", "$b")
         for p in ("/a/b/c/d/e/f", "/a/b/c/\u00e9\u20ac\U0001f600", "/a/..b/.c/...", "/a/b/x1234567z", b"/a/nul\0nul"):
             s("walk", text(p))
             s("root", text(p))
-        s("save", "=b", 1000)
+        s("save", B, 1000)
         mount(s, '"/a/b')
         s("route", 4 * TOP + 9)
 
@@ -917,11 +924,11 @@ def changed_bytes(s):
     put(s, good)
     s("views", 1)
     s("restore", len(good))
-    s("save", "=b", len(good))
-    s("loop", "=a", SAVED, len(good))
+    s("save", B, len(good))
+    s("loop", A, SAVED, len(good))
     s("fold")
-    s("loop", "=b", 0, 256)
-    s("raise", "a", 1)
+    s("loop", B, 0, 256)
+    s("raise", "$a", 1)
     s("watch", 0)
     s("views", 0)
     create(s, 7, 0x85)
@@ -935,9 +942,9 @@ def changed_bytes(s):
     for n in (7, 6, 5):
         s("fill", SAVED + len(good), 100, 0)
         s("fold")
-        s("loop", "=a", 0, len(good) + 80)
+        s("loop", A, 0, len(good) + 80)
         create(s, n, 0x85)
-        s("restore", "a")
+        s("restore", "$a")
         s("end")
         s("plain")
     for put_in in (b"", b"\0", b"a"):
@@ -997,7 +1004,7 @@ def each_fault(s):
         create(s, 8, 0xFF, mapping=(1, 2, 3))
         s("restore", len(case))
         if not saved.faults(case):
-            s("save", "=b", len(case))
+            s("save", B, len(case))
 
 
 def order_of_restore(s):
@@ -1037,8 +1044,8 @@ def order_of_restore(s):
         mount(s, '"/c')
         mount(s, '"/a')
         s("umount", '"/a')
-        s("save", "=b", 200)
-        s("save", "=b", "b")
+        s("save", B, 200)
+        s("save", B, "$b")
     s(": initialized by a restore, from each of in_opts and out_opts")
     for was in (0, 1):
         for in_opts, out_opts in ((0, 0), (1, 0), (0, 1), (1, 1), (TOP, 0), (0, TOP)):
@@ -1059,19 +1066,19 @@ def removed_parents(s):
         mount(s, text(p))
     s("umount", '"/a/b')
     s("umount", '"/a')
-    s("save", "=b", 500)
+    s("save", B, 500)
     fresh(s, 8, known=1)
-    s("restore", "b")
+    s("restore", "$b")
     fresh(s, 8, known=1)
     s("remove")
     mount(s, '"/a/b')
     mount(s, '"/a')
     s("umount", '"/a')
-    s("save", "=b", 500)
+    s("save", B, 500)
     fresh(s, 8, known=1)
-    s("restore", "b")
+    s("restore", "$b")
     s("poke8", SAVED + 8, 1)
-    s("restore", "b")
+    s("restore", "$b")
 
 
 def many_records(s):
@@ -1080,14 +1087,14 @@ def many_records(s):
     for columns, rows in ((31, 33), (32, 32), (25, 41), (34, 33)):
         total = columns * rows
         s(f": {total} records")
-        s("set", "=c", SAVED)
-        s("set", "=d", 2)
-        s("loop", "=a", 64, columns)
-        s("loop", "=b", 64, rows)
-        for what, step in ((("poke8", "d"), 8), (("poke8", 1), 8), (("poke1", 2), 1), (("poke1", 0), 1), (("poke1", "a"), 1), (("poke1", "b"), 1)):
-            s(what[0], "c", what[1])
-            s("add", "=c", step)
-        s("add", "=d", 1)
+        s("set", C, SAVED)
+        s("set", D, 2)
+        s("loop", A, 64, columns)
+        s("loop", B, 64, rows)
+        for what, step in ((("poke8", "$d"), 8), (("poke8", 1), 8), (("poke1", 2), 1), (("poke1", 0), 1), (("poke1", "$a"), 1), (("poke1", "$b"), 1)):
+            s(what[0], "$c", what[1])
+            s("add", C, step)
+        s("add", D, 1)
         s("end")
         s("end")
         tail = state(following=total + 2)[:-24] + (each * total).to_bytes(4, "little") + total.to_bytes(4, "little") + state(following=total + 2)[-16:]
@@ -1115,8 +1122,8 @@ def random_states(s):
     rng = random.Random(77)
     fresh(s, 16, known=0xFF)
     s("fold")
-    s("loop", "=a", 0, 200)
-    s("scatter", SAVED, 200, "a")
+    s("loop", A, 0, 200)
+    s("scatter", SAVED, 200, "$a")
     s("restore", 56)
     s("restore", 200)
     s("end")
@@ -1136,7 +1143,7 @@ def random_states(s):
             put(s, b)
             create(s, 6, 0xFF)
             s("restore", len(b))
-            s("save", "=b", 400)
+            s("save", B, 400)
         s("plain")
     for turn in range(8):
         n = rng.choice([4, 8, 16])
@@ -1152,26 +1159,29 @@ def random_states(s):
                 s("remove")
             if step % 12 == 11:
                 s("keep", size(n))
-                s("save", "=h", 2000)
-                s("restore", "h")
+                s("save", H, 2000)
+                s("restore", "$h")
                 create(s, n, 0xFF)
-                s("restore", "h")
-                s("save", "=g", 2000)
+                s("restore", "$h")
+                s("save", G, 2000)
                 if rng.randrange(2):
                     s("back", size(n))
         s("plain")
 
 
-def bad_lines(s):
-    s(": lines that are none of a script's")
-    for line in ("bogus", "mount", 'walk', 'walk 3', 'walk "/ 3', "route", "route x", "route 18446744073709551616", "route  1", "route -1",
-                 "end", "plain", "loop =a 0 0", "set =i 1", "set a b c", 'walk "%zz', 'walk "%2', 'walk "$', 'walk "$i', "random =a 0", "save", "save 1 2 3", "restore", "restore 1 2", "raise 1", "Laid"):
+def odd_lines(s):
+    s(": verbs that are none, numbers and texts that are none or too many, loops that are not open")
+    fresh(s, 2)
+    for line in ("bogus", "bogus 1", "Laid", "options7", 'walk', 'walk 3', 'walk "/ 3', "route", "route x", "route 18446744073709551616", "route  1", "route -1",
+                 "route 1 2 3 4 5 6 7 8 9", "end", "laid", "random 0 0", "route $a", "set 9 3", "route $b", 'walk "/%zz', 'walk "/%2', 'walk "/%', 'walk "/$', 'walk "/$i',
+                 'walk "/%24a', "save", "save 1 2 3", "restore", "raise 1", "poke8 851964 5", "poke1 1966080 5", "fill 1966070 100 7", "# laid", ""):
         s(line)
+    s("laid")
 
 
 PARTS = [session, edges, creation, settings, tree, listings, header_bytes, random_bytes, odd_tables, order, numbers, tags, removal, kept_numbers, mapped,
          lambda s: full_table(s, 0), lambda s: full_table(s, 1), no_room, sessions, saved_trees, changed_bytes, each_fault, order_of_restore, removed_parents, many_records,
-         random_states, bad_lines]
+         random_states, odd_lines]
 
 
 def main():

@@ -7,29 +7,23 @@ import zlib
 
 from model import layout, rules, saved
 
-ROOM = 1114112
-PART = 557056
-SAVED = 303104
+ROOM = 851968      # of the lent bytes, and of the saved ones
+PLACE = 1114112      # of the first saved byte
 BEHIND = 64
-TEXT = re.compile(rb"(?s:[^%$]|%[0-9a-f]{2}|\$[a-h])*")
-MARKED = re.compile(rb"%[0-9a-f]{2}|\$[a-h]")
+VARIABLE = re.compile(rb"\$[a-h]")
+MARKED = re.compile(rb"%[0-9a-f]{2}")
+UNKNOWN = 99
+LONGEST = 8192      # of a line with its variables put in, and of a text
 WRITES = {"create", "remove", "mount", "mountat", "umount", "restore"}
-SHAPES = {
-    "loop": (3, 0), "end": (0, 0), "set": (2, 0), "add": (2, 0), "random": (2, 0), "seed": (1, 0), "text": (0, 1),
-    "more": (2, 0), "fold": (0, 0), "plain": (0, 0), "watch": (1, 0), "views": (1, 0), "length": (1, 0),
-    "fill": (3, 0), "scatter": (3, 0), "poke1": (2, 0), "poke4": (2, 0), "poke8": (2, 0), "raise": (2, 0),
-    "keep": (1, 0),
-    "back": (1, 0), "same": (2, 0),
-    "create": (8, 0), "laid": (0, 0), "remove": (0, 0), "init": (0, 0), "options": (0, 0),
-    "walk": (0, 1), "look": (1, 1), "list": (4, 0), "mount": (6, 1), "mountat": (7, 1), "umount": (0, 1),
-    "route": (1, 0), "root": (0, 1), "lookup": (1, 1), "ids": (3, 0), "save": (2, 0), "restore": (1, 0),
+NUMBERS = {
+    "loop": 3, "end": 0, "set": 2, "add": 2, "random": 2, "seed": 1, "text": 0, "more": 2, "fold": 0, "plain": 0, "watch": 1, "views": 1,
+    "length": 1, "fill": 3, "scatter": 3, "poke1": 2, "poke8": 2, "raise": 2, "keep": 1, "back": 1, "same": 2,
+    "create": 8, "laid": 0, "remove": 0, "init": 0, "options": 0, "walk": 0, "look": 1, "list": 4, "mount": 6, "mountat": 7, "umount": 0,
+    "route": 1, "root": 0, "lookup": 1, "ids": 3, "save": 2, "restore": 1,
 }
+TEXTS = {"walk", "mount", "mountat", "umount", "root"}
 ZEROS = {"init": 1, "options": 6, "walk": 2, "look": 5, "mount": 4, "mountat": 4, "umount": 4, "route": 4, "root": 3,
          "lookup": 5, "ids": 2, "remove": 0, "restore": 0}
-
-
-class BadLine(Exception):
-    pass
 
 
 def following(x):
@@ -41,8 +35,8 @@ class Run:
         self.variables = [0] * 8
         self.seed = self.lent = self.watch = self.views = 0
         self.bytes = bytearray(ROOM)
-        self.kept = bytearray(PART)
-        self.saved = bytearray(SAVED)   # its places are those from ROOM on
+        self.kept = bytearray(ROOM)
+        self.saved = bytearray(ROOM)
         self.instance = None      # what the bytes stand for, where it is known
         self.changed = False      # the instance has changed since it was written to the bytes
         self.text = b""
@@ -71,31 +65,17 @@ class Run:
     # ---- words
 
     def words(self, line):
-        numbers, texts = [], 0
-        for w in line.split(b" ")[1:]:
-            if w[:1] == b'"':
-                self.text, texts = self.decoded(w[1:]), 1
-            elif w == b"@":
-                texts = 1
-            elif len(w) == 1 and w in b"abcdefgh":
-                numbers.append(self.variables[w[0] - 97])
-            elif len(w) == 2 and w[:1] == b"=" and w[1:] in b"abcdefgh":
-                numbers.append(w[1] - 97)
-            elif w.isdigit() and int(w) < 2**64:
-                numbers.append(int(w))
-            else:
-                raise BadLine
-        return numbers, texts
+        """The verb and its numbers; zeros in the place of those that are not there. The text is set where the line has one."""
+        if b'"' in line:
+            spelt = line.split(b'"', 1)[1].split(b" ")[0]
+            self.text = MARKED.sub(lambda m: bytes([int(m[0][1:], 16)]), spelt)[:LONGEST]
+        words = line.split(b" ")
+        numbers = [int(w) for w in words if w.isdigit() and int(w) < 2**64]
+        verb = words[0].decode()
+        return verb, (numbers + [0] * 8)[:NUMBERS.get(verb, 0)]
 
-    def decoded(self, w):
-        def one(m):
-            if m[0][:1] == b"%":
-                return bytes([int(m[0][1:], 16)])
-            return str(self.variables[m[0][1] - 97]).encode()
-
-        if TEXT.fullmatch(w) is None:
-            raise BadLine
-        return MARKED.sub(one, w)
+    def expanded(self, line):
+        return VARIABLE.sub(lambda m: str(self.variables[m[0][1] - 97]).encode(), line)[:LONGEST]
 
     # ---- output
 
@@ -112,55 +92,46 @@ class Run:
         lines = source.split(b"\n")
         loops, at = [], 0
         while at < len(lines):
-            line = lines[at]
+            line = self.expanded(lines[at])
             at += 1
             if line[:1] in (b"", b"#"):
                 continue
             if line[:1] == b":":
                 self.say(line)
                 continue
-            try:
-                verb = line.split(b" ")[0].decode()
-                numbers, texts = self.words(line)
-                if SHAPES.get(verb) != (len(numbers), texts):
-                    raise BadLine
-                if verb == "loop":
-                    v, first, turns = numbers
-                    if not turns or len(loops) == 4:
-                        raise BadLine
-                    self.variables[v] = first
-                    loops.append([at, v, turns])
-                elif verb == "end":
-                    if not loops:
-                        raise BadLine
-                    loop = loops[-1]
+            verb, numbers = self.words(line)
+            if verb == "loop":
+                v, first, turns = numbers
+                self.variables[v % 8] = first
+                loops.append([at, v % 8, turns])
+            elif verb == "end":
+                if not loops:
+                    continue
+                loop = loops[-1]
+                if loop[2] > 1:
                     loop[2] -= 1
-                    if loop[2]:
-                        self.variables[loop[1]] = (self.variables[loop[1]] + 1) % 2**64
-                        at = loop[0]
-                    else:
-                        loops.pop()
-                elif hasattr(self, "do_" + verb):
-                    getattr(self, "do_" + verb)(*numbers)
+                    self.variables[loop[1]] = (self.variables[loop[1]] + 1) % 2**64
+                    at = loop[0]
                 else:
-                    self.call(verb, numbers)
-            except BadLine:
-                self.say(b"! " + line)
+                    loops.pop()
+            elif hasattr(self, "do_" + verb):
+                getattr(self, "do_" + verb)(*numbers)
+            else:
+                self.call(verb, numbers)
         return b"\n".join(self.out) + b"\n"
 
     # ---- what steers the run
 
     def do_set(self, v, n):
-        self.variables[v] = n
+        self.variables[v % 8] = n
 
     def do_add(self, v, n):
-        self.variables[v] = (self.variables[v] + n) % 2**64
+        self.variables[v % 8] = (self.variables[v % 8] + n) % 2**64
 
     def do_random(self, v, limit):
-        if not limit:
-            raise BadLine
         self.seed = following(self.seed)
-        self.variables[v] = self.seed // 256 % limit
+        if limit:
+            self.variables[v % 8] = self.seed // 256 % limit
 
     def do_seed(self, n):
         self.seed = n
@@ -169,18 +140,12 @@ class Run:
         pass
 
     def do_more(self, count, b):
-        if len(self.text) + count > 8192:
-            raise BadLine
-        self.text += bytes([b % 256]) * count
+        self.text = (self.text + bytes([b % 256]) * count)[:LONGEST]
 
     def do_fold(self):
-        if self.folding:
-            raise BadLine
         self.folding, self.sum, self.calls = True, 1, 0
 
     def do_plain(self):
-        if not self.folding:
-            raise BadLine
         self.folding = False
         self.say(f"plain {self.calls} {self.sum}")
 
@@ -197,34 +162,35 @@ class Run:
     # ---- what sets bytes
 
     def place(self, at):
-        return (self.to_bytes(), at) if at < ROOM else (self.saved, at - ROOM)
+        return (self.to_bytes(), at) if at < PLACE else (self.saved, at - PLACE)
+
+    def put(self, at, new):
+        """Bytes are put at a place, as many as there are behind it."""
+        b, at = self.place(at)
+        b[at:at + len(new)] = new[:max(0, len(b) - at)]
 
     def do_fill(self, at, n, v):
-        b, at = self.place(at)
-        b[at:at + n] = bytes([v % 256]) * n
+        self.put(at, bytes([v % 256]) * n)
 
     def do_scatter(self, at, n, seed):
-        (b, at), x = self.place(at), seed
-        for i in range(at, at + n):
+        new, x = bytearray(n), seed
+        for i in range(n):
             x = following(x)
-            b[i] = x // 65536 % 256
-
-    def poke(self, at, width, v):
-        b, at = self.place(at)
-        b[at:at + width] = (v % 256**width).to_bytes(width, "little")
+            new[i] = x // 65536 % 256
+        self.put(at, new)
 
     def do_poke1(self, at, v):
-        self.poke(at, 1, v)
-
-    def do_poke4(self, at, v):
-        self.poke(at, 4, v)
+        self.put(at, bytes([v % 256]))
 
     def do_poke8(self, at, v):
-        self.poke(at, 8, v)
+        b, place = self.place(at)
+        if place + 8 <= len(b):
+            self.put(at, v.to_bytes(8, "little"))
 
     def do_raise(self, at, n):
-        b, at = self.place(at)
-        b[at] = (b[at] + n) % 256
+        b, place = self.place(at)
+        if place < len(b):
+            b[place] = (b[place] + n) % 256
 
     def do_keep(self, n):
         self.kept[:n] = self.to_bytes()[:n]
@@ -243,6 +209,8 @@ class Run:
         before = (i.counter, len(i.nodes)) if i else None
         if verb == "create":
             code, values = self.create(*numbers)
+        elif verb not in NUMBERS:
+            code, values = UNKNOWN, []
         elif verb == "laid":
             code, values = 0, [int(i is not None)]
         elif verb == "list":
@@ -258,7 +226,7 @@ class Run:
             f = getattr(rules, {"mountat": "restore_mount"}.get(verb, verb))
             if verb in ("look", "lookup"):
                 code, values = f(i, numbers[0], self.text)
-            elif SHAPES[verb][1]:
+            elif verb in TEXTS:
                 code, values = f(i, self.text, *numbers)
             else:
                 code, values = f(i, *numbers)
@@ -295,5 +263,5 @@ class Run:
         fits = i is not None and len(b) <= room
         if fits:
             self.saved[:len(b)] = b
-        self.variables[v] = len(b) if fits else 0
-        return 0 if fits else rules.SMALL, [self.variables[v], zlib.adler32(self.saved[:room + BEHIND])]
+        self.variables[v % 8] = len(b) if fits else 0
+        return 0 if fits else rules.SMALL, [self.variables[v % 8], zlib.adler32(self.saved[:room + BEHIND])]

@@ -1,6 +1,4 @@
 // Calls on the storage, the tree and the mount tables; each function here makes one and tells its answer.
-use crate::regs;
-use crate::regs::ARGS;
 use crate::regs::CELLS;
 use crate::sink;
 use crate::verbs;
@@ -13,16 +11,13 @@ use words::numbers::least;
 use words::numbers::low8;
 use words::numbers::low32;
 
-fn create(s: &mut [u8], regs: &mut [u64; CELLS]) {
+fn create(n: &[u64; 8], s: &mut [u8], regs: &mut [u64; CELLS]) {
     let mapping = id_map::IdMapping {
-        internal: low32(regs[ARGS + 5]),
-        external: low32(regs[ARGS + 6]),
-        range: low32(regs[ARGS + 7]),
+        internal: low32(n[5]),
+        external: low32(n[6]),
+        range: low32(n[7]),
     };
-    let n = regs[ARGS] as usize;
-    let flags = low8(regs[ARGS + 4]);
-    let known = regs[ARGS + 1];
-    let a = storage::create(s, n, known, regs[ARGS + 2], regs[ARGS + 3], flags, mapping);
+    let a = storage::create(s, n[0] as usize, n[1], n[2], n[3], low8(n[4]), mapping);
     sink::code(flat::created(a).code, regs);
 }
 
@@ -61,43 +56,40 @@ fn looked(l: Looked, regs: &mut [u64; CELLS]) {
 const BEFORE: u8 = 165;
 
 // A listing into a buffer: how many bytes were written, and the sum of them all.
-fn listed(s: &[u8], out: &mut [u8], regs: &mut [u64; CELLS]) {
+fn listed(n: &[u64; 8], s: &[u8], out: &mut [u8], regs: &mut [u64; CELLS]) {
     le::runs::fill_at(out, 0, out.len(), BEFORE);
-    let node = NodeNumber(regs[ARGS]);
-    let size = low32(regs[ARGS + 1]);
-    let a = flat::listed(listing::readdir(s, node, size, regs[ARGS + 2], out));
+    let a = flat::listed(listing::readdir(s, NodeNumber(n[0]), low32(n[1]), n[2], out));
     let v = [a.written, words::sums::with_run(words::sums::START, out)];
     sink::answer(a.code, &v, regs);
 }
 
 // Small output is lent from a small buffer, which takes less time to make.
-fn list(s: &[u8], regs: &mut [u64; CELLS]) {
-    let room = regs[ARGS + 3];
+fn list(n: &[u64; 8], s: &[u8], regs: &mut [u64; CELLS]) {
+    let room = n[3];
     if room <= 4096 {
         let mut small = io::buffer();
-        listed(s, &mut small[0..room as usize], regs);
+        listed(n, s, &mut small[0..room as usize], regs);
         return;
     }
     let mut large = io::large_buffer();
-    let n = least(room, 65536);
-    listed(s, &mut large[0..n], regs);
+    listed(n, s, &mut large[0..least(room, 65536)], regs);
 }
 
 // A mount for 0, or a restored mount for 1: the index of that stands before the other numbers.
-fn placed(k: usize, s: &mut [u8], path: &[u8], regs: &mut [u64; CELLS]) {
-    let at = ARGS + k % 2;
+fn placed(k: usize, n: &[u64; 8], s: &mut [u8], path: &[u8], regs: &mut [u64; CELLS]) {
+    let at = k % 2;
     let b = Backend {
-        tag: low32(regs[at]),
-        root: BackendNumber(regs[at + 1]),
-        max: regs[at + 2],
-        uid: low32(regs[at + 3]),
-        gid: low32(regs[at + 4]),
-        mode: low32(regs[at + 5]),
+        tag: low32(n[at]),
+        root: BackendNumber(n[at + 1]),
+        max: n[at + 2],
+        uid: low32(n[at + 3]),
+        gid: low32(n[at + 4]),
+        mode: low32(n[at + 5]),
     };
     if k == 0 {
         mount(s, path, b, regs);
     } else {
-        mount_at(low8(regs[ARGS]), s, path, b, regs);
+        mount_at(low8(n[0]), s, path, b, regs);
     }
 }
 
@@ -136,8 +128,8 @@ fn umount(s: &mut [u8], path: &[u8], regs: &mut [u64; CELLS]) {
 }
 
 // Whether to a backend, its tag, its index, and the number.
-fn route(s: &[u8], regs: &mut [u64; CELLS]) {
-    let a = flat::routed(vfs_query::route(s, VfsInode(regs[ARGS])));
+fn route(number: u64, s: &[u8], regs: &mut [u64; CELLS]) {
+    let a = flat::routed(vfs_query::route(s, VfsInode(number)));
     let v = [a.to_backend as u64, a.tag as u64, a.fs_idx as u64, a.number];
     sink::answer(a.code, &v, regs);
 }
@@ -149,10 +141,8 @@ fn root(s: &[u8], path: &[u8], regs: &mut [u64; CELLS]) {
     sink::answer(a.code, &v, regs);
 }
 
-fn ids(s: &[u8], regs: &mut [u64; CELLS]) {
-    let uid = low32(regs[ARGS]);
-    let gid = low32(regs[ARGS + 1]);
-    let a = flat::remapped(vfs_query::remap_attr_id(s, uid, gid, regs[ARGS + 2] != 0));
+fn ids(n: &[u64; 8], s: &[u8], regs: &mut [u64; CELLS]) {
+    let a = flat::remapped(vfs_query::remap_attr_id(s, low32(n[0]), low32(n[1]), n[2] != 0));
     let v = [a.uid as u64, a.gid as u64];
     sink::answer(a.code, &v, regs);
 }
@@ -171,9 +161,12 @@ fn laid(s: &[u8], regs: &mut [u64; CELLS]) {
     }
 }
 
+// What is told of a verb that is none of a script's.
+const UNKNOWN: u32 = 99;
+
 // A call that changes nothing.
-fn ask(verb: u64, s: &[u8], text: &[u8], regs: &mut [u64; CELLS]) {
-    let node = NodeNumber(regs[ARGS]);
+fn ask(verb: u64, n: &[u64; 8], s: &[u8], text: &[u8], regs: &mut [u64; CELLS]) {
+    let node = NodeNumber(n[0]);
     match verb {
         verbs::LAID => laid(s, regs),
         verbs::INIT => init(s, regs),
@@ -181,23 +174,22 @@ fn ask(verb: u64, s: &[u8], text: &[u8], regs: &mut [u64; CELLS]) {
         verbs::WALK => walk(s, text, regs),
         verbs::LOOK => looked(pseudo_fs::lookup(s, node, text), regs),
         verbs::LOOKUP => looked(vfs_query::lookup(s, node, text), regs),
-        verbs::LIST => list(s, regs),
-        verbs::ROUTE => route(s, regs),
+        verbs::LIST => list(n, s, regs),
+        verbs::ROUTE => route(n[0], s, regs),
         verbs::ROOT => root(s, text, regs),
-        _ => ids(s, regs),
+        verbs::IDS => ids(n, s, regs),
+        _ => sink::code(UNKNOWN, regs),
     }
 }
 
-// A call by its verb, with the text of the line.
-pub fn call(verb: u64, s: &mut [u8], text: &[u8], regs: &mut [u64; CELLS]) {
-    let n = least(regs[regs::TEXT_LEN], text.len());
-    let path = &text[0..n];
+// A call by its verb, with the numbers and the text of the line.
+pub fn call(verb: u64, n: &[u64; 8], s: &mut [u8], text: &[u8], regs: &mut [u64; CELLS]) {
     match verb {
-        verbs::CREATE => create(s, regs),
+        verbs::CREATE => create(n, s, regs),
         verbs::REMOVE => sink::code(flat::removal(storage::set_remove_pseudo_root(s)).code, regs),
-        verbs::MOUNT => placed(0, s, path, regs),
-        verbs::MOUNT_AT => placed(1, s, path, regs),
-        verbs::UMOUNT => umount(s, path, regs),
-        _ => ask(verb, s, path, regs),
+        verbs::MOUNT => placed(0, n, s, text, regs),
+        verbs::MOUNT_AT => placed(1, n, s, text, regs),
+        verbs::UMOUNT => umount(s, text, regs),
+        _ => ask(verb, n, s, text, regs),
     }
 }

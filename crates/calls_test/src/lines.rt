@@ -1,145 +1,143 @@
-// One line of a script: a comment, a heading, what steers the run, what sets bytes, or a call.
-use crate::memory;
+// One line of a script: a comment, a heading, or a verb with its numbers. The verbs that steer the run are done here.
 use crate::regs;
 use crate::regs::CELLS;
+use crate::regs::VARIABLES;
 use crate::sink;
 use crate::verbs;
+use path::components::part_end;
+use std::num::wrapping_add_u64;
+use steps::loops::Turn;
 use words::numbers::least;
 
-// One line. What is no line of a script is told behind `!`.
+// One line, with its variables put in.
 pub fn line(
     line: &[u8],
+    loops: &mut [u64; 13],
     storage: &mut [u8],
+    before: &mut [u8],
     kept: &mut [u8],
+    saved: &mut [u8],
     text: &mut [u8],
     regs: &mut [u64; CELLS],
 ) {
-    if line.len() == 0 {
-        return;
-    }
-    match line[0] {
-        b'#' => {}
+    match words::hex::byte_at(line, 0) {
+        0 | b'#' => {}
         b':' => {
             sink::bytes(line, regs);
             sink::byte(b'\n', regs);
         }
-        _ => {
-            let end = path::components::part_end(line, 0, b' ');
-            done(&line[0..end], line, storage, kept, text, regs);
-        }
+        _ => worded(line, loops, storage, before, kept, saved, text, regs),
     }
 }
 
-// Does what the line says.
-fn done(
-    name: &[u8],
+// A verb with its words: the text, which stays as it was where the line has none, and the numbers.
+fn worded(
     line: &[u8],
+    loops: &mut [u64; 13],
     storage: &mut [u8],
+    before: &mut [u8],
     kept: &mut [u8],
+    saved: &mut [u8],
     text: &mut [u8],
     regs: &mut [u64; CELLS],
 ) {
-    let verb = parsed(name, line, text, regs);
-    if crate::steering::steer(verb, line, text, regs) {
-        return;
+    let mark = part_end(line, 0, b'"');
+    let from = least(mark as u64 + 1, line.len());
+    let to = part_end(line, from, b' ');
+    let len = words::hex::decoded(&line[from..to], text);
+    if mark < line.len() {
+        regs[regs::TEXT_LEN] = len as u64;
     }
-    match verb {
-        verbs::FILL
-        | verbs::SCATTER
-        | verbs::POKE1
-        | verbs::POKE4
-        | verbs::POKE8
-        | verbs::RAISE
-        | verbs::KEEP
-        | verbs::BACK
-        | verbs::SAME => memory::set(verb, line, storage, kept, regs),
-        _ => {
-            called(verb, name, storage, kept, text, regs);
-            told(verb, storage, kept, regs);
-        }
-    }
+    let end = part_end(line, 0, b' ');
+    let n = words::numbers::numbers(line);
+    vary(
+        &line[0..end],
+        &n,
+        loops,
+        storage,
+        before,
+        kept,
+        saved,
+        text,
+        regs,
+    );
 }
 
-// The verb of a line whose words fit it; 0 where the line was told.
-fn parsed(name: &[u8], line: &[u8], text: &mut [u8], regs: &mut [u64; CELLS]) -> u64 {
-    if !crate::text::words(line, name.len() + 1, text, regs) {
-        return 0;
-    }
-    verbs::verb_of(name, line, regs)
-}
-
-// A call on the lent bytes: the verb, and the numbers of the answer. What stood in the watched bytes is kept before.
-fn called(
-    verb: u64,
+// Does what a line says: loops and variables here.
+fn vary(
     name: &[u8],
+    n: &[u64; 8],
+    loops: &mut [u64; 13],
     storage: &mut [u8],
+    before: &mut [u8],
     kept: &mut [u8],
-    text: &[u8],
+    saved: &mut [u8],
+    text: &mut [u8],
     regs: &mut [u64; CELLS],
 ) {
-    let watched = least(regs[regs::WATCH], least(storage.len() as u64, kept.len()));
-    le::runs::copy_run(kept, 0, storage, 0, watched);
-    sink::bytes(name, regs);
-    let lent = least(regs[regs::LENT], storage.len());
+    let verb = scan::names::key_of(name).word;
+    let v = (n[0] % VARIABLES) as usize;
     match verb {
-        verbs::SAVE => crate::states::save(&storage[0..lent], kept, regs),
-        verbs::RESTORE => crate::states::restore(&mut storage[0..lent], kept, regs),
-        _ => crate::calls::call(verb, &mut storage[0..lent], text, regs),
-    }
-}
-
-// The rest of an answer: the counter, what the call left, and the sum of the tables.
-fn told(verb: u64, storage: &[u8], kept: &[u8], regs: &mut [u64; CELLS]) {
-    sink::number(words::hex::byte_at(storage, 81) as u64, regs);
-    left(verb, storage, kept, regs);
-    if regs[regs::VIEWS] != 0 {
-        let lent = least(regs[regs::LENT], storage.len());
-        viewed(&storage[0..lent], regs);
-    }
-    sink::byte(b'\n', regs);
-    regs[regs::CALLS] = std::num::wrapping_add_u64(regs[regs::CALLS], 1);
-}
-
-// What the call left of the watched bytes; `.` where it is done and writes.
-fn left(verb: u64, storage: &[u8], kept: &[u8], regs: &mut [u64; CELLS]) {
-    if regs[regs::WATCH] == 0 {
-        return;
-    }
-    sink::byte(b' ', regs);
-    if regs[regs::CODE] != 0 {
-        marked(storage, kept, regs);
-        return;
-    }
-    match verb {
-        verbs::CREATE | verbs::REMOVE | verbs::MOUNT => sink::byte(b'.', regs),
-        verbs::MOUNT_AT | verbs::UMOUNT | verbs::RESTORE => sink::byte(b'.', regs),
-        _ => marked(storage, kept, regs),
-    }
-}
-
-// Against the copy: `=` all are as they were, `c` all but the counter, `*` not all.
-fn marked(storage: &[u8], kept: &[u8], regs: &mut [u64; CELLS]) {
-    let n = least(regs[regs::WATCH], least(storage.len() as u64, kept.len()));
-    if le::runs::same_at(storage, 0, kept, 0, n) {
-        sink::byte(b'=', regs);
-        return;
-    }
-    if 82 <= n {
-        if le::runs::same_at(storage, 0, kept, 0, 81) {
-            if le::runs::same_at(storage, 82, kept, 82, n - 82) {
-                sink::byte(b'c', regs);
-                return;
+        verbs::LOOP => {
+            steps::loops::open(loops, regs[regs::PLACE], n[0] % VARIABLES, n[2]);
+            regs[v] = n[1];
+        }
+        verbs::END => match steps::loops::close(loops) {
+            Turn::Again { place, variable } => {
+                regs[regs::PLACE] = place;
+                let named = (variable % VARIABLES) as usize;
+                regs[named] = wrapping_add_u64(regs[named], 1);
+            }
+            Turn::Done => {}
+        },
+        verbs::SET => regs[v] = n[1],
+        verbs::ADD => regs[v] = wrapping_add_u64(regs[v], n[1]),
+        verbs::SEED => regs[regs::SEED] = n[0],
+        verbs::RANDOM => {
+            let x = steps::generator::following(regs[regs::SEED]);
+            regs[regs::SEED] = x;
+            if n[1] != 0 {
+                regs[v] = x / 256 % n[1];
             }
         }
+        _ => settle(verb, name, n, storage, before, kept, saved, text, regs),
     }
-    sink::byte(b'*', regs);
 }
 
-// The sum of the tables; 0 where the bytes break the layout rule.
-fn viewed(s: &[u8], regs: &mut [u64; CELLS]) {
-    if storage::is_laid(s) {
-        sink::number(view_sum::sum_of(s), regs);
-    } else {
-        sink::number(0, regs);
+// The text, what is lent, and how answers are told.
+fn settle(
+    verb: u64,
+    name: &[u8],
+    n: &[u64; 8],
+    storage: &mut [u8],
+    before: &mut [u8],
+    kept: &mut [u8],
+    saved: &mut [u8],
+    text: &mut [u8],
+    regs: &mut [u64; CELLS],
+) {
+    match verb {
+        verbs::TEXT => {}
+        verbs::MORE => {
+            let len = regs[regs::TEXT_LEN];
+            steps::lent::fill(text, len, n[0], words::numbers::low8(n[1]));
+            regs[regs::TEXT_LEN] = least(wrapping_add_u64(len, n[0]), text.len()) as u64;
+        }
+        verbs::LENGTH => regs[regs::LENT] = n[0],
+        verbs::WATCH => regs[regs::WATCH] = n[0],
+        verbs::VIEWS => regs[regs::VIEWS] = n[0],
+        verbs::FOLD => {
+            regs[regs::FOLDING] = 1;
+            regs[regs::SUM] = words::sums::START;
+            regs[regs::CALLS] = 0;
+        }
+        verbs::PLAIN => {
+            regs[regs::FOLDING] = 0;
+            sink::bytes(name, regs);
+            sink::number(regs[regs::CALLS], regs);
+            sink::number(regs[regs::SUM], regs);
+            sink::byte(b'\n', regs);
+        }
+        _ => crate::memory::change(verb, name, n, storage, before, kept, saved, text, regs),
     }
 }

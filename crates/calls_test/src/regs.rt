@@ -1,6 +1,4 @@
-// The registers of a run: the script's variables, what it has set, and the numbers of the line at hand.
-ghost use mathlib.Core.Path.{_≡_};
-ghost use Prim.Native.Nat.{_+_, _*_, _%_, _^_};
+// The registers of a run: the script's variables, and what it has set.
 
 // The variables a to h stand in cells 0 to 7; a line names one by its cell, modulo this.
 pub const VARIABLES: u64 = 8;
@@ -26,28 +24,14 @@ pub const CALLS: usize = 14;
 // The number of the answer at hand.
 pub const CODE: usize = 15;
 
-// Where the next line starts, how many loops are open, and three cells for each: first line, variable, turns left.
+// Where the next line starts.
 pub const PLACE: usize = 16;
 
-pub const DEPTH: usize = 17;
-
-pub const LOOPS: usize = 20;
-
-// The words of the line at hand: how many numbers, how many texts, how long the text is, and the numbers, eight at most.
-pub const NUMBERS: usize = 32;
-
-pub const TEXTS: usize = 33;
-
-pub const TEXT_LEN: usize = 34;
-
-pub const ARGS: usize = 40;
+// How long the text is.
+pub const TEXT_LEN: usize = 17;
 
 // How many cells there are.
-pub const CELLS: usize = 64;
+pub const CELLS: usize = expand::CELLS;
 
-// The next number of the generator, below 2^32.
-pub fn following(x: u64) -> u64
-    ensures { λ r. ⌜ r ≡ (x % 2 ^ 32 * 1664525 + 1013904223) % 2 ^ 32 ⌝ }
-{
-    (x % 4294967296 * 1664525 + 1013904223) % 4294967296
-}
+// The place of the first saved byte, for the verbs of a script that set bytes; those below are of the lent bytes.
+pub const SAVED: u64 = 1114112;

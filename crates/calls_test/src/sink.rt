@@ -41,11 +41,3 @@ pub fn answer(code: u32, values: &[u64], regs: &mut [u64; CELLS]) {
 pub fn code(code: u32, regs: &mut [u64; CELLS]) {
     answer(code, &[], regs);
 }
-
-// A line that is none of a script's, or cannot be done: behind `!`. Answers false.
-pub fn fault(line: &[u8], regs: &mut [u64; CELLS]) -> bool {
-    bytes(b"! ", regs);
-    bytes(line, regs);
-    byte(b'\n', regs);
-    false
-}

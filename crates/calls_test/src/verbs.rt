@@ -1,7 +1,4 @@
-// The verbs of a script, each as the number that `scan::names::key_of` makes of it: its length lowest, then its letters; and the words that each takes.
-use crate::regs;
-use crate::regs::CELLS;
-use crate::sink;
+// The verbs of a script, each as the number that `scan::names::key_of` makes of it: its length lowest, then its letters.
 
 // loop
 pub const LOOP: u64 = 0x706f6f6c04;
@@ -35,8 +32,6 @@ pub const FILL: u64 = 0x6c6c696604;
 pub const SCATTER: u64 = 0x7265747461637307;
 // poke1
 pub const POKE1: u64 = 0x31656b6f7005;
-// poke4
-pub const POKE4: u64 = 0x34656b6f7005;
 // poke8
 pub const POKE8: u64 = 0x38656b6f7005;
 // raise
@@ -81,30 +76,3 @@ pub const IDS: u64 = 0x73646903;
 pub const SAVE: u64 = 0x6576617304;
 // restore
 pub const RESTORE: u64 = 0x65726f7473657207;
-
-// The verb of a line whose words are read: its name's, where that takes so many numbers (and 10 for a text); else 0, and the line is told behind `!`.
-pub fn verb_of(name: &[u8], line: &[u8], regs: &mut [u64; CELLS]) -> u64 {
-    let verb = scan::names::key_of(name).word;
-    let shape: u64 = match verb {
-        END | FOLD | PLAIN | LAID | REMOVE | INIT | OPTIONS => 0,
-        SEED | WATCH | VIEWS | LENGTH | KEEP | BACK | ROUTE | RESTORE => 1,
-        SET | ADD | RANDOM | MORE | POKE1 | POKE4 | POKE8 | RAISE | SAME | SAVE => 2,
-        LOOP | FILL | SCATTER | IDS => 3,
-        LIST => 4,
-        CREATE => 8,
-        TEXT | WALK | UMOUNT | ROOT => 10,
-        LOOK | LOOKUP => 11,
-        MOUNT => 16,
-        MOUNT_AT => 17,
-        _ => 9,
-    };
-    if shape % 10 == regs[regs::NUMBERS] {
-        if shape / 10 == regs[regs::TEXTS] {
-            if name.len() <= 7 {
-                return verb;
-            }
-        }
-    }
-    sink::fault(line, regs);
-    0
-}

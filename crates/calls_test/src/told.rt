@@ -1,0 +1,84 @@
+// A call on the lent bytes, and the line that tells its answer.
+use crate::regs;
+use crate::regs::CELLS;
+use crate::sink;
+use crate::verbs;
+use le::runs::same_at;
+use words::numbers::least;
+
+// A call: the verb and the numbers of the answer. What stood in the watched bytes is kept before.
+pub fn call(
+    verb: u64,
+    name: &[u8],
+    n: &[u64; 8],
+    storage: &mut [u8],
+    before: &mut [u8],
+    saved: &mut [u8],
+    text: &[u8],
+    regs: &mut [u64; CELLS],
+) {
+    steps::lent::copy(before, storage, regs[regs::WATCH]);
+    sink::bytes(name, regs);
+    let end = least(regs[regs::LENT], storage.len());
+    let len = least(regs[regs::TEXT_LEN], text.len());
+    match verb {
+        verbs::SAVE => crate::states::save(&storage[0..end], n, saved, regs),
+        verbs::RESTORE => crate::states::restore(&mut storage[0..end], n, saved, regs),
+        _ => crate::calls::call(verb, n, &mut storage[0..end], &text[0..len], regs),
+    }
+}
+
+// The rest of its line: the counter, what the call left, and the sum of the tables.
+pub fn rest(verb: u64, storage: &[u8], before: &[u8], regs: &mut [u64; CELLS]) {
+    sink::number(words::hex::byte_at(storage, 81) as u64, regs);
+    if regs[regs::WATCH] != 0 {
+        sink::byte(b' ', regs);
+        left(verb, storage, before, regs);
+    }
+    if regs[regs::VIEWS] != 0 {
+        let lent = least(regs[regs::LENT], storage.len());
+        viewed(&storage[0..lent], regs);
+    }
+    sink::byte(b'\n', regs);
+    regs[regs::CALLS] = std::num::wrapping_add_u64(regs[regs::CALLS], 1);
+}
+
+// What the call left of the watched bytes; `.` where it is done and writes.
+fn left(verb: u64, storage: &[u8], before: &[u8], regs: &mut [u64; CELLS]) {
+    if regs[regs::CODE] != 0 {
+        marked(storage, before, regs);
+        return;
+    }
+    match verb {
+        verbs::CREATE | verbs::REMOVE | verbs::MOUNT => sink::byte(b'.', regs),
+        verbs::MOUNT_AT | verbs::UMOUNT | verbs::RESTORE => sink::byte(b'.', regs),
+        _ => marked(storage, before, regs),
+    }
+}
+
+// Against the copy: `=` all are as they were, `c` all but the counter, `*` not all.
+fn marked(storage: &[u8], before: &[u8], regs: &mut [u64; CELLS]) {
+    let n = least(regs[regs::WATCH], least(storage.len() as u64, before.len()));
+    if same_at(storage, 0, before, 0, n) {
+        sink::byte(b'=', regs);
+        return;
+    }
+    if 82 <= n {
+        if same_at(storage, 0, before, 0, 81) {
+            if same_at(storage, 82, before, 82, n - 82) {
+                sink::byte(b'c', regs);
+                return;
+            }
+        }
+    }
+    sink::byte(b'*', regs);
+}
+
+// The sum of the tables; 0 where the bytes break the layout rule.
+fn viewed(s: &[u8], regs: &mut [u64; CELLS]) {
+    if storage::is_laid(s) {
+        sink::number(view_sum::sum_of(s), regs);
+    } else {
+        sink::number(0, regs);
+    }
+}
