@@ -42,7 +42,7 @@ module _ (mem bs : List ℕ) (at from k : ℕ) (e : from ≡ min at (length mem)
       let z : k ≡ 0 = omega arith in
       rw z (sym (write-past mem at bs (omega arith)))
 
-  pub set-there : (short : List ℕ) → short ≡ take k bs → write mem from short ≡ write mem at bs
+  set-there : (short : List ℕ) → short ≡ take k bs → write mem from short ≡ write mem at bs
   set-there short d = rw d (set-by _ _ refl refl)
 
 -- ---- one byte again and again, bytes of the generator, bytes of another list
@@ -64,15 +64,15 @@ length-drawn zero x = refl
 length-drawn (suc n) x = ap suc (length-drawn n (next x))
 
 module _ (mem : List ℕ) (at from n k : ℕ) (e : from ≡ min at (length mem)) (f : k ≡ min n (length mem - from)) where
-  pub fill-is : (b : ℕ) → write mem from (replicate k b) ≡ write mem at (replicate n b)
-  fill-is b = set-there mem (replicate n b) at from k e (rw (length-replicate n b) f) (replicate k b) (filled-front k n b (omega arith))
+  pub fill-is : (b : ℕ) (d : List ℕ) → d ≡ write mem from (replicate k b) → d ≡ write mem at (replicate n b)
+  fill-is b d g = g ∙ set-there mem (replicate n b) at from k e (rw (length-replicate n b) f) (replicate k b) (filled-front k n b (omega arith))
 
-  pub draw-is : (x : ℕ) → write mem from (drawn k x) ≡ write mem at (drawn n x)
+  draw-is : (x : ℕ) → write mem from (drawn k x) ≡ write mem at (drawn n x)
   draw-is x = set-there mem (drawn n x) at from k e (rw (length-drawn n x) f) (drawn k x) (drawn-front k n x (omega arith))
 
-pub copy-is : (mem src : List ℕ) (n m k : ℕ) → m ≡ min n (length mem) → k ≡ min m (length src) → write mem 0 (read src 0 k) ≡ write mem 0 (take n src)
-copy-is mem src n m k e f =
-    set-there mem (take n src) 0 0 k (omega arith) (omega (arith, length-take n src)) (read src 0 k)
+pub copy-is : (mem src : List ℕ) (n m k : ℕ) (d : List ℕ) → m ≡ min n (length mem) → k ≡ min m (length src) → d ≡ write mem 0 (read src 0 k) → d ≡ write mem 0 (take n src)
+copy-is mem src n m k d e f g =
+    g ∙ set-there mem (take n src) 0 0 k (omega arith) (omega (arith, length-take n src)) (read src 0 k)
     (read-slice src 0 k (omega arith) ∙ sym (take-take k n src (omega arith)))
 
 -- the bytes that are left to draw, behind i of them
@@ -98,23 +98,23 @@ module _ (mem : List ℕ) (at n seed from k : ℕ) where
 -- ---- numbers
 
 module _ (mem : List ℕ) (at x from : ℕ) (e : from ≡ min at (length mem)) where
-  pub byte-is : (v : ℕ) → from < length mem → v ≡ x % 256 → put 1 mem from v ≡ put 1 mem at x
+  pub byte-is : (v : ℕ) (d : List ℕ) → from < length mem → v ≡ x % 256 → d ≡ put 1 mem from v → d ≡ put 1 mem at x
   unfolding put bytesOf
-  byte-is v h f =
+  byte-is v d h f g =
       let p : from ≡ at = omega arith in
       let q : v % 256 ≡ x % 256 = omega arith in
-      rw (p, q)
+      g ∙ rw (p, q)
 
   pub byte-none : length mem ≤ from → mem ≡ put 1 mem at x
   unfolding put
   byte-none h = sym (write-past mem at (bytesOf 1 x) (omega arith))
 
-  pub word-is : (k : ℕ) → 0 < k → k ≤ length mem - from → put k mem from x ≡ putWhole k mem at x
+  pub word-is : (k : ℕ) (d : List ℕ) → 0 < k → k ≤ length mem - from → d ≡ put k mem from x → d ≡ putWhole k mem at x
   unfolding putWhole
-  word-is k z h =
+  word-is k d z h g =
       let p : from ≡ at = omega arith in
       let q : at + k ≤ length mem = omega arith in
-      rw (le-leb (at + k) (length mem) q, p)
+      g ∙ rw (le-leb (at + k) (length mem) q, p)
 
   pub word-none : (k : ℕ) → length mem - from < k → mem ≡ putWhole k mem at x
   unfolding putWhole
@@ -131,9 +131,7 @@ byte-there mem at from false h e =
     let q : length mem ≤ at = omega (arith, leb-false at (length mem) h) in
     List·getD-eq-default mem 0 {n = from} p ∙ sym (List·getD-eq-default mem 0 {n = at} q)
 
-pub raise-is : (mem : List ℕ) (at x from b : ℕ) → from ≡ min at (length mem) → b ≡ getD mem from 0 → put 1 mem at (b + x % 256) ≡ put 1 mem at (getD mem at 0 + x)
+pub raise-is : (mem : List ℕ) (at x from b y : ℕ) (d : List ℕ) → from ≡ min at (length mem) → b ≡ getD mem from 0 → y % 256 ≡ (b + x) % 256
+    → d ≡ put 1 mem at y → d ≡ put 1 mem at (getD mem at 0 + x)
 unfolding put bytesOf
-raise-is mem at x from b e f =
-    let g : b ≡ getD mem at 0 = f ∙ byte-there mem at from _ refl e in
-    let q : (b + x % 256) % 256 ≡ (getD mem at 0 + x) % 256 = omega arith in
-    rw q
+raise-is mem at x from b y d e f h g = g ∙ rw (h, f, byte-there mem at from _ refl e)

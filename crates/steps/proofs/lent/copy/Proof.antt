@@ -1,5 +1,4 @@
 -- `steps::lent::copy` meets its contract. Assumes nothing.
-use mathlib.Core.Path.{_∙_}
 use Rattle.steps.proofs.Setting.{copy-is}
 use borrow.Author.Needs.{needs}
 use Rattle.steps.proofs.lent.copy.Statement.{statement}
@@ -18,7 +17,7 @@ same-length : tie.Need-same-length
 same-length c = search needs
 
 returns : tie.Need-returns
-returns c = c .before .before .copy-run .ensures ∙ copy-is _ _ _ _ _ (c .before .before .before .before .before .least .ensures) (c .before .before .before .before .least2 .ensures)
+returns c = copy-is _ _ _ _ _ _ (c .before .before .before .before .before .least .ensures) (c .before .before .before .before .least2 .ensures) (c .before .before .copy-run .ensures)
 
 pub copy-spec : {M : Type 1} → statement M
 copy-spec =

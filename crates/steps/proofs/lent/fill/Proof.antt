@@ -1,5 +1,4 @@
 -- `steps::lent::fill` meets its contract. Assumes nothing.
-use mathlib.Core.Path.{_∙_}
 use Rattle.steps.proofs.Setting.{fill-is}
 use borrow.Author.Needs.{needs}
 use Rattle.steps.proofs.lent.fill.Statement.{statement}
@@ -21,7 +20,7 @@ same-length : tie.Need-same-length
 same-length c = search needs
 
 returns : tie.Need-returns
-returns c = c .before .before .fill-at .ensures ∙ fill-is _ _ _ _ _ (c .before .before .before .before .before .least .ensures) (c .before .before .before .before .least2 .ensures) _
+returns c = fill-is _ _ _ _ _ (c .before .before .before .before .before .least .ensures) (c .before .before .before .before .least2 .ensures) (c .before .before .before .before .before .before .before .args .b) _ (c .before .before .fill-at .ensures)
 
 pub fill-spec : {M : Type 1} → statement M
 fill-spec =

@@ -1,5 +1,4 @@
 -- `steps::lent::put_byte` meets its contract: by whether the place is there. Assumes nothing.
-use mathlib.Core.Path.{_∙_}
 use Rattle.steps.proofs.Setting.{byte-is, byte-none}
 use borrow.Author.Needs.{needs}
 use Rattle.steps.proofs.lent.put_byte.Statement.{statement}
@@ -18,7 +17,7 @@ same-length : tie.Need-same-length
 same-length c = search needs
 
 returns : tie.Need-returns
-returns c = c .before .before .put-u8 .ensures ∙ byte-is _ _ _ _ (c .before .before .before .before .before .before .least .ensures) _ (c .before .before .before .before .before .if1 .taken) (c .before .before .before .low8 .ensures)
+returns c = byte-is _ _ _ _ (c .before .before .before .before .before .before .least .ensures) _ _ (c .before .before .before .before .before .if1 .taken) (c .before .before .before .low8 .ensures) (c .before .before .put-u8 .ensures)
 
 returns-2 : tie.Need-returns-2
 returns-2 c = byte-none _ _ _ _ (c .before .least .ensures) (c .if1 .left)

@@ -1,5 +1,4 @@
 -- `steps::lent::put_word` meets its contract: by whether eight bytes are there. Assumes nothing.
-use mathlib.Core.Path.{_∙_}
 use Rattle.steps.proofs.Setting.{word-is, word-none}
 use borrow.Author.Needs.{needs}
 use Rattle.steps.proofs.lent.put_word.Statement.{statement}
@@ -18,7 +17,7 @@ same-length : tie.Need-same-length
 same-length c = search needs
 
 returns : tie.Need-returns
-returns c = c .before .before .put-u64 .ensures ∙ word-is _ _ _ _ (c .before .before .before .before .before .least .ensures) 8 (search needs) (search needs)
+returns c = word-is _ _ _ _ (c .before .before .before .before .before .least .ensures) 8 _ (search needs) (search needs) (c .before .before .put-u64 .ensures)
 
 returns-2 : tie.Need-returns-2
 returns-2 c = word-none _ _ _ _ (c .before .least .ensures) 8 (search needs)

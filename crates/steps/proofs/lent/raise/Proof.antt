@@ -1,5 +1,4 @@
 -- `steps::lent::raise` meets its contract. Assumes nothing.
-use mathlib.Core.Path.{_∙_}
 use Rattle.steps.proofs.Setting.{raise-is}
 use borrow.Author.Needs.{needs}
 use Rattle.steps.proofs.lent.raise.Statement.{statement}
@@ -24,7 +23,7 @@ same-length : tie.Need-same-length
 same-length c = search needs
 
 returns : tie.Need-returns
-returns c = c .before .before .put-byte .ensures ∙ raise-is _ _ _ _ _ (c .before .before .before .before .before .least .ensures) (c .before .before .before .before .byte-at .ensures)
+returns c = raise-is _ _ _ _ _ _ _ (c .before .before .before .before .before .least .ensures) (c .before .before .before .before .byte-at .ensures) (search needs) (c .before .before .put-byte .ensures)
 
 pub raise-spec : {M : Type 1} → statement M
 raise-spec =

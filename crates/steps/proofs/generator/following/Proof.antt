@@ -1,0 +1,17 @@
+-- `steps::generator::following` meets its contract. Assumes nothing.
+use mathlib.Core.Path.{refl}
+use borrow.Author.Needs.{needs}
+use Rattle.steps.proofs.generator.following.Statement.{statement}
+use Rattle.steps.proofs.generator.following.Tie as tie
+
+mul-result : tie.Need-mul-result
+mul-result c = search needs
+
+add-result : tie.Need-add-result
+add-result c = search needs
+
+returns : tie.Need-returns
+returns c = refl
+
+pub following-spec : {M : Type 1} → statement M
+following-spec = tie.close (tie.spec mul-result add-result returns)
