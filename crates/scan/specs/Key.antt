@@ -12,9 +12,10 @@ kept p = min (length p) 7
 abbrev pub ones : ℕ → ℕ
 ones k = 2 ^ (8 * k) - 1
 
--- the length byte and the bytes kept
+-- the mask of the cell of a name: the length byte and the bytes kept
 unfoldable pub maskOf : List ℕ → ℕ
 maskOf p = ones (kept p + 1)
 
+-- the cell of a name under that mask, as a number: the length in the lowest byte, then the bytes kept (R45)
 unfoldable pub wordOf : List ℕ → ℕ
 wordOf p = length p % 256 + 256 * get (kept p) p (length p - 7)
