@@ -8,16 +8,17 @@ use Rattle.rules.specs.Numbers.{maxIno, convert, DONE, INODE}
 use Rattle.inode.specs.declared.Converted.{Converted}
 use Rattle.inode.specs.declared.Converted.the-variants.{Full, Inode}
 
--- the full number, or none
+-- the full number, or none (R7)
 unfoldable pub fullOf : Converted → Option ℕ
 fullOf (Full x) = some (x .0)
 fullOf Inode = none
 
--- the number of the answer
+-- the number of the answer (R7, R15)
 unfoldable pub codeOf : Converted → ℕ
 codeOf (Full x) = DONE
 codeOf Inode = INODE
 
+-- the answer to an index and a number: the full number, or INODE exactly if the number is above 2^56 − 1 (R7)
 pub record Converts (index number : ℕ) (r : Converted) : Type 0 where
   pub full : fullOf r ≡ convert index number
   pub code : codeOf r ≡ cond (ltb maxIno number) INODE DONE

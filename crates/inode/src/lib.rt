@@ -19,6 +19,7 @@ pub enum Converted {
     Inode,
 }
 
+// The index stands above so many bits (R6).
 pub const VFS_INDEX_SHIFT: u64 = 56;
 
 // The full number of an index and a number (R6, R7).
