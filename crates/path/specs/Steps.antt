@@ -14,6 +14,7 @@ part s at n = take n (drop at s)
 abbrev pub between : List ℕ → ℕ → ℕ → List ℕ
 between s at end = part s at (end - at)
 
+-- the length of the first of the parts
 abbrev pub firstLength : List (List ℕ) → ℕ
 firstLength [] = 0
 firstLength (p ∷ ps) = length p
@@ -26,10 +27,11 @@ partLength sep s = firstLength (partsBy sep s)
 unfoldable pub partEnd : ℕ → List ℕ → ℕ → ℕ
 partEnd sep s at = at + partLength sep (drop at s)
 
--- between slashes
+-- of a part between slashes
 abbrev pub wordLength : List ℕ → ℕ
 wordLength s = partLength slash s
 
+-- and where it ends
 abbrev pub wordEnd : List ℕ → ℕ → ℕ
 wordEnd path at = partEnd slash path at
 
@@ -43,12 +45,13 @@ stepOf (parent at ∷ ps) = Parent at (at + 2)
 unfoldable pub nextAt : List ℕ → ℕ → Component
 nextAt path at = stepOf (components at (drop at path))
 
--- the components that at most k steps yield, from a place on
+-- the component of a step, and then more from the place behind it; at the end there is none
 abbrev pub onStep : Component → List ℕ → (ℕ → List Part) → List Part
 onStep End path more = []
 onStep (Parent start next) path more = parent start ∷ more next
 onStep (Name start n next) path more = name start (part path start n) ∷ more next
 
+-- the components that at most k steps yield, from a place on
 abbrev pub stepped : ℕ → List ℕ → ℕ → List Part
 stepped zero path at = []
 stepped (suc k) path at = onStep (nextAt path at) path (λ (next : ℕ). stepped k path next)

@@ -9,6 +9,7 @@ ghost use lib.ListN.{length};
 ghost use Rattle.rules.specs.Path.{sorted, rooted};
 ghost use Rattle.path.specs.Steps.{between, partEnd, wordEnd, stepOf, nextAt};
 
+// A component with the place where it starts and the place behind it, or the end of the path (R37).
 pub enum Component {
     Name {
         start: usize,

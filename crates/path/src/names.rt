@@ -4,12 +4,13 @@ ghost use Rattle.rules.specs.Bytes.{holds};
 ghost use Rattle.rules.specs.Path.{isDot, isDots};
 ghost use Rattle.path.specs.Checks.{code, checkCode};
 
+// What the component check answers (R61).
 pub enum Checked {
     Done,
     Inval,
 }
 
-// Whether the name is `.` (R37).
+// Whether the name is `.` (R37, R58, R61).
 pub fn is_dot(name: &[u8]) -> bool
     ensures { λ r. ⌜ r ≡ isDot (now (name .entry)) ⌝ }
 {
@@ -19,7 +20,7 @@ pub fn is_dot(name: &[u8]) -> bool
     name[0] == b'.'
 }
 
-// Whether the name is `..` (R37).
+// Whether the name is `..` (R37, R58, R61).
 pub fn is_dots(name: &[u8]) -> bool
     ensures { λ r. ⌜ r ≡ isDots (now (name .entry)) ⌝ }
 {
