@@ -10,6 +10,7 @@ pub struct IdMapping {
     pub range: u32,
 }
 
+// The largest id (R30).
 const MAX_ID: u64 = 4294967295;
 
 // Out: an id in the internal range moves to the external one, any other stays (R113, R115, R117).
