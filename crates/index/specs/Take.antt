@@ -29,17 +29,18 @@ abbrev pub putAt : Option ℕ → List ℕ → ℕ → List ℕ
 putAt (some i) column v = set column i v
 putAt none column v = column
 
--- the slot found is held, with the tag
+-- the slot found is held, with the tag (R90)
 abbrev pub takenOf : FsIndexes → ℕ → Told → Taken
 takenOf t tag a = record {
   step = record { code = a .code; index = indexFor (a .found); count = a .count };
   table = tableOf (putAt (a .found) (t .used) 1) (putAt (a .found) (t .tags) tag) (a .counter);
 }
 
+-- by the search of the rules over these slots, from the counter on (R80 to R84, R90)
 unfoldable pub takeRule : FsIndexes → ℕ → Taken
 takeRule t tag = takenOf t tag (told (allocate (heldIn (t .used)) (t .«next_super»)))
 
--- the same where slots and counter are lent: the answer, and what the host finds after
+-- the same where slots and counter are lent: the answer, and what the host finds after (R90, R177)
 pub record Steps (before : FsIndexes) (tag : ℕ) (r : Step) (after : FsIndexes) : Type 0 where
   pub answer : r ≡ takeRule before tag .step
   pub table : after ≡ takeRule before tag .table

@@ -36,10 +36,13 @@ pub struct Step {
     pub count: u32,
 }
 
+// The occupancy byte of an empty slot (R56).
 const EMPTY: u8 = 0;
 
+// The occupancy byte of a slot that is taken; any other but 0 means held too (R56).
 const HELD: u8 = 1;
 
+// The tag of an empty slot (R31, R56).
 const NO_TAG: u32 = 0;
 
 // A new instance's: 256 empty slots, and counter 1 (R31).
