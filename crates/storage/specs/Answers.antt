@@ -14,28 +14,35 @@ use Rattle.storage.specs.declared.OptionsOf.the-variants.{Options as Opt
 
 -- ---- the rules of the three calls
 
+-- the setting of `remove_pseudo_root` (R32)
 abbrev pub removeCall : Instance → Outcome
 removeCall i = rule i set-remove-pseudo-root
 
+-- the query of `initialized` (R33)
 abbrev pub initializedCall : Instance → Outcome
 initializedCall i = rule i initialized
 
+-- the query of the options (R33)
 abbrev pub optionsCall : Instance → Outcome
 optionsCall i = rule i options
 
 -- ---- number and values of each answer
 
+-- of the setting (R32)
 unfoldable pub removalTold : Removal → Told
 removalTold Done = record { code = 0; answer = nothing; count = 0 }
 removalTold RemovalSmall = toldSmall
 
+-- of the query of `initialized` (R33, R134)
 unfoldable pub initializedTold : IsInitialized → Told
 initializedTold (Is b) = record { code = 0; answer = truth b; count = 0 }
 initializedTold InitializedSmall = toldSmall
 
+-- the options that the struct stands for (R27)
 abbrev pub optionsIn : VfsOptions → Options
 optionsIn o = record { inOpts = o .«in_opts»; outOpts = o .«out_opts»; mapping = mappingOf (o .mapping); flags = o .flags }
 
+-- of the query of the options (R27, R34)
 unfoldable pub optionsTold : OptionsOf → Told
 optionsTold (OptionsAre o) = record { code = 0; answer = settings (optionsIn o); count = 0 }
 optionsTold OptionsSmall = toldSmall

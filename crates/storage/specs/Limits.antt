@@ -21,30 +21,42 @@ Widths [] vs = 0 ≤ 0
 Widths (c ∷ cs) [] = 0 ≤ 0
 Widths (c ∷ cs) (v ∷ vs) = (v < 256 ^ c .width) × Widths cs vs
 
+-- ---- each number within its cell
+
+-- of a mapping (R27)
 abbrev pub MappingFits : Mapping → Type 0
 MappingFits m = (m .internal < 2 ^ 32) × (m .external < 2 ^ 32) × (m .range < 2 ^ 32)
 
+-- of the mask and the mapping in force (R26)
 abbrev pub FixedFits : Fixed → Type 0
 FixedFits f = (f .known < 2 ^ 64) × MappingFits (f .mapping)
 
+-- of the options (R27)
 abbrev pub OptionsFit : Options → Type 0
 OptionsFit o = (o .inOpts < 2 ^ 64) × (o .outOpts < 2 ^ 64) × MappingFits (o .mapping)
 
+-- of the tags (R3)
 abbrev pub SlotsFit : List Slot → Type 0
 SlotsFit [] = 0 ≤ 0
 SlotsFit (s ∷ ss) = (s .tag < 2 ^ 32) × SlotsFit ss
 
+-- of a mount, where there is one: its index is not 0 (R3, R5, R11)
 abbrev pub MountFits : Option Mount → Type 0
 MountFits none = 0 ≤ 0
 MountFits (some m) = (1 ≤ m .index) × (m .index ≤ 255) × (m .root < 2 ^ 56) × (m .uid < 2 ^ 32) × (m .gid < 2 ^ 32) × (m .mode < 2 ^ 32)
 
+-- of a node (R5, R10)
 abbrev pub NodeFits : Node → Type 0
 NodeFits n = (n .number < 2 ^ 56) × (n .above < 2 ^ 56) × (length (n .called) ≤ 255) × Bytes (n .called) × MountFits (n .mount)
 
+-- of every node
 abbrev pub NodesFit : List Node → Type 0
 NodesFit [] = 0 ≤ 0
 NodesFit (n ∷ ns) = NodeFits n × NodesFit ns
 
+-- ---- the instances, and their bytes
+
+-- an instance that bytes can stand for
 pub record Limits (i : Instance) : Type 0 where
   -- what the layout rule asks (R9, R20, R22)
   pub some-node : 1 ≤ i .fixed .capacity

@@ -24,13 +24,13 @@ pub enum Created {
     BadMap,
 }
 
-// The answer of a call that only does its work.
+// The answer of the setting of `remove_pseudo_root` (R32).
 pub enum Removal {
     Done,
     Small,
 }
 
-// Whether the instance is initialized.
+// Whether the instance is initialized (R33).
 pub enum IsInitialized {
     Is(bool),
     Small,
@@ -44,7 +44,7 @@ pub struct VfsOptions {
     pub flags: u8,
 }
 
-// The options of an instance.
+// The options of an instance (R33).
 pub enum OptionsOf {
     Options(VfsOptions),
     Small,
@@ -53,21 +53,25 @@ pub enum OptionsOf {
 // The bytes `GALDOVAR`.
 const MARK: u64 = 5927113483044536647;
 
+// What every storage has before its node table: header, slots and free bytes (R20).
 const HEADER: usize = 8192;
 
+// The largest N (R9).
 const MAX_NODES: u64 = 1024;
 
 // The first number that a new instance gives (R12).
 const FIRST: u64 = 2;
 
-// The largest that the next number may become (R67).
+// The largest that the next number may become (R22, R67).
 const TOP: u64 = 0x0100_0000_0000_0000;
 
+// The flags are below this (R29, R122).
 const FLAGS: u8 = 64;
 
+// Where the column of tags stands.
 const TAGS: usize = 512;
 
-// Whether the option bits are within the mask, the flags within theirs, and the mapping in force passes its test.
+// Whether the option bits are within the mask, the flags within theirs, and the mapping in force passes its test (R22).
 fn settings_fit(known: u64, in_opts: u64, out_opts: u64, flags: u8, m: id_map::IdMapping) -> bool
     ensures { λ r. ⌜ r ≡ settingsFit known «in_opts» «out_opts» flags (mappingOf m) ⌝ }
 {
@@ -80,7 +84,7 @@ fn settings_fit(known: u64, in_opts: u64, out_opts: u64, flags: u8, m: id_map::I
     !id_map::is_bad(m)
 }
 
-// Whether the bytes keep the layout rule: tests of the header alone (R20, R22).
+// Whether the bytes keep the layout rule: tests of the header alone (R20, R21, R22).
 pub fn is_laid(s: &[u8]) -> bool
     ensures { λ r. ⌜ r ≡ laid (now (s .entry)) ⌝ }
 {
@@ -130,6 +134,7 @@ fn is_small(bytes: usize, n: usize) -> bool
     bytes < 512 * n + 8192
 }
 
+// The tags, one behind the other in their column.
 fn put_tags(s: &mut [u8], tags: &[u32])
     requires { ⌜ 512 + 4 * length (now tags) ≤ length (now s) ⌝ }
     ensures { λ _. ⌜ now (s .exit) ≡ write (now (s .entry)) 512 (tagBytes (now (tags .entry))) ⌝ }
@@ -165,6 +170,7 @@ fn put_words(s: &mut [u8], n: u64, known: u64, in_opts: u64, out_opts: u64)
     le::fields::put_u64(s, 48, out_opts);
 }
 
+// A mapping at a place: internal, external, range.
 fn put_mapping(s: &mut [u8], at: usize, m: id_map::IdMapping)
     requires { ⌜ at + 12 ≤ length (now s) ⌝ }
     ensures { λ _. ⌜ now (s .exit) ≡ put 4 (put 4 (put 4 (now (s .entry)) at (m .internal)) (at + 4) (m .external)) (at + 8) (m .range) ⌝ }
