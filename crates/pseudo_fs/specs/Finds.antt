@@ -17,7 +17,7 @@ outcomeOf mounts i (FindingNode y) = entryOf i y (mounts y)
 outcomeOf mounts i NoEnt = refused NOENT i
 outcomeOf mounts i Inval = refused INVAL i
 
--- the node of a number, or none
+-- the node of that number, or NOENT where there is none
 unfoldable pub findingOf : Option ℕ → Finding
 findingOf none = NoEnt
 findingOf (some y) = FindingNode y
