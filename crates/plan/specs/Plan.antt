@@ -21,6 +21,7 @@ pub record Columns : Type 0 where
   pub starts : List ℕ
   pub lens : List ℕ
 
+-- of three lists
 abbrev pub columns : List ℕ → List ℕ → List ℕ → Columns
 columns a b c = record { made = a; starts = b; lens = c }
 
@@ -62,6 +63,7 @@ unfoldable pub told : List ℕ → ℕ → Columns → Planned → Option Made
 told path next t (Fits node count) = some (record { nodes = plannedFrom path next t 0 count; here = node })
 told path next t NoRoom = none
 
+-- how many nodes the answer tells
 abbrev pub sizeOf : Planned → ℕ
 sizeOf (Fits node count) = count
 sizeOf NoRoom = 0
@@ -70,6 +72,7 @@ sizeOf NoRoom = 0
 unfoldable pub fitting : Instance → List ℕ → Option Made
 fitting i path = cond (noRoom i path) none (some (planned (i .tree) path))
 
+-- the plan of a path: by the rules, with every planned name within the path (R48, R50, R67)
 pub record Plans (mem path : List ℕ) (t : Columns) (r : Planned) : Type 0 where
   pub answer : told path (nextOf mem) t r ≡ fitting (view mem) path
   pub named : Within path t (sizeOf r)

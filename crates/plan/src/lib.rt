@@ -26,7 +26,7 @@ pub enum Planned {
 // Node numbers are below this (R5).
 const NUMBERS: u64 = 0x0100_0000_0000_0000;
 
-// A number of a column, with its range.
+// A number of a column: as an answer it is known to have 64 bits.
 fn word(x: u64) -> u64
     ensures { λ r. ⌜ r ≡ x ⌝ }
 {
