@@ -59,7 +59,7 @@ pub enum Remapped {
     Small,
 }
 
-// The backend of an index, or NOENT where its slot is empty.
+// The backend of an index, or NOENT where its slot is empty (R105, R106).
 fn route_tag(s: &[u8], index: u8, number: u64) -> Routed
     requires { ⌜ laid (now s) ≡ true ⌝ }
     ensures { λ r. ⌜ routedTold r ≡ toldBy (routeTag (view (now (s .entry))) index number (tagOf (view (now (s .entry))) index)) ⌝ }
@@ -95,7 +95,7 @@ pub fn route(s: &[u8], x: VfsInode) -> Routed
     }
 }
 
-// Tag and index of a mount, or NOTFOUND where its slot is empty.
+// Tag and index of a mount, or NOTFOUND where its slot is empty (R103).
 fn root_held(s: &[u8], index: u8) -> Rootfs
     requires { ⌜ laid (now s) ≡ true ⌝ }
     ensures { λ r. ⌜ rootfsTold r ≡ toldBy (rootHeld (view (now (s .entry))) index (tagOf (view (now (s .entry))) index)) ⌝ }
@@ -180,7 +180,7 @@ fn root_entry(s: &[u8], m: MountPoint) -> Entry
     }
 }
 
-// In a directory by a name: the root entry of the mount on what is found, by `.` and `..` too, or its pseudo entry (R108, R109, R110, R111).
+// In a directory by a name, the Rust's lookup_pseudo: the root entry of the mount on what is found, by `.` and `..` too, or its pseudo entry (R57 to R60, R108 to R111).
 pub fn lookup(s: &[u8], parent: NodeNumber, name: &[u8]) -> Looked
     ensures { λ r. ⌜ lookedTold r ≡ answeredBy (now (s .entry)) (λ (i : Instance). lookupRule i (parent .0) (now (name .entry))) ⌝ }
 {
