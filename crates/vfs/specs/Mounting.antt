@@ -31,6 +31,7 @@ use Rattle.vfs.specs.declared.mounting.Mounted.the-variants.{Done, TooLo
 abbrev pub requestOf : List ℕ → Backend → Request
 requestOf path b = record { path = path; tag = b .tag; root = b .root .0; largest = b .max; uid = b .uid; gid = b .gid; mode = b .mode }
 
+-- a refusal with its count (R16, R79)
 abbrev pub counted : ℕ → ℕ → Told
 counted code n = record { code = code; answer = nothing; count = n }
 
@@ -109,10 +110,12 @@ pub record Allocates (mem : List ℕ) (a : Allocated) (after : List ℕ) : Type 
   pub stands : view after ≡ stepped (view mem)
   pub keeps : laid after ≡ true
 
+-- FULL where the allocation finds none, else INVAL (R72, R73)
 abbrev pub byFound : Option ℕ → ℕ
 byFound none = FULL
 byFound (some k) = INVAL
 
+-- rows 5 and 6, of a path without leading slash: the counter has moved (R72, R73)
 pub record Unrooted (mem : List ℕ) (r : Mounted) (after : List ℕ) : Type 0 where
   pub told : mountedTold r ≡ counted (byFound (allocation (view mem) .found)) (length (allocation (view mem) .visits))
   pub bytes : after ≡ allocMem mem
@@ -123,6 +126,7 @@ pub record Unrooted (mem : List ℕ) (r : Mounted) (after : List ℕ) : Type 0 w
 abbrev pub rootedRule : Instance → Request → Outcome
 rootedRule i r = cond (noRoom i (r .path)) (refused NOROOM i) (mountAs i r (allocation i .found))
 
+-- an outcome told, and the bytes after: exactly these, which stand for what it leaves and keep the layout rule
 pub record Follows (o : Outcome) (exact : List ℕ) (t : Told) (after : List ℕ) : Type 0 where
   pub told : t ≡ toldBy o
   pub bytes : after ≡ exact

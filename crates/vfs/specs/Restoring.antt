@@ -39,6 +39,7 @@ restoredRule i k r =
     cond (noRoom i (r .path)) (refused NOROOM i) (cond (ltb maxIno (r .root)) (refused INODE (walkedTo (r .path) i))
     (says (restored (tagAt (mountThere i (r .path)) i) (tagOf (freed (mountThere i (r .path)) i) k)) (placed k r (ended i (r .path)) (walkedTo (r .path) i))))
 
+-- and the bytes after them
 unfoldable pub restoredMem : ℕ → Request → List ℕ → List ℕ
 restoredMem k r mem = cond (noRoom (view mem) (r .path)) mem (plannedMem k r mem)
 

@@ -29,6 +29,7 @@ unfoldable pub Run : List ℕ → List Step → Type 0
 Run mem [] = Unit {0}
 Run mem (s ∷ ss) = (s .before ≡ mem) × (Allowed s × Run (s .after) ss)
 
+-- the calls of the steps
 unfoldable pub callsOf : List Step → List Call
 callsOf [] = []
 callsOf (s ∷ ss) = s .call ∷ callsOf ss

@@ -17,6 +17,7 @@ use Rattle.placing.specs.Place.{takeOffMem}
 use Rattle.vfs.specs.declared.unmounting.Unmounted.{Unmounted}
 use Rattle.vfs.specs.declared.unmounting.Unmounted.the-variants.{Done, NotFound, Inval, Small}
 
+-- refused, with no values (R16)
 abbrev pub refusal : ℕ → Told
 refusal code = record { code = code; answer = nothing; count = 0 }
 
@@ -38,7 +39,7 @@ unfoldable pub unmountMem : List ℕ → List ℕ → List ℕ
 unmountMem path mem =
     cond (laid mem) (cond (badPath path) mem (offMem (reached (view mem) path) (mountUnder (view mem) (reached (view mem) path)) mem)) mem
 
--- of the node x
+-- the unmount of the node x, as it is told, and the bytes after (R96 to R100)
 pub record Unmounts (mem : List ℕ) (x : ℕ) (r : Unmounted) (after : List ℕ) : Type 0 where
   pub told : unmountedTold r ≡ toldBy (unmountAt (view mem) (some x) (mountOf (view mem .tree) x))
   pub bytes : after ≡ offMem (some x) (mountOf (view mem .tree) x) mem

@@ -9,7 +9,7 @@ use crate::backend::Backend;
 use placing::Tags;
 use tables::mounts::MountPoint;
 
-// The mount on the node x: the tag found there, and the tag then still in the slot (R75, R93).
+// The mount on the node x: the tag found there, and the tag then still in the slot (R76, R78, R93).
 pub fn finish(s: &mut [u8], k: u8, x: u64, b: Backend) -> Tags
     requires { ⌜ laid (now s) ≡ true ⌝ }
     requires { ⌜ 1 ≤ k ⌝ }
