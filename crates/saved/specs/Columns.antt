@@ -14,7 +14,7 @@ use Rattle.saved.specs.Scan.{startOf}
 unfoldable pub keyAt : List ℕ → ℕ → ℕ
 keyAt b at = (nodeAt b at .above + get 8 b (behind b at - 8)) % 2 ^ 64
 
--- a number is the root's or one of the first i
+-- a number is the root's or one of the first i (R129 i)
 unfoldable pub listed : ℕ → List ℕ → ℕ → Bool
 listed x c zero = eqb x rootNumber
 listed x c (suc i) = eqb (getD c i 0) x || listed x c i
@@ -23,6 +23,7 @@ listed x c (suc i) = eqb (getD c i 0) x || listed x c i
 abbrev pub Column : (ℕ → ℕ) → ℕ → List ℕ → Type 0
 Column f k c = (j : ℕ) → j < k → getD c j 0 ≡ f j
 
+-- of the first k records: where each starts, its number, its key
 pub record Columns (b : List ℕ) (k : ℕ) (s n c : List ℕ) : Type 0 where
   pub starts : Column (λ (j : ℕ). startOf b j) k s
   pub numbers : Column (λ (j : ℕ). nodeAt b (startOf b j) .number) k n

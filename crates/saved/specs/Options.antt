@@ -2,6 +2,7 @@
 use Rattle.rules.specs.Instance.{Options}
 use Rattle.saved.specs.declared.inner.SavedOptions.{SavedOptions}
 
+-- the same numbers (R121)
 abbrev pub meant : SavedOptions → Options
 meant o = record {
   inOpts = o .«in_opts»;

@@ -20,7 +20,7 @@ unfoldable pub earlier : List ℕ → ℕ → List Entry
 earlier b zero = []
 earlier b (suc i) = nodeAt b (startOf b i) ∷ earlier b i
 
--- of the last 56 bytes
+-- of the length and the last 56 bytes (R129 a, b, d, e, f, h)
 unfoldable pub framed : List ℕ → Bool
 framed b =
     every
@@ -34,26 +34,28 @@ framed b =
     ∷ leb (nextOf b) topNumber
     ∷ [])
 
--- of one record, behind one with the number `last`
+-- of one record, behind one with the number `last` (R129 g, h, j)
 unfoldable pub sound : ℕ → ℕ → Entry → Bool
 sound next last n = every (ltb last (n .number) ∷ ltb (n .number) next ∷ goodName (n .called) ∷ [])
 
+-- of each record, behind the one before it
 unfoldable pub allSound : ℕ → ℕ → List Entry → Bool
 allSound next last [] = true
 allSound next last (n ∷ ns) = sound next last n && allSound next (n .number) ns
 
--- the k records from a place on end at another, and are sound
+-- the k records from a place on end at another, and are sound (R129 c, g, h, j)
 unfoldable pub soundTo : List ℕ → ℕ → ℕ → ℕ → ℕ → ℕ → Bool
 soundTo b next to k at last = every (eqb (endAt b k at) to ∷ allSound next last (nodesAt b k at) ∷ [])
 
--- one parent, equal names
+-- one parent, equal names (R129 k)
 unfoldable pub twin : Entry → Entry → Bool
 twin m n = eqb (m .above) (n .above) && same (m .called) (n .called)
 
--- of a record and those before it
+-- of a record and those before it (R129 i, k)
 unfoldable pub placed : List Entry → Entry → Bool
 placed before n = every (present (n .above) before ∷ not (used (n .above) (n .called) before) ∷ [])
 
+-- of each record and those before it
 unfoldable pub allPlaced : List Entry → List Entry → Bool
 allPlaced before [] = true
 allPlaced before (n ∷ ns) = placed before n && allPlaced (n ∷ before) ns

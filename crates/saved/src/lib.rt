@@ -2,7 +2,7 @@
 // of the first 1,023 records, and by scans of the bytes beyond them.
 ghost use mathlib.Core.Path.{_≡_};
 ghost use mathlib.Core.List.{[]};
-ghost use Prim.Native.Nat.{_+_, _≤_};
+ghost use Prim.Native.Nat.{_≤_};
 ghost use lib.ListN.{length};
 ghost use Rattle.rules.specs.Saved.{nodeAt, nodesAt, behind, goodName, used, accepted};
 ghost use Rattle.saved.specs.Scan.{startOf, earlier, sound, placed, allPlaced, framed, soundTo, twin};
