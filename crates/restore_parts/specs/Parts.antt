@@ -18,16 +18,18 @@ pub record Loads (e : Entry) : Type 0 where
   pub above : e .above < 2 ^ 56
   pub short : length (e .called) ≤ 255
 
--- its number becomes the next one, and the row is appended
+-- its number becomes the next one, and the row is appended (R134)
 unfoldable pub loadNode : Entry → List ℕ → List ℕ
 loadNode e mem = appendNode (e .above) (e .called) (setNext (e .number) mem)
 
+-- one after another
 unfoldable pub loadNodes : List Entry → List ℕ → List ℕ
 loadNodes [] mem = mem
 loadNodes (e ∷ es) mem = loadNodes es (loadNode e mem)
 
 -- ---- the header: a cell without bytes stays
 
+-- a bit is set
 abbrev pub hasBits : ℕ → Bool
 hasBits bits = not (eqb bits 0)
 
@@ -45,14 +47,16 @@ optionCells o =
     ∷ bytesOf 1 (o .flags)
     ∷ []
 
+-- the options are the state's, with their own mapping (R34, R134)
 unfoldable pub setOptions : Options → List ℕ → List ℕ
 setOptions o mem = putHeader 5 (optionCells o) mem
 
--- next number, options, counter, and whether in_opts has a bit; mask, mapping in force and remove flag stand between
+-- next number, options, counter, and whether in_opts has a bit; mask, mapping in force and remove flag stand between (R134)
 unfoldable pub setState : ℕ → ℕ → Options → List ℕ → List ℕ
 setState next counter o mem = putHeader 14 (bytesOf 1 counter ∷ [] ∷ bytesOf 1 (heldByte (hasBits (o .inOpts))) ∷ []) (setOptions o (setNext next mem))
 
 -- ---- both
+
 -- the records behind the rows that stand, and then the header
 unfoldable pub stateMem : State → List ℕ → List ℕ
 stateMem s mem = setState (s .next) (s .counter) (s .options) (loadNodes (s .nodes) mem)
