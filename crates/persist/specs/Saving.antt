@@ -38,6 +38,7 @@ pub record Holds (mem d : List ℕ) (n : ℕ) (e : List ℕ) : Type 0 where
   pub count : n ≡ length (encode (saved (view mem)))
   pub bytes : e ≡ encode (saved (view mem)) ++ drop n d
 
+-- so it is after every done save (R125)
 abbrev pub DoneHolds : Type 0
 DoneHolds = (mem d : List ℕ) (n : ℕ) (e : List ℕ) → Saves mem d (Wrote n) e → Holds mem d n e
 
