@@ -16,7 +16,7 @@ use Rattle.line.specs.declared.forms.Request.the-variants.{Numbers, Bad}
 abbrev pub fieldEnd : List ℕ → ℕ → ℕ
 fieldEnd s at = partEnd space s at
 
--- a field's end is behind its start and within the line
+-- the end of a field: not before its start, and within the line
 pub record Ends (s : List ℕ) (at r : ℕ) : Type 0 where
   pub end : r ≡ fieldEnd s at
   pub from : at ≤ r
@@ -26,13 +26,15 @@ pub record Ends (s : List ℕ) (at r : ℕ) : Type 0 where
 unfoldable pub formed : List (List ℕ) → Option Line
 formed ws = cond (anyEmpty ws) none (lineOf ws)
 
--- by the places of its spaces
+-- a line of two fields, by the place of its space
 unfoldable pub twoAt : List ℕ → ℕ → Option Line
 twoAt s a = formed (between s 0 a ∷ between s (a + 1) (length s) ∷ [])
 
+-- of three
 unfoldable pub threeAt : List ℕ → ℕ → ℕ → Option Line
 threeAt s a b = formed (between s 0 a ∷ between s (a + 1) b ∷ between s (b + 1) (length s) ∷ [])
 
+-- of five
 unfoldable pub fiveAt : List ℕ → ℕ → ℕ → ℕ → ℕ → Option Line
 fiveAt s a b c d = formed (between s 0 a ∷ between s (a + 1) b ∷ between s (b + 1) c ∷ between s (c + 1) d ∷ between s (d + 1) (length s) ∷ [])
 

@@ -1,4 +1,4 @@
-// One line of a session, answered on an instance in lent bytes. Every function asks for room in the lent output, as those of `le` do.
+// One line of a session, answered on an instance in lent bytes. The functions that lay a text ask for room in the lent output.
 ghost use Prim.Native.Nat.{_+_, _≤_, _<_};
 ghost use lib.ListN.{length};
 ghost use Rattle.line_calls.specs.Answered.{Answered};
