@@ -42,7 +42,7 @@ unfoldable pub fed : (S : Type 0) → Answers S → ℕ → List ℕ → Going S
 fed S a room [] g = g
 fed S a room (b ∷ bs) g = cond (ltb (room - length (g .text)) 64) g (fed S a room bs (step S a b g))
 
--- the carry has room for a line, and the number kept in it is one
+-- the carry has room for a line, and the number kept is at most 8,193, which says that the line is over the limit (R150)
 unfoldable pub accepts : List ℕ → ℕ → Bool
 accepts carry kept = leb 8192 (length carry) && leb kept 8193
 
@@ -50,6 +50,7 @@ accepts carry kept = leb 8192 (length carry) && leb kept 8193
 unfoldable pub goes : (S : Type 0) → Answers S → S → List ℕ → ℕ → List ℕ → ℕ → Going S
 goes S a s carry kept piece room = cond (accepts carry kept) (fed S a room piece (start S s carry kept)) (start S s carry kept)
 
+-- what is answered: the bytes used, the bytes written, and those kept of a begun line
 unfoldable pub went : (S : Type 0) → Going S → Fed
 went S g = Went (g .used) (length (g .text)) (g .kept)
 
@@ -73,10 +74,11 @@ pub record Feeds (mem carry : List ℕ) (kept : ℕ) (piece out : List ℕ) (r :
 unfoldable pub lastText : (S : Type 0) → Answers S → S → List ℕ → ℕ → List ℕ
 lastText S a s carry kept = cond (eqb kept 0) [] (endText S a s carry kept)
 
+-- and what it leaves
 unfoldable pub lastNext : (S : Type 0) → Answers S → S → List ℕ → ℕ → S
 lastNext S a s carry kept = cond (eqb kept 0) s (endNext S a s carry kept)
 
--- and the output has room for a line
+-- the carry is accepted, and the output has room for a line
 unfoldable pub finishes : List ℕ → ℕ → ℕ → Bool
 finishes carry kept room = accepts carry kept && leb 64 room
 

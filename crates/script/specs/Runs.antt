@@ -12,15 +12,19 @@ use Rattle.script.specs.declared.Fed.{Fed}
 use Rattle.script.specs.declared.Fed.the-variants.{Went, Refused}
 use Rattle.script.specs.declared.Finished.the-variants.{Done}
 
--- the numbers of an answer; a refusal uses nothing, writes nothing, and keeps what was kept
+-- ---- the numbers of an answer: a refusal uses nothing, writes nothing, and keeps what was kept
+
+-- how many bytes of the piece were used
 unfoldable pub usedIn : Fed → ℕ
 usedIn (Went u w k) = u
 usedIn Refused = 0
 
+-- how many bytes were written
 unfoldable pub wroteIn : Fed → ℕ
 wroteIn (Went u w k) = w
 wroteIn Refused = 0
 
+-- how many bytes of a begun line are kept
 unfoldable pub keptIn : ℕ → Fed → ℕ
 keptIn kept (Went u w k) = k
 keptIn kept Refused = kept
@@ -62,6 +66,7 @@ pub record WholeOf (input mem : List ℕ) (ss : List Feed) (f : Finish) : Type 0
   pub stands : view (f .after) ≡ session (view mem) input .instance
   pub keeps : laid (f .after) ≡ true
 
+-- of every cutting of every input
 abbrev pub EveryCutting : Type 0
 EveryCutting = (input mem carry : List ℕ) (ss : List Feed) (f : Finish) → laid mem ≡ true → Run input mem carry 0 ss f → WholeOf input mem ss f
 
@@ -70,6 +75,7 @@ pub record Onward (carry : List ℕ) (kept : ℕ) (piece out : List ℕ) (r : Fe
   pub most : usedIn r ≤ length piece
   pub least : accepts carry kept ≡ true → 1 ≤ length piece → 64 ≤ length out → 1 ≤ usedIn r
 
+-- of every feed
 abbrev pub EveryFeed : Type 0
 EveryFeed = (mem carry : List ℕ) (kept : ℕ) (piece out : List ℕ) (r : Fed) (after carried left : List ℕ)
     → Feeds mem carry kept piece out r after carried left → Onward carry kept piece out r

@@ -44,6 +44,7 @@ endNext S a s carry kept = cond (ltb 8192 kept) s (a .next s (take kept carry))
 unfoldable pub byteText : (S : Type 0) → Answers S → S → List ℕ → ℕ → ℕ → List ℕ
 byteText S a s carry kept b = cond (eqb b lineEnd) (endText S a s carry kept) []
 
+-- what is left
 unfoldable pub byteNext : (S : Type 0) → Answers S → S → List ℕ → ℕ → ℕ → S
 byteNext S a s carry kept b = cond (eqb b lineEnd) (endNext S a s carry kept) s
 
@@ -51,6 +52,7 @@ byteNext S a s carry kept b = cond (eqb b lineEnd) (endNext S a s carry kept) s
 unfoldable pub byteCarry : List ℕ → ℕ → ℕ → List ℕ
 byteCarry carry kept b = cond (eqb b lineEnd) carry (cond (ltb kept 8192) (set carry kept b) carry)
 
+-- how many bytes are kept then; 8,193 says that the line is over the limit (R150)
 unfoldable pub byteKept : ℕ → ℕ → ℕ
 byteKept kept b = cond (eqb b lineEnd) 0 (cond (ltb kept 8192) (kept + 1) 8193)
 
@@ -63,7 +65,7 @@ pub record Ended (mem carry : List ℕ) (kept : ℕ) (was : List ℕ) (at r : �
   pub stands : laid mem ≡ true → view after ≡ endNext Instance byRules (view mem) carry kept
   pub keeps : laid mem ≡ true → laid after ≡ true
 
--- one byte taken
+-- one byte taken: the text, the bytes, the carry and the number kept exactly, what the bytes stand for, and the layout rule kept
 pub record Took (mem carry : List ℕ) (kept b : ℕ) (was : List ℕ) (at : ℕ) (r : Next) (after carried left : List ℕ) : Type 0 where
   pub text : Wrote was at 46 (byteText (List ℕ) byBytes mem carry kept b) (r .at) left
   pub bytes : after ≡ byteNext (List ℕ) byBytes mem carry kept b

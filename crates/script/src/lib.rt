@@ -32,6 +32,7 @@ pub const OVER: usize = 8193;
 // The output must have as much left for one more line.
 const ROOM: usize = 64;
 
+// The byte that ends a line (R151).
 const LINE_END: u8 = 10;
 
 // The begun line is at its end: it is answered, `?` where it is over the limit, with a line end behind it (R137, R150, R151).
