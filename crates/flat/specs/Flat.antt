@@ -27,10 +27,12 @@ abbrev pub has : Option ℕ → ℕ
 has none = 0
 has (some x) = 1
 
+-- the value, or 0 (R16)
 abbrev pub orZero : Option ℕ → ℕ
 orZero none = 0
 orZero (some x) = x
 
+-- 1 or 0
 abbrev pub truthNumber : Bool → ℕ
 truthNumber false = 0
 truthNumber true = 1
@@ -62,15 +64,19 @@ refusal code n = record { code = code; answer = nothing; count = n }
 
 -- ---- answers
 
+-- the number of the answer alone (R15)
 abbrev pub codeNumber : ℕ → CodeAnswer
 codeNumber code = record { code = code }
 
+-- of an answer without values (R15)
 abbrev pub codeNumbers : Told → CodeAnswer
 codeNumbers t = codeNumber (t .code)
 
+-- whether it is initialized (R33)
 abbrev pub initializedNumbers : Told → InitializedAnswer
 initializedNumbers t = record { code = t .code; initialized = value t 0 }
 
+-- the options, with their own mapping (R27, R34)
 abbrev pub optionsNumbers : Told → OptionsAnswer
 optionsNumbers t = record { code = t .code; flags = value t 5; «in_opts» = value t 0; «out_opts» = value t 1; internal = value t 2; external = value t 3; range = value t 4 }
 
@@ -106,6 +112,7 @@ lookupNumbers t = record { code = t .code; mode = value t 1; inode = value t 0; 
 abbrev pub wroteNumbers : Told → WroteAnswer
 wroteNumbers t = record { code = t .code; written = value t 0 }
 
+-- uid and gid (R118)
 abbrev pub idsNumbers : Told → IdsAnswer
 idsNumbers t = record { code = t .code; uid = value t 0; gid = value t 1 }
 
