@@ -8,6 +8,7 @@ ghost use Rattle.path.specs.Steps.{part};
 ghost use Rattle.words.specs.Adler.{adler};
 ghost use Rattle.view_sum.specs.Viewed.{flagOf, mountBytes, slotBytes, nameBytes, rowBytes, pieces, tableBytes};
 
+// Where the node table begins.
 const TABLE: usize = 8192;
 
 // The sum of the tables.
