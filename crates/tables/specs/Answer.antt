@@ -22,40 +22,46 @@ use Rattle.tables.specs.declared.mounts.MountUnder.{MountUnder}
 use Rattle.tables.specs.declared.slots.Tag.{Tag}
 use Rattle.tables.specs.declared.slots.Tag.the-variants.{Held, Empty}
 
+-- a node's number, or none
 unfoldable pub foundIn : Found → Option ℕ
 foundIn (FoundNode x) = some x
 foundIn FoundNothing = none
 
+-- the place of a row, or none
 unfoldable pub rowIn : Row → Option ℕ
 rowIn (At i) = some i
 rowIn RowNothing = none
 
+-- a mount of the rules (R3)
 abbrev pub mountOfPoint : MountPoint → Mount
 mountOfPoint m = record { index = m .«fs_idx»; root = m .ino; uid = m .uid; gid = m .gid; mode = m .mode }
 
+-- a mount, or none
 unfoldable pub mountIn : MountOn → Option Mount
 mountIn (Point m) = some (mountOfPoint m)
 mountIn MountNothing = none
 
--- as the cells spell it
+-- as the cells spell it: `mountFrom`, which stays folded under this name
 unfoldable pub mountFromWord : ℕ → ℕ → ℕ → ℕ → Option Mount
 mountFromWord word uid gid mode = mountFrom word uid gid mode
 
+-- a tag, or none, which is kept apart from tag 0 (R78, R97)
 unfoldable pub tagIn : Tag → Option ℕ
 tagIn (Held t) = some t
 tagIn Empty = none
 
--- whether slot k is held
+-- whether slot k is held (R56)
 abbrev pub heldAt : List ℕ → ℕ → Bool
 heldAt mem k = slotAt mem k .held
 
 -- ---- places
 
+-- one place on
 abbrev pub later : Option ℕ → Option ℕ
 later none = none
 later (some i) = some (suc i)
 
--- the place of the first node of that number
+-- the place of the first node of that number (R53)
 unfoldable pub placeIn : List Node → ℕ → Option ℕ
 placeIn [] x = none
 placeIn (n ∷ ns) x = cond (eqb (n .number) x) (some 0) (later (placeIn ns x))
@@ -68,7 +74,7 @@ rowFor nodes x = cond (eqb x rootNumber) none (placeIn nodes x)
 abbrev pub RowOf : List ℕ → ℕ → Row → Type 0
 RowOf mem x r = rowIn r ≡ rowFor (nodesOf mem) x
 
--- what one search for node x tells: the mount, the parent, the row
+-- what one search for node x tells: the mount, the parent, the row (R52, R54)
 pub record Under (mem : List ℕ) (x : ℕ) (r : MountUnder) : Type 0 where
   pub mount : mountIn (r .on) ≡ mountOf (view mem .tree) x
   pub parent : r .up ≡ parentIn (nodesOf mem) x
@@ -80,14 +86,15 @@ inPlace mem x = not (ltb x 2) && ltb (x - 2) (countOf mem) && eqb (nodeAt (capac
 
 -- ---- writes at a node's number
 
+-- what f makes at the place; where there is none, the bytes as they were
 abbrev pub atPlace : Option ℕ → (ℕ → List ℕ) → List ℕ → List ℕ
 atPlace none f mem = mem
 atPlace (some i) f mem = f i
 
--- the mount of the root, or of the first node of that number
+-- the mount of the root, or of the first node of that number; a number that is no node keeps none (R52, R53, R54)
 unfoldable pub mountMem : List Node → Option Mount → ℕ → List ℕ → List ℕ
 mountMem nodes m x mem = cond (eqb x rootNumber) (setRootMount m mem) (atPlace (placeIn nodes x) (λ (i : ℕ). setRowMount m i mem) mem)
 
--- the first node of that number goes
+-- the first node of that number goes (R53, R100)
 unfoldable pub removeMem : List Node → ℕ → List ℕ → List ℕ
 removeMem nodes x mem = atPlace (placeIn nodes x) (λ (i : ℕ). removeRow i mem) mem

@@ -15,9 +15,11 @@ pub record Told : Type 0 where
   pub answer : Answer
   pub count : ℕ
 
+-- by an outcome
 abbrev pub toldBy : Outcome → Told
 toldBy o = record { code = o .code; answer = o .answer; count = count o }
 
+-- of SMALL (R16, R19)
 abbrev pub toldSmall : Told
 toldSmall = record { code = SMALL; answer = nothing; count = 0 }
 
@@ -29,7 +31,7 @@ answeredBy mem f = cond (laid mem) (toldBy (f (view mem))) toldSmall
 unfoldable pub writtenBy : List ℕ → (Instance → Outcome) → List ℕ
 writtenBy mem f = cond (laid mem) (f (view mem) .written) []
 
--- what a call that writes tells and leaves: the answer; the bytes exactly; they stand for what the rule leaves, and keep the layout rule
+-- what a call that writes tells and leaves: the answer; the bytes exactly; they stand for what the rule leaves, and keep the layout rule (R15, R21)
 pub record Does (mem : List ℕ) (f : Instance → Outcome) (told : Told) (after exact : List ℕ) : Type 0 where
   pub answer : told ≡ answeredBy mem f
   pub bytes : after ≡ exact

@@ -63,19 +63,23 @@ nodeTable n =
 
 -- ---- the header's numbers
 
+-- N (R9)
 abbrev pub capacityOf : List ℕ → ℕ
 capacityOf mem = get 8 mem 8
 
+-- the nodes besides the root (R51)
 abbrev pub countOf : List ℕ → ℕ
 countOf mem = get 8 mem 16
 
+-- the next number (R49)
 abbrev pub nextOf : List ℕ → ℕ
 nextOf mem = get 8 mem 24
 
+-- the counter (R80)
 abbrev pub counterAt : List ℕ → ℕ
 counterAt mem = get 1 mem 81
 
--- ---- where a row's cells are
+-- ---- where the cells of row i are, in a table of N rows
 
 abbrev pub numberAt : ℕ → ℕ → ℕ
 numberAt n i = tableAt + 8 * i

@@ -29,6 +29,7 @@ laidBy h bytes =
     ∷ not (badMapping (mappingFrom 7 h))
     ∷ [])
 
+-- of the bytes (R21)
 unfoldable pub laid : List ℕ → Bool
 laid mem = laidBy (headOf mem) (length mem)
 

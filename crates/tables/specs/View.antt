@@ -1,4 +1,4 @@
--- The instance that bytes stand for. Every bit pattern of a cell is a value, so every bytes that keep the layout rule stand for one.
+-- The instance that bytes stand for. Every bit pattern of a cell is a value, so all bytes that keep the layout rule stand for one.
 use Prim.Native.Nat.{ℕ, _+_, _-_, _/_, _%_, _^_, min}
 use mathlib.Core.Bool.{Bool, cond, not}
 use mathlib.Core.List.{List, [], _∷_, _++_}
@@ -12,10 +12,11 @@ use Rattle.rules.specs.Instance.{Options, Slot, Instance}
 use Rattle.tables.specs.Table.{row, tab}
 use Rattle.tables.specs.Layout.{header, slotTable, nodeTable}
 
--- cell k of a row, and its number
+-- cell k of a row
 abbrev pub cell : ℕ → List (List ℕ) → List ℕ
 cell k cells = getD cells k []
 
+-- the number in it
 abbrev pub field : ℕ → List (List ℕ) → ℕ
 field k cells = value (cell k cells)
 
@@ -23,17 +24,17 @@ field k cells = value (cell k cells)
 abbrev pub flag : ℕ → List (List ℕ) → Bool
 flag k cells = not (eqb (field k cells) 0)
 
--- index × 2^56 + root number; index 0 is no mount, whatever the low bits are
+-- index × 2^56 + root number; index 0 is no mount, whatever the low bits are (R5)
 abbrev pub mountFrom : ℕ → ℕ → ℕ → ℕ → Option Mount
 mountFrom word uid gid mode =
     cond (eqb (word / 2 ^ 56) 0) none (some (record { index = word / 2 ^ 56; root = word % 2 ^ 56; uid = uid; gid = gid; mode = mode }))
 
--- a length and the last seven bytes, and the bytes before those
+-- a length and the last seven bytes, and the bytes before those (R10)
 unfoldable pub nameFrom : List ℕ → List ℕ → List ℕ
 nameFrom [] first = []
 nameFrom (l ∷ last) first = take (l - 7) first ++ take (min l 7) last
 
--- node numbers are read modulo 2^56
+-- a row: node numbers are read modulo 2^56 (R5)
 unfoldable pub nodeFrom : List (List ℕ) → Node
 nodeFrom r = record {
   number = field 0 r % 2 ^ 56;
@@ -42,16 +43,20 @@ nodeFrom r = record {
   mount = mountFrom (field 2 r) (field 4 r) (field 5 r) (field 6 r);
 }
 
+-- a slot (R56)
 unfoldable pub slotFrom : List (List ℕ) → Slot
 slotFrom r = record { held = flag 0 r; tag = field 1 r }
 
+-- the mapping in three fields from the k-th on (R27)
 abbrev pub mappingFrom : ℕ → List (List ℕ) → Mapping
 mappingFrom k h = record { internal = field k h; external = field (k + 1) h; range = field (k + 2) h }
 
+-- the options, with their own mapping (R27, R34)
 abbrev pub optionsFrom : List (List ℕ) → Options
 optionsFrom h = record { inOpts = field 5 h; outOpts = field 6 h; mapping = mappingFrom 10 h; flags = field 13 h }
 
 -- by the header's cells, the slots and the nodes
+-- the instance of a header, slots and nodes
 abbrev pub instanceFrom : List (List ℕ) → List Slot → List Node → Instance
 instanceFrom h slots nodes = record {
   fixed = record { capacity = field 1 h; known = field 4 h; mapping = mappingFrom 7 h };
@@ -64,15 +69,19 @@ instanceFrom h slots nodes = record {
 
 -- ---- of the memory
 
+-- the cells of the header
 abbrev pub headOf : List ℕ → List (List ℕ)
 headOf mem = row header mem 0
 
+-- slot k
 unfoldable pub slotAt : List ℕ → ℕ → Slot
 slotAt mem k = slotFrom (row slotTable mem k)
 
+-- the node of row i, in a table of n rows
 unfoldable pub nodeAt : ℕ → List ℕ → ℕ → Node
 nodeAt n mem i = nodeFrom (row (nodeTable n) mem i)
 
+-- the 256 slots (R31)
 unfoldable pub slotsOf : List ℕ → List Slot
 slotsOf mem = tab (slotAt mem) 0 256
 
@@ -80,8 +89,10 @@ slotsOf mem = tab (slotAt mem) 0 256
 unfoldable pub nodesFrom : ℕ → List ℕ → ℕ → ℕ → List Node
 nodesFrom n mem i k = tab (nodeAt n mem) i k
 
+-- all nodes, in table order (R44)
 unfoldable pub nodesOf : List ℕ → List Node
 nodesOf mem = nodesFrom (field 1 (headOf mem)) mem 0 (field 2 (headOf mem))
 
+-- the instance that the bytes stand for
 unfoldable pub view : List ℕ → Instance
 view mem = instanceFrom (headOf mem) (slotsOf mem) (nodesOf mem)

@@ -15,32 +15,40 @@ use Rattle.tables.specs.Layout.{header, slotTable, nodeTable, capacityOf
 abbrev pub fromPlace : ℕ → List (List ℕ) → List (List ℕ)
 fromPlace k xs = replicate k [] ++ xs
 
+-- written into the header
 unfoldable pub putHeader : ℕ → List (List ℕ) → List ℕ → List ℕ
 putHeader k xs mem = putRow header (fromPlace k xs) mem 0
 
+-- the nodes besides the root
 unfoldable pub setCount : ℕ → List ℕ → List ℕ
 setCount c mem = putHeader 2 (bytesOf 8 c ∷ []) mem
 
+-- the next number
 unfoldable pub setNext : ℕ → List ℕ → List ℕ
 setNext x mem = putHeader 3 (bytesOf 8 x ∷ []) mem
 
+-- the counter
 unfoldable pub setCounter : ℕ → List ℕ → List ℕ
 setCounter c mem = putHeader 14 (bytesOf 1 c ∷ []) mem
 
+-- the remove flag is set (R32)
 unfoldable pub setRemoval : List ℕ → List ℕ
 setRemoval mem = putHeader 15 (bytesOf 1 1 ∷ []) mem
 
 -- ---- a slot
 
+-- a held slot has occupancy 1
 abbrev pub heldByte : Bool → ℕ
 heldByte true = 1
 heldByte false = 0
 
+-- slot k, held or not, with its tag (R56)
 unfoldable pub setSlot : ℕ → Bool → ℕ → List ℕ → List ℕ
 setSlot k held tag mem = putRow slotTable (bytesOf 1 (heldByte held) ∷ bytesOf 4 tag ∷ []) mem k
 
--- ---- a mount: of none, the cell alone
+-- ---- a mount
 
+-- its cell, uid, gid and mode; of none, the cell alone
 abbrev pub mountCells : Option Mount → List (List ℕ)
 mountCells none = bytesOf 8 0 ∷ []
 mountCells (some m) = bytesOf 8 (m .index * 2 ^ 56 + m .root) ∷ bytesOf 4 (m .uid) ∷ bytesOf 4 (m .gid) ∷ bytesOf 4 (m .mode) ∷ []
@@ -51,9 +59,11 @@ rowMountCells none = [] ∷ [] ∷ bytesOf 8 0 ∷ []
 rowMountCells (some m) =
     [] ∷ [] ∷ bytesOf 8 (m .index * 2 ^ 56 + m .root) ∷ [] ∷ bytesOf 4 (m .uid) ∷ bytesOf 4 (m .gid) ∷ bytesOf 4 (m .mode) ∷ []
 
+-- the mount of the root (R76, R98)
 unfoldable pub setRootMount : Option Mount → List ℕ → List ℕ
 setRootMount m mem = putHeader 17 (mountCells m) mem
 
+-- the mount of row i (R76, R98)
 unfoldable pub setRowMount : Option Mount → ℕ → List ℕ → List ℕ
 setRowMount m i mem = putRow (nodeTable (capacityOf mem)) (rowMountCells m) mem i
 
@@ -72,11 +82,11 @@ nodeCells x above p =
     ∷ take (length p - 7) p
     ∷ []
 
--- a new node at the end takes the next number
+-- a new node at the end takes the next number (R48, R49)
 unfoldable pub appendNode : ℕ → List ℕ → List ℕ → List ℕ
 appendNode above p mem =
     setNext (nextOf mem + 1) (setCount (countOf mem + 1) (putRow (nodeTable (capacityOf mem)) (nodeCells (nextOf mem) above p) mem (countOf mem)))
 
--- row i goes, and those behind it close up
+-- row i goes, and those behind it close up (R25, R44)
 unfoldable pub removeRow : ℕ → List ℕ → List ℕ
 removeRow i mem = setCount (countOf mem - 1) (closeUp (nodeTable (capacityOf mem)) mem i (countOf mem - 1 - i))

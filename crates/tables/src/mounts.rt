@@ -25,6 +25,7 @@ pub enum MountOn {
     Nothing,
 }
 
+// A mount cell is the index times this, and the root number (R5).
 const NUMBERS: u64 = 0x0100_0000_0000_0000;
 
 // The mount that a cell and its ids spell: index 0 is none.
@@ -44,7 +45,7 @@ fn spelt(word: u64, uid: u32, gid: u32, mode: u32) -> MountOn
     })
 }
 
-// The mount on the root.
+// The mount on the root (R52).
 pub fn of_root(s: &[u8]) -> MountOn
     requires { ⌜ Laid (now s) ⌝ }
     ensures { λ r. ⌜ mountIn r ≡ view (now (s .entry)) .tree .root ⌝ }
@@ -57,7 +58,7 @@ pub fn of_root(s: &[u8]) -> MountOn
     )
 }
 
-// The mount of row i.
+// The mount of row i (R76).
 pub fn of_row(s: &[u8], i: usize) -> MountOn
     requires { ⌜ Laid (now s) ⌝ }
     requires { ⌜ i < countOf (now s) ⌝ }
@@ -119,6 +120,7 @@ pub fn under_parent(s: &[u8], x: u64) -> MountUnder
     }
 }
 
+// The root has that mount.
 fn put_root(s: &mut [u8], m: MountPoint)
     requires { ⌜ Laid (now s) ⌝ }
     requires { ⌜ m .ino < 2 ^ 56 ⌝ }
@@ -131,6 +133,7 @@ fn put_root(s: &mut [u8], m: MountPoint)
     le::fields::put_u32(s, 104, m.mode);
 }
 
+// Row i has that mount.
 fn put_row(s: &mut [u8], i: usize, m: MountPoint)
     requires { ⌜ Laid (now s) ⌝ }
     requires { ⌜ i < countOf (now s) ⌝ }

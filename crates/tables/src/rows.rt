@@ -27,6 +27,7 @@ pub enum Row {
     Nothing,
 }
 
+// Where the node table begins (docs/LAYOUT.md).
 pub const TABLE: usize = 8192;
 
 // Node numbers are read modulo this (R5).
@@ -35,7 +36,7 @@ const NUMBERS: u64 = 0x0100_0000_0000_0000;
 // The bits of a cell that a node number is read from (R5).
 const NUMBER_BITS: u64 = 0x00ff_ffff_ffff_ffff;
 
-// The number of row i.
+// The number of row i (R5).
 pub fn number(s: &[u8], i: usize) -> u64
     requires { ⌜ Laid (now s) ⌝ }
     requires { ⌜ i < countOf (now s) ⌝ }
@@ -44,7 +45,7 @@ pub fn number(s: &[u8], i: usize) -> u64
     le::fields::get_u64(s, TABLE + 8 * i) % NUMBERS
 }
 
-// The parent's number of row i.
+// The parent's number of row i (R5).
 pub fn parent(s: &[u8], i: usize) -> u64
     requires { ⌜ Laid (now s) ⌝ }
     requires { ⌜ i < countOf (now s) ⌝ }
@@ -163,7 +164,7 @@ pub fn is_known(s: &[u8], x: u64) -> bool
     }
 }
 
-// The parent's number; the root's is the root's, and so is that of a number which is no node (R39, R54).
+// The parent's number; the root's is the root's, and so is that of a number which is no node (R39, R52, R54, R58).
 pub fn parent_of(s: &[u8], x: u64) -> u64
     requires { ⌜ Laid (now s) ⌝ }
     ensures { λ r. ⌜ r ≡ parentIn (nodesOf (now (s .entry))) x ⌝ }

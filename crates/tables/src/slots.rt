@@ -17,7 +17,7 @@ pub enum Tag {
     Empty,
 }
 
-// What slot k holds.
+// What slot k holds (R56).
 pub fn tag_of(s: &[u8], k: u8) -> Tag
     requires { ⌜ 8192 ≤ length (now s) ⌝ }
     ensures { λ r. ⌜ tagIn r ≡ tagInSlot (slotAt (now (s .entry)) k) ⌝ }
