@@ -42,6 +42,7 @@ InSlots (some m) = m .index < 256
 
 -- ---- what is told
 
+-- the tag of an old mount's index, and the bytes with that index freed (R76, R78)
 pub record Frees (mem : List ℕ) (old : MountOn) (r : Tag) (after : List ℕ) : Type 0 where
   pub tag : tagIn r ≡ tagAt (mountIn old) (view mem)
   pub bytes : after ≡ freedMem (mountIn old) mem
