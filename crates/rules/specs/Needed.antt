@@ -12,6 +12,7 @@ pub record Need : Type 0 where
   pub path : String
   pub made : Made
 
+-- `/` needs none; a name that `..` follows is made, and found again by the same path (R38, R50)
 abbrev pub needs : List Need
 needs =
     record { path = "/"; made = record { nodes = []; here = 1 } }
@@ -21,13 +22,16 @@ needs =
     ∷ record { path = "/.././/x/"; made = record { nodes = bare 2 1 (ascii "x") ∷ []; here = 2 } }
     ∷ []
 
+-- what the rules make of each path
 unfoldable pub walks : List Need → List Made
 walks [] = []
 walks (n ∷ ns) = planned newTree (ascii (n .path)) ∷ walks ns
 
+-- what the table says
 unfoldable pub wanted : List Need → List Made
 wanted [] = []
 wanted (n ∷ ns) = n .made ∷ wanted ns
 
+-- each path needs just these nodes, and ends there (R50)
 abbrev pub Needed : Type 0
 Needed = walks needs ≡ wanted needs

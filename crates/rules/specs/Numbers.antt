@@ -88,7 +88,7 @@ FULL = 5
 abbrev pub NOROOM : ℕ
 NOROOM = 6
 
--- unmount of no mount, or root query of a mount whose slot is empty (R15)
+-- unmount of an unknown path or of no mount, or root query of a mount whose slot is empty (R15)
 abbrev pub NOTFOUND : ℕ
 NOTFOUND = 7
 
@@ -108,10 +108,10 @@ BADSAVE = 10
 abbrev pub NOTFRESH : ℕ
 NOTFRESH = 11
 
--- N outside its limits, or too few bytes (R15, R20, R125)
+-- N outside its limits, storage too short or against the layout rule, or too few bytes for a save (R15, R20, R21, R125)
 abbrev pub SMALL : ℕ
 SMALL = 12
 
--- option bits outside the mask (R15, R28, R130)
+-- option bits outside the mask, or at creation a flag above bit 5 (R15, R28, R29, R130)
 abbrev pub BADOPT : ℕ
 BADOPT = 13

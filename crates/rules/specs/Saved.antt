@@ -92,11 +92,11 @@ optionsAt b at = record {
   flags = get 1 b (at + 28);
 }
 
--- options and trailer are the last 56 and the last 24 bytes (R119, R121, R123)
+-- where the options stand: they and the trailer are the last 56 bytes (R119, R121)
 abbrev pub optionsIn : List ℕ → ℕ
 optionsIn b = length b - 56
 
--- where the trailer stands (R123)
+-- where the trailer stands: it is the last 24 bytes (R123)
 abbrev pub trailerIn : List ℕ → ℕ
 trailerIn b = length b - 24
 

@@ -84,7 +84,7 @@ pub record Laps (i : Instance) (cs : List Call) : Type 0 where
   pub whole : total i cs % 256 ≡ 0
   pub fair : (j : ℕ) → 0 < j → j < 256 → Met j i cs
 
--- from every instance by every calls (R87)
+-- from every instance, by any calls without a done state restore (R87)
 abbrev pub EveryRun : Type 0
 EveryRun = (cs : List Call) (i : Instance) → counterOf i < 256 → Unrestored i cs → GoesRound i cs
 

@@ -1,4 +1,4 @@
-// The numbers of the trade (R5 to R14, R150), for the code of the crates above; the rules themselves stand in specs/.
+// The numbers of the trade (R5 to R13, R150), for the code of the crates above; the rules themselves stand in specs/.
 pub mod codes;
 
 pub const VFS_MAX_INO: u64 = 72057594037927935;
