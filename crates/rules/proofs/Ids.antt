@@ -6,7 +6,7 @@ use Prim.Native.Nat.{ℕ, _+_, _-_, _%_, _^_, _≤_, _<_}
 use native.Mathlib.Omega.{arith}
 use lib.Dec.{leb, ltb}
 use borrow.Author.Tests.{leb-true, ltb-true, ltb-false, le-leb, lt-leb, lt-ltb, le-ltb}
-use Rattle.rules.specs.Ids.{Mapping, turned, badMapping, inside, mapped, unmapped, wrapped, unwrapped, WrappedIsWhole, OutAndBack}
+use Rattle.rules.specs.Ids.{Mapping, turned, badMapping, inside, mapped, unmapped, wrapped, unwrapped, WrappedIsWhole, OutAndBack, WrappedBack}
 use Rattle.rules.proofs.Tests.{le-or-lt, or-neither}
 
 -- within the mapping's limits
@@ -84,3 +84,19 @@ out-and-back m x (inl e) =
     let y = x - m .internal + m .external in
     ap (mapped (turned m)) (mapped-in m x e) ∙ (mapped-in (turned m) y (is-inside (turned m) y (omega arith) (omega (arith, i .0, i .1))) ∙ omega (arith, i .0))
 out-and-back m x (inr (a, b)) = ap (mapped (turned m)) (mapped-out m x a) ∙ mapped-out (turned m) x b
+
+-- ---- the same of what wraps
+
+mapped-low : (m : Mapping) (x : ℕ) → badMapping m ≡ false → x < 2 ^ 32 → mapped m x < 2 ^ 32
+unfolding mapped
+mapped-low m x good low = go (inside m x) refl
+  where
+    go : (b : Bool) → inside m x ≡ b → cond b (x - m .internal + m .external) x < 2 ^ 32
+    go true e = omega (arith, inside-is m x e, within m good .high)
+    go false e = low
+
+-- the theorem: of a mapping that passes its test
+pub wrapped-back : WrappedBack
+wrapped-back m x good low w =
+    ap (unwrapped m) (wrapped-is-whole m x good low .0)
+    ∙ (wrapped-is-whole m (mapped m x) good (mapped-low m x good low) .1 ∙ out-and-back m x w)

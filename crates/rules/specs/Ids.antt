@@ -48,3 +48,7 @@ WrappedIsWhole = (m : Mapping) (id : ℕ) → badMapping m ≡ false → id < 2 
 -- out and back is the identity on ids in the internal range or in neither (R116)
 abbrev pub OutAndBack : Type 0
 OutAndBack = (m : Mapping) (id : ℕ) → (inside m id ≡ true) ⊎ ((inside m id ≡ false) × (inside (turned m) id ≡ false)) → unmapped m (mapped m id) ≡ id
+
+-- the same of what wraps, of a mapping that passes its test (R116)
+abbrev pub WrappedBack : Type 0
+WrappedBack = (m : Mapping) (id : ℕ) → badMapping m ≡ false → id < 2 ^ 32 → (inside m id ≡ true) ⊎ ((inside m id ≡ false) × (inside (turned m) id ≡ false)) → unwrapped m (wrapped m id) ≡ id
