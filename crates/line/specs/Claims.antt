@@ -7,12 +7,9 @@ use mathlib.Core.Path.{_≡_}
 use Rattle.rules.specs.Bytes.{holds, ascii}
 use Rattle.rules.specs.Instance.{Instance}
 use Rattle.rules.specs.Session.{parsed, replyTo}
+use Rattle.rules.specs.Whole.{lineEnd}
 use Rattle.tables.specs.Rule.{laid}
 use Rattle.line.specs.Reply.{replyText, replyMem, Replies}
-
--- the byte that ends a line (R151)
-abbrev pub lineEnd : ℕ
-lineEnd = 10
 
 -- `?` is answered to lines of no form alone, and leaves the instance (R145)
 abbrev pub QuestionStill : Type 0
