@@ -7,25 +7,22 @@ use mathlib.Core.Path.{_≡_}
 use Rattle.rules.specs.Numbers.{DONE, NOTFOUND, INVAL}
 use Rattle.rules.specs.Tree.{Mount}
 use Rattle.rules.specs.Instance.{mountOf}
-use Rattle.rules.specs.Outcome.{nothing, unmounted}
+use Rattle.rules.specs.Outcome.{unmounted}
 use Rattle.rules.specs.Unmount.{badPath, reached, mountUnder, unmountAt}
 use Rattle.tables.specs.View.{view}
 use Rattle.tables.specs.Rule.{laid}
 use Rattle.tables.specs.Answer.{tagIn}
 use Rattle.tables.specs.Call.{Told, toldBy, toldSmall}
 use Rattle.placing.specs.Place.{takeOffMem}
+use Rattle.pseudo_fs.specs.Told.{refuses}
 use Rattle.vfs.specs.declared.unmounting.Unmounted.{Unmounted}
 use Rattle.vfs.specs.declared.unmounting.Unmounted.the-variants.{Done, NotFound, Inval, Small}
-
--- refused, with no values (R16)
-abbrev pub refusal : ℕ → Told
-refusal code = record { code = code; answer = nothing; count = 0 }
 
 -- the number and the values of each answer (R97)
 unfoldable pub unmountedTold : Unmounted → Told
 unmountedTold (Done n p t) = record { code = DONE; answer = unmounted (n .0) (p .0) (tagIn t); count = 0 }
-unmountedTold NotFound = refusal NOTFOUND
-unmountedTold Inval = refusal INVAL
+unmountedTold NotFound = refuses NOTFOUND
+unmountedTold Inval = refuses INVAL
 unmountedTold Small = toldSmall
 
 -- the bytes after, by the node and the mount on it: where there is none, as they were
