@@ -59,9 +59,6 @@ const HEADER: usize = 8192;
 // The largest N (R9).
 const MAX_NODES: u64 = 1024;
 
-// The first number that a new instance gives (R12).
-const FIRST: u64 = 2;
-
 // The largest that the next number may become (R22, R67).
 const TOP: u64 = 0x0100_0000_0000_0000;
 
@@ -128,7 +125,7 @@ fn is_small(bytes: usize, n: usize) -> bool
     if n < 1 {
         return true;
     }
-    if 1024 < n {
+    if rules::MAX_NODES < n {
         return true;
     }
     bytes < 512 * n + 8192
@@ -164,7 +161,7 @@ fn put_words(s: &mut [u8], n: u64, known: u64, in_opts: u64, out_opts: u64)
     le::fields::put_u64(s, 0, MARK);
     le::fields::put_u64(s, 8, n);
     le::fields::put_u64(s, 16, 0);
-    le::fields::put_u64(s, 24, FIRST);
+    le::fields::put_u64(s, 24, rules::FIRST_NODE);
     le::fields::put_u64(s, 32, known);
     le::fields::put_u64(s, 40, in_opts);
     le::fields::put_u64(s, 48, out_opts);
