@@ -1,5 +1,5 @@
 -- Records laid one behind the other, each into the unwritten rest of the lent bytes (R65, R66): what a call on the rest
--- gives, said of the whole, and all the calls of a listing together. Assumes nothing.
+-- gives, said of the whole. Assumes nothing.
 use mathlib.Core.Path.{_≡_, refl, sym, ap, _∙_}
 use mathlib.Core.List.{List, [], _∷_, _++_}
 use Prim.Native.Nat.{ℕ, _+_, _-_, _≤_, _<_}
@@ -14,7 +14,7 @@ use Rattle.le.specs.Mem.{write}
 use Rattle.le.proofs.Lens.{length-write, write-append}
 use Rattle.dirent.specs.Entry.{entry, Lays}
 use Rattle.dirent.proofs.Writes.{write-part}
-use Rattle.dirent.proofs.Records.{entry-some, entry-of, laid-in, laid-out, was-laid, was-not}
+use Rattle.dirent.proofs.Records.{entry-of, laid-in, laid-out, was-laid, was-not}
 
 -- the bytes from `at` to `end`, as they are lent; and the whole with these back as ys
 abbrev pub rest : List ℕ → ℕ → ℕ → List ℕ
@@ -76,35 +76,7 @@ module _ (d₀ : List ℕ) (end : ℕ) (rs₀ : List (List ℕ)) (d : List ℕ) 
       let now : back d at end ys ≡ d = ap (back d at end) (v .bytes) ∙ put-same at (end - at) d in
       record { count = omega (arith, g .count, ap length none); bytes = now ∙ ap (write d at) (sym none) ∙ g .bytes }
 
--- ---- all the calls of a listing
-
 -- the entries of the children from a place on: that of the first, and the others
 pub dirents-more : (place : ℕ) (c : Node) (cs : List Node) → direntsFrom place (c ∷ cs) ≡ entry (c .number) (place + 1) (c .called) ∷ direntsFrom (place + 1) cs
 unfolding direntsFrom
 dirents-more place c cs = ap (λ (r : List ℕ). r ∷ direntsFrom (place + 1) cs) (sym (entry-of place c))
-
--- the children from a place on, each as the contract of `write_dirent` allows, until none is left or one does not fit:
--- from the lent bytes d, of which `at` are done, to e with m done
-pub data Calls (end : ℕ) : ℕ → List Node → List ℕ → ℕ → ℕ → List ℕ → Type 0 where
-  none : {place : ℕ} {d : List ℕ} {at : ℕ} → Calls end place [] d at at d
-  full : {place : ℕ} {c : Node} {cs : List Node} {d : List ℕ} {at : ℕ} {ys : List ℕ}
-      → Wrote d at end (entry (c .number) (place + 1) (c .called)) 0 ys → Calls end place (c ∷ cs) d at at (back d at end ys)
-  next : {place : ℕ} {c : Node} {cs : List Node} {d : List ℕ} {at n m : ℕ} {ys e : List ℕ}
-      → Wrote d at end (entry (c .number) (place + 1) (c .called)) n ys → (n ≡ 0 → ⊥) → Calls end (place + 1) cs (back d at end ys) (at + n) m e
-      → Calls end place (c ∷ cs) d at m e
-
-module _ (d₀ : List ℕ) (end : ℕ) (rs₀ : List (List ℕ)) where
-  to-the-end : (place : ℕ) (cs : List Node) (d : List ℕ) (at m : ℕ) (e : List ℕ)
-      → Going d₀ end rs₀ d at (direntsFrom place cs) → Calls end place cs d at m e → Lays d₀ end rs₀ m e
-  unfolding direntsFrom
-  to-the-end place [] d at m e g none = going-done d₀ end rs₀ d at g
-  to-the-end place (c ∷ cs) d at m e g (full {ys = ys} w) =
-      let h = rw (dirents-more place c cs) at g in
-      stopped d₀ end rs₀ d at _ _ 0 ys h w (entry-some (c .number) (place + 1) (c .called)) refl
-  to-the-end place (c ∷ cs) d at m e g (next {n = n} {ys = ys} w z k) =
-      let h = rw (dirents-more place c cs) at g in
-      to-the-end (place + 1) cs (back d at end ys) (at + n) m e (went d₀ end rs₀ d at _ _ n ys h w z) k
-
--- they lay what the rules say, and answer how much
-pub listed : (d : List ℕ) (end place : ℕ) (cs : List Node) (m : ℕ) (e : List ℕ) → end ≤ length d → Calls end place cs d 0 m e → Lays d end (direntsFrom place cs) m e
-listed d end place cs m e h k = to-the-end d end (direntsFrom place cs) place cs d 0 m e (going-start d end (direntsFrom place cs) h) k

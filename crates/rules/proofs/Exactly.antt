@@ -211,9 +211,6 @@ module _ (bytes : ℕ) (q : Creation) where
   abbrev n : ℕ
   n = q .capacity
 
-  maps : List Test
-  maps = (ltb 4294967295 (q .options .mapping .internal + q .options .mapping .range) ⟼ BADMAP) ∷ (ltb 4294967295 (q .options .mapping .external + q .options .mapping .range) ⟼ BADMAP) ∷ []
-
   create-settles : Settles (createRule bytes q .code) (createTests bytes q)
   unfolding createRule tooSmall badOptions unknown badMapping
   create-settles =

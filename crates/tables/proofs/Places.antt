@@ -88,11 +88,6 @@ module _ (mem : List ℕ) where
       ∙ (tab-at (nodeAt (capacityOf mem) mem) 0 (countOf mem) i nobody h ∙ ap (nodeAt (capacityOf mem) mem) (zero-add i))
 
 module _ (mem : List ℕ) (d : Laid mem) (x : ℕ) where
-  -- the nodes of the view are those of the table
-  view-nodes : view mem .tree .nodes ≡ nodesOf mem
-  unfolding view
-  view-nodes = refl
-
   row-within : (i : ℕ) → placeIn (nodesOf mem) x ≡ some i → i < countOf mem
   row-within i e = omega (arith, place-first (nodesOf mem) x i e .within, nodes-count mem)
 
