@@ -16,7 +16,8 @@ use Rattle.rules.specs.Saved.{optionsRow, optionsBytes, trailerBytes, encode}
 use Rattle.rules.specs.Restore.{entriesFor, saved, saveRule}
 use Rattle.rules.specs.RoundTrip.{NamesTo}
 use Rattle.rules.proofs.Fields.{total, fields-length}
-use Rattle.rules.proofs.RoundTrip.{encode-length, longest}
+use Rattle.rules.proofs.Encoded.{encode-length}
+use Rattle.rules.proofs.RoundTrip.{longest}
 use Rattle.le.specs.Mem.{get, write}
 use Rattle.le.proofs.Lens.{write-append}
 use Rattle.dirent.proofs.Writes.{write-over}

@@ -18,7 +18,7 @@ use Rattle.rules.specs.Create.{unknown}
 use Rattle.rules.specs.Saved.{State, countOf as recordsOf, stateOf, accepted}
 use Rattle.rules.specs.Restore.{nodesFrom, noNodes, fresh, restoredTo, restoreRule}
 use Rattle.rules.proofs.Tests.{and-both}
-use Rattle.rules.proofs.RoundTrip.{fits}
+use Rattle.rules.proofs.Accepted.{fits}
 use Rattle.tables.specs.Table.{row}
 use Rattle.tables.specs.Layout.{capacityOf, countOf}
 use Rattle.tables.specs.View.{view}

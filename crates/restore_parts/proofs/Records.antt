@@ -10,7 +10,8 @@ use borrow.Author.Tests.{leb-true}
 use Rattle.rules.specs.Saved.{Entry, nodeAt, behind, nodesAt, countOf, stateOf, laidOut, goodName, valid, accepted}
 use Rattle.rules.specs.Driven.{Rises, Below, Named, Shape}
 use Rattle.rules.proofs.Tests.{and-both, passed}
-use Rattle.rules.proofs.Shape.{rises-end, good-shape}
+use Rattle.rules.proofs.Shape.{rises-end}
+use Rattle.rules.proofs.Good.{good-shape}
 use Rattle.saved.specs.Scan.{startOf}
 use Rattle.restore_parts.specs.Parts.{Loads}
 

@@ -1,226 +1,34 @@
 -- What holds of every driven instance. Assumes nothing.
 use mathlib.Core.Path.{_≡_, refl, sym, ap, _∙_, subst}
-use mathlib.Core.Bool.{Bool, true, false, cond, not, _&&_, _||_, true≢false, false≢true}
+use mathlib.Core.Bool.{true, false, _||_, true≢false, false≢true}
 use mathlib.Core.Logic.{_⊎_, ⊎-elim}
 use mathlib.Core.List.{List, [], _∷_}
 use mathlib.Core.Option.{Option, none, some}
 use Prim.Native.Nat.{ℕ, _+_, _^_, _≤_, _<_}
 use native.Mathlib.Omega.{arith}
 use lib.Bits.{bitAnd, and-le-r}
-use lib.ListN.{length, getD, set, replicate, length-append, length-set, length-replicate, getD-replicate, List·getD-eq-default}
-use lib.Dec.{eqb, ltb}
+use lib.ListN.{length, getD, replicate, length-replicate, getD-replicate, List·getD-eq-default}
+use lib.Dec.{ltb}
 use borrow.Author.Tests.{ltb-false, leb-true, eqb-true, not-false}
-use Rattle.rules.specs.Numbers.{rootNumber, topNumber, maxNodes, storageFor}
+use Rattle.rules.specs.Numbers.{topNumber, maxNodes, storageFor}
 use Rattle.rules.specs.Bytes.{Bytes}
-use Rattle.rules.specs.Utf8.{wellFormed}
-use Rattle.rules.specs.Path.{tooLong, rooted}
 use Rattle.rules.specs.Ids.{badMapping}
-use Rattle.rules.specs.Round.{allocate}
-use Rattle.rules.specs.Tree.{Mount, Node, isNone, mountAt}
-use Rattle.rules.specs.Instance.{Slot, Tree, Instance, emptySlot, heldIn, heldBy, mountOf, setMount, withSlot, withTree, grown, cut, live, counterOf}
+use Rattle.rules.specs.Tree.{Mount, Node, isNone}
+use Rattle.rules.specs.Instance.{Slot, Instance, emptySlot, heldIn}
 use Rattle.rules.specs.Outcome.{Outcome}
 use Rattle.rules.specs.Create.{Creation, Created, outside, unknown, badOptions, tooSmall, newInstance, createRule}
-use Rattle.rules.specs.Mount.{Request, planned, needed, noRoom, freed, mountOn, placed, allocation, stepped, walkedTo, ended, mountAs, mountRule, restoreMountRule}
-use Rattle.rules.specs.Unmount.{reached, mountUnder, taken, unmounts, unmountAt, unmountRule}
 use Rattle.rules.specs.Saved.{stateOf, valid, accepted, goodNodes}
 use Rattle.rules.specs.Restore.{entriesFor, nodesFrom, noNodes, fresh, restoredTo, restoreRule}
 use Rattle.rules.specs.Calls.{Call, rule}
 use Rattle.rules.specs.Driven.{Typed, creation, call, Rises, Below, Named, Unique, Shape, IsAt, MountIn, Mounted, Facts, EveryDriven}
-use Rattle.rules.proofs.Tests.{known, le-or-lt, and-both, or-neither, passed}
-use Rattle.rules.proofs.Rows.{first-of, each-of}
+use Rattle.rules.proofs.Tests.{le-or-lt, and-both, or-neither, passed}
+use Rattle.rules.proofs.Rows.{first-of}
 use Rattle.rules.proofs.Ids.{within}
 use Rattle.rules.proofs.Still.{every-call}
-use Rattle.rules.proofs.RoundTrip.{fits, good}
-use Rattle.rules.proofs.Shape.{entries-mount, entries-from, entries-length, shape-less, length-less, length-mount, good-shape}
-use Rattle.rules.proofs.Walk.{Reached, Walking, planned-walking}
-use Rattle.rules.proofs.Held.{Held, held-grown, held-placed, held-taken}
-
--- ---- the parts of an instance that a call changes
-
--- the tree, apart from its mounts
-pub record FineTree (capacity : ℕ) (t : Tree) : Type 0 where
-  pub shape : Shape (entriesFor (t .nodes)) (t .next)
-  pub top : t .next ≤ topNumber
-  pub room : 1 + length (t .nodes) ≤ capacity
-
-fine-of : (i : Instance) → Facts i → FineTree (i .fixed .capacity) (i .tree)
-fine-of i f = record { shape = f .shape; top = f .top; room = f .room }
-
-set-fine : (cap : ℕ) (t : Tree) (x : ℕ) (m : Option Mount) → FineTree cap t → FineTree cap (setMount t x m)
-unfolding setMount
-set-fine cap t x m f = go (eqb x rootNumber)
-  where
-    go : (b : Bool) → FineTree cap (cond b (record { next = t .next; root = m; nodes = t .nodes }) (record { next = t .next; root = t .root; nodes = mountAt m (t .nodes) x }))
-    go true = record { shape = f .shape; top = f .top; room = f .room }
-    go false = record { shape = rw (entries-mount m (t .nodes) x) (f .shape); top = f .top; room = omega (arith, f .room, length-mount m (t .nodes) x) }
-
-cut-fine : (cap : ℕ) (t : Tree) (x : ℕ) → FineTree cap t → FineTree cap (cut x t)
-cut-fine cap t x f = record { shape = shape-less (t .nodes) x (t .next) (f .shape); top = f .top; room = omega (arith, f .room, length-less (t .nodes) x) }
-
-taken-fine : (i : Instance) (x : ℕ) → FineTree (i .fixed .capacity) (i .tree) → FineTree (i .fixed .capacity) (taken i x)
-unfolding taken
-taken-fine i x f = go (i .removal && not (eqb x rootNumber)) (set-fine (i .fixed .capacity) (i .tree) x none f)
-  where
-    go : (b : Bool) → FineTree (i .fixed .capacity) (setMount (i .tree) x none) → FineTree (i .fixed .capacity) (cond b (cut x (setMount (i .tree) x none)) (setMount (i .tree) x none))
-    go true g = cut-fine (i .fixed .capacity) (setMount (i .tree) x none) x g
-    go false g = g
-
--- the facts with another tree, other slots of the same number, another counter
-pub record Changes (i : Instance) (t : Tree) (slots : List Slot) (counter : ℕ) : Type 0 where
-  pub tree : FineTree (i .fixed .capacity) t
-  pub many : length slots ≡ 256
-  pub low : counter < 256
-
-abbrev with-all : Instance → Tree → List Slot → ℕ → Instance
-with-all i t slots counter = record { fixed = i .fixed; removal = i .removal; initialized = i .initialized; options = i .options; indexes = record { slots = slots; counter = counter }; tree = t }
-
-changed : (i : Instance) (t : Tree) (slots : List Slot) (counter : ℕ) → Facts i → Changes i t slots counter → Held (with-all i t slots counter) → Facts (with-all i t slots counter)
-changed i t slots counter f c h = record {
-  shape = c .tree .shape;
-  top = c .tree .top;
-  room = c .tree .room;
-  capacity = f .capacity;
-  mask = f .mask;
-  mapping = f .mapping;
-  within = f .within;
-  options = f .options;
-  slots = c .many;
-  counter = c .low;
-  held = h;
-}
-
--- ---- mounts
-
-stepped-facts : (i : Instance) → Facts i → Facts (stepped i)
-unfolding allocation allocate
-stepped-facts i f = changed i (i .tree) (i .indexes .slots) (allocation i .counter) f (record { tree = fine-of i f; many = f .slots; low = omega arith }) (f .held)
-
--- the nodes of a mount walk are made, where there is room
-module _ (i : Instance) (f : Facts i) (path : List ℕ) (l : tooLong path ≡ false) (u : wellFormed path ≡ true) (room : noRoom i path ≡ false) where
-  walks : Walking (i .tree .nodes) (i .tree .next) (planned (i .tree) path)
-  walks = planned-walking (i .tree) path (f .shape) l u
-
-  walked-facts : Facts (walkedTo path i)
-  unfolding noRoom needed
-  walked-facts =
-      let ms = planned (i .tree) path .nodes in
-      let o = or-neither (ltb (i .fixed .capacity) (live i + length ms)) (ltb topNumber (i .tree .next + length ms)) room in
-      let a = ltb-false (i .fixed .capacity) (live i + length ms) (o .0) in
-      changed i (grown ms (i .tree)) (i .indexes .slots) (counterOf i) f
-      (record {
-        tree = record {
-          shape = walks .shape;
-          top = ltb-false topNumber (i .tree .next + length ms) (o .1);
-          room = simp length-append (omega (arith, a));
-        };
-        many = f .slots;
-        low = f .counter;
-      })
-      (held-grown i ms (f .held))
-
-freed-slots : (m : Option Mount) (i : Instance) → length (freed m i .indexes .slots) ≡ length (i .indexes .slots)
-unfolding freed
-freed-slots none i = refl
-freed-slots (some m) i = length-set (i .indexes .slots) (m .index) emptySlot
-
--- the tree and the slots of an instance where a mount was placed
-placed-is : (k : ℕ) (r : Request) (x : ℕ) (i : Instance) (m : Option Mount)
-    → withSlot k (heldBy (r .tag)) (withTree (setMount (freed m i .tree) x (some (mountOn k r))) (freed m i))
-    ≡ with-all i (setMount (i .tree) x (some (mountOn k r))) (set (freed m i .indexes .slots) k (heldBy (r .tag))) (counterOf i)
-unfolding freed
-placed-is k r x i none = refl
-placed-is k r x i (some m) = refl
-
-placed-facts : (k : ℕ) (r : Request) (x : ℕ) (i : Instance) → Reached (i .tree .nodes) x → Facts i → Facts (placed k r x i)
-unfolding placed
-placed-facts k r x i w f =
-    let m = mountOf (i .tree) x in
-    let e = placed-is k r x i m in
-    subst Facts (sym e)
-    (changed i _ _ _ f
-    (record {
-      tree = set-fine (i .fixed .capacity) (i .tree) x (some (mountOn k r)) (fine-of i f);
-      many = length-set (freed m i .indexes .slots) k (heldBy (r .tag)) ∙ (freed-slots m i ∙ f .slots);
-      low = f .counter;
-    })
-    (subst Held e (held-placed k r x i w (f .held))))
-
-abbrev Keeps : Outcome → Type 0
-Keeps o = Facts (o .after)
-
-room-left : (a b : Bool) → (a && b) ≡ false → not a ≡ false → b ≡ false
-room-left true b e f = e
-room-left false b e f = absurd (true≢false f)
-
-module _ (i : Instance) (r : Request) (f : Facts i) (l : tooLong (r .path) ≡ false) (u : wellFormed (r .path) ≡ true)
-    (room : (rooted (r .path) && noRoom i (r .path)) ≡ false) where
-  -- a step of the counter leaves the room as it is
-  same-room : noRoom (stepped i) (r .path) ≡ noRoom i (r .path)
-  unfolding noRoom
-  same-room = refl
-
-  mount-as : (k : Option ℕ) → Keeps (mountAs i r k)
-  unfolding mountAs
-  mount-as none = stepped-facts i f
-  mount-as (some k) =
-      let s = stepped-facts i f in
-      first-of Keeps _ _ (
-        λ a. s,
-        λ a.
-            let n = same-room ∙ room-left (rooted (r .path)) (noRoom i (r .path)) room a in
-            let w = walked-facts (stepped i) s (r .path) l u n in
-            (λ b. w, λ b. placed-facts k r (ended i (r .path)) (walkedTo (r .path) (stepped i)) (walks (stepped i) s (r .path) l u n .reached) w),
-      )
-
-  restored-as : (k : ℕ) → not (rooted (r .path)) ≡ false → Facts (walkedTo (r .path) i) × Facts (placed k r (ended i (r .path)) (walkedTo (r .path) i))
-  restored-as k a =
-      let n = room-left (rooted (r .path)) (noRoom i (r .path)) room a in
-      let w = walked-facts i f (r .path) l u n in
-      (w, placed-facts k r (ended i (r .path)) (walkedTo (r .path) i) (walks i f (r .path) l u n .reached) w)
-
-mount-facts : (i : Instance) (r : Request) → Facts i → Keeps (mountRule i r)
-unfolding mountRule
-mount-facts i r f =
-    first-of Keeps _ _ (λ a. f, λ a. (λ b. f, λ b. (λ c. f, λ c. (λ d. f, λ d. mount-as i r f a (not-false _ b) d (allocation i .found)))))
-
-restored-facts : (i : Instance) (k : ℕ) (r : Request) → Facts i → Keeps (restoreMountRule i k r)
-unfolding restoreMountRule
-restored-facts i k r f =
-    first-of Keeps _ _ (
-      λ a. f,
-      λ a. (
-        λ b. f,
-        λ b. (
-          λ c. f,
-          λ c. (
-            λ d. f,
-            λ d. (
-              λ e. f,
-              λ e. (
-                λ g. f,
-                λ g.
-                    (λ h. restored-as i r f a (not-false _ b) e k g .0, λ h. restored-as i r f a (not-false _ b) e k g .1),
-              ),
-            ),
-          ),
-        ),
-      ),
-    )
-
--- ---- unmount
-
-unmount-facts-at : (i : Instance) (x : Option ℕ) (m : Option Mount) → mountUnder i x ≡ m → Facts i → Keeps (unmountAt i x m)
-unfolding unmountAt unmounts
-unmount-facts-at i none m e f = f
-unmount-facts-at i (some x) none e f = f
-unmount-facts-at i (some x) (some m) e f =
-    changed i (taken i x) (set (i .indexes .slots) (m .index) emptySlot) (counterOf i) f
-    (record { tree = taken-fine i x (fine-of i f); many = length-set (i .indexes .slots) (m .index) emptySlot ∙ f .slots; low = f .counter })
-    (held-taken i x m e (f .held))
-
-unmount-facts : (i : Instance) (path : List ℕ) → Facts i → Keeps (unmountRule i path)
-unfolding unmountRule
-unmount-facts i path f = each-of Keeps _ _ (f, unmount-facts-at i (reached i path) (mountUnder i (reached i path)) refl f)
+use Rattle.rules.proofs.Accepted.{fits, good}
+use Rattle.rules.proofs.Shape.{entries-from, entries-length}
+use Rattle.rules.proofs.Good.{good-shape}
+use Rattle.rules.proofs.MountFacts.{Keeps, mount-facts, restored-facts, unmount-facts}
 
 -- ---- state restore
 

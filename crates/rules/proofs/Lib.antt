@@ -11,11 +11,15 @@ pub mod Turn
 pub mod Trace
 pub mod Leaves
 pub mod Exactly
+pub mod Encoded
+pub mod Accepted
 pub mod RoundTrip
 pub mod Names
 pub mod Shape
+pub mod Good
 pub mod Walk
 pub mod Held
+pub mod MountFacts
 pub mod Driven
 pub mod Restored
 pub mod Stays

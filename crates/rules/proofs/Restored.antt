@@ -22,8 +22,11 @@ use Rattle.rules.specs.Driven.{Rises, Below, Named, Unique, Facts, Prese
 use Rattle.rules.specs.Restored.{GivesBack, SaveThenRestore, RestoreThenSave, NoLonger}
 use Rattle.rules.proofs.Tests.{known, or-neither, pass, passed}
 use Rattle.rules.proofs.Rows.{first-of}
-use Rattle.rules.proofs.RoundTrip.{state-read, is-accepted, written, longest, most-bytes}
-use Rattle.rules.proofs.Shape.{entries-from, entries-length, beside, beside-sym, Good, is-good, rises-end}
+use Rattle.rules.proofs.Encoded.{state-read, is-accepted}
+use Rattle.rules.proofs.Accepted.{written}
+use Rattle.rules.proofs.RoundTrip.{longest, most-bytes}
+use Rattle.rules.proofs.Shape.{entries-from, entries-length, beside, beside-sym, rises-end}
+use Rattle.rules.proofs.Good.{Good, is-good}
 use Rattle.rules.proofs.Driven.{facts}
 
 -- ---- the parents of those left are before, or among those left

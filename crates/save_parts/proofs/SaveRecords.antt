@@ -12,7 +12,7 @@ use Rattle.rules.specs.Tree.{Node}
 use Rattle.rules.specs.Instance.{Options}
 use Rattle.rules.specs.Saved.{Entry, nodeBytes, nodesBytes, optionsBytes, trailerBytes}
 use Rattle.rules.specs.Restore.{entryFor, entriesFor}
-use Rattle.rules.proofs.RoundTrip.{node-length}
+use Rattle.rules.proofs.Encoded.{node-length}
 use Rattle.le.specs.Mem.{get, write, put}
 use Rattle.le.proofs.Lens.{length-write, write-append, put-write, put-add}
 use Rattle.dirent.proofs.Writes.{write-part}
