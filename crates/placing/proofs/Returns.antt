@@ -24,7 +24,7 @@ use Rattle.placing.specs.Place.{freedMem, placeMem, outMem, takeOffMem, 
 use Rattle.tables.specs.Layout.{countOf}
 use Rattle.tables.specs.declared.rows.Row.{Row}
 use Rattle.tables.specs.declared.rows.Row.the-variants.{At, Nothing as RowNothing}
-use Rattle.tables.proofs.Find.{row-below, row-else}
+use Rattle.tables.proofs.ByPlace.{row-below, row-else}
 use Rattle.tables.proofs.Places.{view-mount}
 use Rattle.tables.proofs.Keeps.{laid-is, keeps-mount}
 use Rattle.placing.proofs.Stands.{tag-of-is, view-freed, keeps-freed}

@@ -17,7 +17,8 @@ use Rattle.tables.specs.View.{flag, headOf, slotAt, slotsOf, nodesOf, view}
 use Rattle.tables.specs.Rule.{laid}
 use Rattle.tables.specs.Answer.{mountMem, removeMem}
 use Rattle.tables.proofs.Tab.{tab-at}
-use Rattle.tables.proofs.Refine.{MountFits, view-slot}
+use Rattle.tables.proofs.Spells.{MountFits}
+use Rattle.tables.proofs.Refine.{view-slot}
 use Rattle.tables.proofs.Places.{view-mount, view-gone}
 use Rattle.tables.proofs.Keeps.{ruled, laid-is, open-laid, keeps-slot, keeps-mount, keeps-gone}
 use Rattle.placing.specs.Place.{freedMem, placeMem, outMem, takeOffMem, InSlots}

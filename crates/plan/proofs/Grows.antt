@@ -17,7 +17,9 @@ use Rattle.tables.specs.Rule.{Laid, laid}
 use Rattle.tables.specs.Write.{fromPlace, putHeader, setCount, setNext, nodeCells, appendNode}
 use Rattle.tables.proofs.Tab.{tab-next, tab-done}
 use Rattle.tables.proofs.Table.{length-putRow, put-below}
-use Rattle.tables.proofs.Refine.{nodes-above, head-low, whole, two-fields, fields-fit, view-append}
+use Rattle.tables.proofs.Spells.{whole}
+use Rattle.tables.proofs.Heads.{nodes-above, head-low, two-fields, fields-fit}
+use Rattle.tables.proofs.Refine.{view-append}
 use Rattle.tables.proofs.Keeps.{laid-is, keeps-append}
 use Rattle.plan.specs.Plan.{Columns, plannedAt, plannedFrom}
 use Rattle.plan.specs.Apply.{appendAll}

@@ -17,7 +17,9 @@ use Rattle.tables.specs.View.{field, headOf, nodesOf, view}
 use Rattle.tables.specs.Rule.{laidBy, laid, Laid}
 use Rattle.tables.specs.Write.{fromPlace, putHeader, setNext}
 use Rattle.tables.proofs.Table.{length-putRow}
-use Rattle.tables.proofs.Refine.{head-put, view-header, cell-back, view-append}
+use Rattle.tables.proofs.Spells.{cell-back}
+use Rattle.tables.proofs.Heads.{head-put, view-header}
+use Rattle.tables.proofs.Refine.{view-append}
 use Rattle.tables.proofs.Keeps.{ruled, is-ruled, laid-is, open-laid, length-append, keeps-append}
 use Rattle.tables.proofs.Places.{nodes-count}
 use Rattle.restore_parts.specs.Parts.{Loads, loadNode, loadNodes}

@@ -17,7 +17,8 @@ use Rattle.tables.specs.View.{field, headOf, nodesOf, view}
 use Rattle.tables.specs.Rule.{laidBy, laid}
 use Rattle.tables.specs.Write.{fromPlace, putHeader, setNext, heldByte}
 use Rattle.tables.proofs.Table.{length-putRow}
-use Rattle.tables.proofs.Refine.{head-put, view-header, cell-back}
+use Rattle.tables.proofs.Spells.{cell-back}
+use Rattle.tables.proofs.Heads.{head-put, view-header}
 use Rattle.tables.proofs.Keeps.{ruled, is-ruled, open-laid}
 use Rattle.restore_parts.specs.Parts.{hasBits, optionCells, setOptions, setState}
 

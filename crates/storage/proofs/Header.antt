@@ -17,7 +17,8 @@ use Rattle.tables.specs.View.{field, mountFrom, slotsOf, nodesFrom, view}
 use Rattle.tables.specs.Rule.{laidBy, laid}
 use Rattle.tables.specs.Write.{putHeader, heldByte}
 use Rattle.tables.proofs.Table.{length-putRow}
-use Rattle.tables.proofs.Refine.{whole, head-put, view-header}
+use Rattle.tables.proofs.Spells.{whole}
+use Rattle.tables.proofs.Heads.{head-put, view-header}
 use Rattle.tables.proofs.Keeps.{is-ruled}
 use Rattle.storage.specs.Header.{spell, headerOf}
 use Rattle.storage.specs.Limits.{Limits, Widths}

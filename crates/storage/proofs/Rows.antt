@@ -14,7 +14,8 @@ use Rattle.tables.specs.Table.{putRow, over, Fit}
 use Rattle.tables.specs.Layout.{nodeTable}
 use Rattle.tables.specs.View.{mountFrom, nameFrom, nodeFrom, nodesFrom}
 use Rattle.tables.proofs.Table.{length-putRow}
-use Rattle.tables.proofs.Refine.{MayFit, whole, mount-word, name-back, nodes-more}
+use Rattle.tables.proofs.Spells.{MayFit, whole, mount-word, name-back}
+use Rattle.tables.proofs.Refine.{nodes-more}
 use Rattle.storage.specs.Limits.{MountFits, NodeFits, NodesFit}
 use Rattle.storage.proofs.Bytes.{AllBytes, number-bytes, append-bytes, take-bytes, drop-bytes, row-bytes}
 

@@ -22,7 +22,9 @@ use Rattle.tables.specs.Rule.{laidBy, laid, Laid}
 use Rattle.tables.specs.Write.{fromPlace, putHeader, setCount, setNext, setCounter, setRemoval, heldByte, setSlot, mountCells, rowMountCells, setRootMount, setRowMount, appendNode, removeRow}
 use Rattle.tables.specs.Answer.{placeIn, atPlace, mountMem, removeMem}
 use Rattle.tables.proofs.Table.{length-putRow, length-closeUp}
-use Rattle.tables.proofs.Refine.{cell-back, low-head, put-low, head-put, head-append, head-remove, root-fit, slot-head}
+use Rattle.tables.proofs.Spells.{cell-back, root-fit}
+use Rattle.tables.proofs.Heads.{low-head, put-low, head-put}
+use Rattle.tables.proofs.Refine.{head-append, head-remove, slot-head}
 use Rattle.tables.proofs.Places.{place-first, nodes-count}
 
 -- ---- the tests of the rule, one by one

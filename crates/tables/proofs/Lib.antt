@@ -3,10 +3,13 @@ pub mod Tab
 pub mod Table
 pub mod Cells
 pub mod Find
+pub mod ByPlace
 pub mod Alike
 pub mod Answers
 pub mod Writes
 pub mod Indexes
+pub mod Spells
+pub mod Heads
 pub mod Refine
 pub mod Places
 pub mod Keeps

@@ -19,7 +19,8 @@ use Rattle.tables.specs.Rule.{Laid}
 use Rattle.tables.specs.Write.{setRootMount, setRowMount, removeRow}
 use Rattle.tables.specs.Answer.{later, placeIn, atPlace, mountMem, removeMem}
 use Rattle.tables.proofs.Tab.{length-tab, tab-at}
-use Rattle.tables.proofs.Refine.{MayFit, view-remove, view-row-mount, view-root-mount}
+use Rattle.tables.proofs.Spells.{MayFit}
+use Rattle.tables.proofs.Refine.{view-remove, view-row-mount, view-root-mount}
 
 -- a node for where there is none
 abbrev pub nobody : Node

@@ -4,75 +4,27 @@ use mathlib.Core.Bool.{Bool, true, false, not}
 use mathlib.Core.Logic.{_⊎_, inl, inr, ⊎-elim}
 use mathlib.Core.List.{List, [], _∷_, _++_, append-nil}
 use mathlib.Core.Option.{Option, none, some}
-use Prim.Native.Nat.{ℕ, suc, _+_, _-_, _*_, _/_, _%_, _^_, _≤_, _<_, min}
-use native.Mathlib.Nat.{mod-eq-of-lt, zero-add, add-zero}
+use Prim.Native.Nat.{ℕ, suc, _+_, _-_, _*_, _^_, _≤_, _<_}
+use native.Mathlib.Nat.{mod-eq-of-lt, zero-add}
 use native.Mathlib.Omega.{arith}
-use lib.ListN.{length, set, take, drop, length-append, length-take, length-drop, take-append-drop}
-use lib.Seq.{take-at, length-take-le}
+use lib.ListN.{length, set}
 use lib.Dec.{eqb}
-use borrow.Author.Tests.{ne-eqb}
-use Rattle.le.specs.Mem.{read, write, value, bytesOf, get}
+use Rattle.le.specs.Mem.{read, value, bytesOf, get}
 use Rattle.rules.proofs.Fields.{length-bytesOf, value-bytes}
 use Rattle.rules.proofs.Tests.{le-or-lt}
 use Rattle.rules.specs.Tree.{Mount, Node, bare, withMount}
 use Rattle.rules.specs.Instance.{withCounter, withSlot, withTree, removing, grown}
-use Rattle.tables.specs.Table.{row, putRow, closeUp, over, Above, Beneath, Behind, Fit, tab, removeAt}
+use Rattle.tables.specs.Table.{row, putRow, closeUp, over, Fit, tab, removeAt}
 use Rattle.tables.specs.Layout.{header, slotTable, nodeTable, capacityOf, countOf, nextOf}
-use Rattle.tables.specs.View.{field, mountFrom, nameFrom, nodeFrom, slotFrom, instanceFrom, headOf, slotAt, nodeAt, slotsOf, nodesFrom, nodesOf, view}
-use Rattle.tables.specs.Write.{fromPlace, putHeader, setCount, setNext, setCounter, setRemoval, heldByte, setSlot, mountCells, rowMountCells, setRootMount, setRowMount, nodeCells, appendNode, removeRow}
+use Rattle.tables.specs.View.{field, nodeFrom, slotFrom, instanceFrom, headOf, slotAt, nodeAt, slotsOf, nodesFrom, nodesOf, view}
+use Rattle.tables.specs.Write.{fromPlace, setCount, setCounter, setRemoval, heldByte, setSlot, mountCells, rowMountCells, setRootMount, setRowMount, nodeCells, appendNode, removeRow}
 use Rattle.tables.proofs.Tab.{tab-same, tab-set, tab-append, tab-remove}
 use Rattle.tables.specs.Rule.{Laid}
-use Rattle.tables.proofs.Table.{length-putRow, length-closeUp, put-below, close-below, upper-kept, lower-kept, row-low, over-low, close-low, close-high, put-other, put-same}
+use Rattle.tables.proofs.Table.{length-putRow, length-closeUp, upper-kept, lower-kept, close-low, close-high, put-other, put-same}
+use Rattle.tables.proofs.Spells.{whole, cell-back, MayFit, mount-word, mount-written, cells-fit, node-written, mount-fit, root-fit}
+use Rattle.tables.proofs.Heads.{slots-ordered, nodes-ordered, header-beneath, slots-beneath, slots-above, nodes-above, view-header, low-head, low-slots, put-low, closed-low, head-low, view-low, two-fields, one-fit, fields-fit}
 
--- ---- where the three tables stand
-
-pub header-ordered : Behind 1 0 header
-header-ordered = omega arith
-
-pub slots-ordered : Behind 256 0 slotTable
-slots-ordered = omega arith
-
-pub nodes-ordered : (n : ℕ) → Behind n 0 (nodeTable n)
-nodes-ordered n = omega arith
-
-pub header-beneath : Beneath 1 header 256
-header-beneath = omega arith
-
-pub slots-beneath : Beneath 256 slotTable 8192
-slots-beneath = omega arith
-
-pub slots-above : Above 256 slotTable
-slots-above = omega arith
-
-pub nodes-above : (n e : ℕ) → e ≤ 8192 → Above e (nodeTable n)
-nodes-above n e h = omega arith
-
--- ---- the header
-
-module _ (k : ℕ) (xs : List (List ℕ)) (mem : List ℕ) (f : Fit header (fromPlace k xs)) where
-  abbrev H : List (List ℕ)
-  H = over header (fromPlace k xs) mem 0
-
-  slots-kept : slotsOf (putHeader k xs mem) ≡ slotsOf mem
-  unfolding slotsOf putHeader slotAt
-  slots-kept = tab-same _ _ 0 256 (λ j a b. ap slotFrom (upper-kept 1 header slotTable (fromPlace k xs) mem 0 256 j (omega arith) header-beneath slots-above f))
-
-  nodes-kept : (n i c : ℕ) → nodesFrom n (putHeader k xs mem) i c ≡ nodesFrom n mem i c
-  unfolding nodesFrom putHeader nodeAt
-  nodes-kept n i c = tab-same _ _ i c (λ j a b. ap nodeFrom (upper-kept 1 header (nodeTable n) (fromPlace k xs) mem 0 256 j (omega arith) header-beneath (nodes-above n 256 (omega arith)) f))
-
-  pub head-put : 256 ≤ length mem → headOf (putHeader k xs mem) ≡ H
-  unfolding putHeader
-  head-put l = put-same 1 0 (omega arith) header (fromPlace k xs) mem 0 header-ordered (omega arith) f
-
-  -- a write into the header: the view is read off its cells
-  pub view-header : 256 ≤ length mem → view (putHeader k xs mem) ≡ instanceFrom H (slotsOf mem) (nodesFrom (field 1 H) mem 0 (field 2 H))
-  unfolding view nodesOf
-  view-header l =
-      let h : headOf (putHeader k xs mem) ≡ H = head-put l in
-      let nodes : nodesFrom (field 1 (headOf (putHeader k xs mem))) (putHeader k xs mem) 0 (field 2 (headOf (putHeader k xs mem))) ≡ nodesFrom (field 1 H) mem 0 (field 2 H) =
-      nodes-kept (field 1 (headOf (putHeader k xs mem))) 0 (field 2 (headOf (putHeader k xs mem))) ∙ (λ t. nodesFrom (field 1 (h t)) mem 0 (field 2 (h t))) in
-      λ t. instanceFrom (h t) (slots-kept t) (nodes t)
+-- ---- the bytes of the header
 
 -- a byte that is written is read
 byte-value : (v : ℕ) → v < 256 → value (bytesOf 1 v) ≡ v
@@ -175,137 +127,6 @@ rows-closed n mem i k fits l =
     (λ j a b. ap nodeFrom (close-high n i k fits (nodeTable n) mem j 0 (nodes-ordered n) (omega arith) a b))
 
 -- ---- what the cells of a row spell
-
--- a number that fills its cell
-pub whole : (k v : ℕ) (mem : List ℕ) (q : ℕ) → v < 256 ^ k → value (bytesOf k v ++ read mem q (k - length (bytesOf k v))) ≡ v
-unfolding read
-whole k v mem q h =
-    let z : k - k ≡ 0 = omega arith in
-    rw (length-bytesOf k v, z, append-nil, value-bytes k v) (mod-eq-of-lt h)
-
--- the same of the cell at a place
-pub cell-back : (k v : ℕ) (mem : List ℕ) (at : ℕ) → v < 256 ^ k → value (bytesOf k v ++ read mem (at + length (bytesOf k v)) (k - length (bytesOf k v))) ≡ v
-cell-back k v mem at h = whole k v mem _ h
-
--- a mount's numbers are within their widths
-pub record MountFits (m : Mount) : Type 0 where
-  pub index : 1 ≤ m .index
-  pub few : m .index ≤ 255
-  pub root : m .root < 2 ^ 56
-  pub uid : m .uid < 2 ^ 32
-  pub gid : m .gid < 2 ^ 32
-  pub mode : m .mode < 2 ^ 32
-
-abbrev pub MayFit : Option Mount → Type 0
-MayFit none = Unit {0}
-MayFit (some m) = MountFits m
-
-pub mount-word : (m : Mount) → MountFits m → mountFrom (m .index * 2 ^ 56 + m .root) (m .uid) (m .gid) (m .mode) ≡ some m
-mount-word m f =
-    let i : (m .index * 2 ^ 56 + m .root) / 2 ^ 56 ≡ m .index = omega (arith, f .root) in
-    let r : (m .index * 2 ^ 56 + m .root) % 2 ^ 56 ≡ m .root = omega (arith, f .root) in
-    rw (i, r, ne-eqb (m .index) 0 (λ z. omega (arith, f .index)))
-
-mount-written : (m : Option Mount) (n : ℕ) (mem : List ℕ) (i : ℕ) → MayFit m → nodeFrom (over (nodeTable n) (rowMountCells m) mem i) ≡ withMount m (nodeAt n mem i)
-unfolding nodeFrom nodeAt over row
-mount-written none n mem i f =
-    let w : value (bytesOf 8 0 ++ read mem (8192 + 16 * n + 8 * i + length (bytesOf 8 0)) (8 - length (bytesOf 8 0))) ≡ 0 = whole 8 0 mem _ (omega arith) in
-    rw w (simp add-zero)
-mount-written (some m) n mem i f =
-    let v = m .index * 2 ^ 56 + m .root in
-    let w : value (bytesOf 8 v ++ read mem (8192 + 16 * n + 8 * i + length (bytesOf 8 v)) (8 - length (bytesOf 8 v))) ≡ v = whole 8 v mem _ (omega (arith, f .few, f .root)) in
-    let a : value (bytesOf 4 (m .uid) ++ read mem (8192 + 32 * n + 4 * i + length (bytesOf 4 (m .uid))) (4 - length (bytesOf 4 (m .uid)))) ≡ m .uid = whole 4 (m .uid) mem _ (f .uid) in
-    let b : value (bytesOf 4 (m .gid) ++ read mem (8192 + 36 * n + 4 * i + length (bytesOf 4 (m .gid))) (4 - length (bytesOf 4 (m .gid)))) ≡ m .gid = whole 4 (m .gid) mem _ (f .gid) in
-    let c : value (bytesOf 4 (m .mode) ++ read mem (8192 + 40 * n + 4 * i + length (bytesOf 4 (m .mode))) (4 - length (bytesOf 4 (m .mode)))) ≡ m .mode = whole 4 (m .mode) mem _ (f .mode) in
-    rw (w, a, b, c, mount-word m f) (simp add-zero)
-
--- a name in its two cells
-pub name-back : (p s t : List ℕ) → length p ≤ 255 → nameFrom ((bytesOf 1 (length p) ++ drop (length p - 7) p) ++ s) (take (length p - 7) p ++ t) ≡ p
-unfolding nameFrom bytesOf
-name-back p s t h =
-    let L = length p in
-    let e : L % 256 ≡ L = mod-eq-of-lt (omega arith) in
-    let f : length (take (L - 7) p) ≡ L - 7 = length-take-le (L - 7) p (omega arith) in
-    let g : length (drop (L - 7) p) ≡ min L 7 = length-drop (L - 7) p ∙ omega arith in
-    let first : take (L - 7) (take (L - 7) p ++ t) ≡ take (L - 7) p = take-at (take (L - 7) p) t (L - 7) f in
-    let last : take (min L 7) (drop (L - 7) p ++ s) ≡ drop (L - 7) p = take-at (drop (L - 7) p) s (min L 7) g in
-    rw e ((λ i. first i ++ last i) ∙ take-append-drop (L - 7) p)
-
--- the cells of a new node fit, and spell it
-cells-fit : (n x above : ℕ) (p : List ℕ) → length p ≤ 255 → Fit (nodeTable n) (nodeCells x above p)
-unfolding nodeCells
-cells-fit n x above p h =
-    let e : length (bytesOf 1 (length p) ++ drop (length p - 7) p) ≤ 8 = simp (length-append, length-bytesOf, length-drop) (omega arith) in
-    let f : length (take (length p - 7) p) ≤ 248 = simp length-take (omega arith) in
-    (omega (arith, length-bytesOf 8 x), (omega (arith, length-bytesOf 8 above), (omega (arith, length-bytesOf 8 0), (e, (omega arith, (omega arith, (omega arith, (f, omega arith))))))))
-
-node-written : (n x above : ℕ) (p : List ℕ) (mem : List ℕ) (i : ℕ) → x < 2 ^ 56 → above < 2 ^ 56 → length p ≤ 255
-    → nodeFrom (over (nodeTable n) (nodeCells x above p) mem i) ≡ bare x above p
-unfolding nodeFrom over nodeCells
-node-written n x above p mem i a b h =
-    let u : value (bytesOf 8 x ++ read mem (8192 + 8 * i + length (bytesOf 8 x)) (8 - length (bytesOf 8 x))) ≡ x = whole 8 x mem _ (omega arith) in
-    let v : value (bytesOf 8 above ++ read mem (8192 + 8 * n + 8 * i + length (bytesOf 8 above)) (8 - length (bytesOf 8 above))) ≡ above = whole 8 above mem _ (omega arith) in
-    let w : value (bytesOf 8 0 ++ read mem (8192 + 16 * n + 8 * i + length (bytesOf 8 0)) (8 - length (bytesOf 8 0))) ≡ 0 = whole 8 0 mem _ (omega arith) in
-    let last = bytesOf 1 (length p) ++ drop (length p - 7) p in
-    let first = take (length p - 7) p in
-    let name : nameFrom (last ++ read mem (8192 + 24 * n + 8 * i + length last) (8 - length last)) (first ++ read mem (8192 + 44 * n + 248 * i + length first) (248 - length first)) ≡ p =
-    name-back p (read mem (8192 + 24 * n + 8 * i + length last) (8 - length last)) (read mem (8192 + 44 * n + 248 * i + length first) (248 - length first)) h in
-    let c : x % 2 ^ 56 ≡ x = mod-eq-of-lt a in
-    let d : above % 2 ^ 56 ≡ above = mod-eq-of-lt b in
-    rw (u, v, w, c, d) (λ t. record { number = x; above = above; called = name t; mount = none })
-
--- ---- the header while the rows above it change
-
--- the bytes below the node table are as they were
-abbrev pub Low : List ℕ → List ℕ → Type 0
-Low m′ mem = (q w : ℕ) → q + w ≤ 8192 → read m′ q w ≡ read mem q w
-
-pub low-head : (m′ mem : List ℕ) → Low m′ mem → headOf m′ ≡ headOf mem
-low-head m′ mem low = row-low 1 header m′ mem 0 8192 (omega arith) (omega arith) low
-
-low-slots : (m′ mem : List ℕ) → Low m′ mem → slotsOf m′ ≡ slotsOf mem
-unfolding slotsOf slotAt
-low-slots m′ mem low = tab-same _ _ 0 256 (λ j a b. ap slotFrom (row-low 256 slotTable m′ mem j 8192 b slots-beneath low))
-
--- so they are where a row is put, and where rows close up
-pub put-low : (n : ℕ) (cells : List (List ℕ)) (mem : List ℕ) (i : ℕ) → Low (putRow (nodeTable n) cells mem i) mem
-put-low n cells mem i q w h = put-below (nodeTable n) cells mem i 8192 q w (nodes-above n 8192 (omega arith)) h
-
-pub closed-low : (n : ℕ) (mem : List ℕ) (i k : ℕ) → Low (closeUp (nodeTable n) mem i k) mem
-closed-low n mem i k q w h = close-below (nodeTable n) mem i k 8192 q w (nodes-above n 8192 (omega arith)) h
-
--- and then fields of the header are written
-module _ (k : ℕ) (xs : List (List ℕ)) (m′ mem : List ℕ) (f : Fit header (fromPlace k xs)) (low : Low m′ mem) (l : 8192 ≤ length m′) where
-  abbrev J : List (List ℕ)
-  J = over header (fromPlace k xs) mem 0
-
-  pub head-low : headOf (putHeader k xs m′) ≡ J
-  head-low = head-put k xs m′ f (omega arith) ∙ over-low 1 header (fromPlace k xs) m′ mem 0 8192 (omega arith) (omega arith) f low
-
-  pub view-low : view (putHeader k xs m′) ≡ instanceFrom J (slotsOf mem) (nodesFrom (field 1 J) m′ 0 (field 2 J))
-  view-low =
-      let h : over header (fromPlace k xs) m′ 0 ≡ J = over-low 1 header (fromPlace k xs) m′ mem 0 8192 (omega arith) (omega arith) f low in
-      view-header k xs m′ f (omega arith) ∙ (λ t. instanceFrom (h t) (low-slots m′ mem low t) (nodesFrom (field 1 (h t)) m′ 0 (field 2 (h t))))
-
-pub two-fields : (c x : ℕ) (mem : List ℕ) → setNext x (setCount c mem) ≡ putHeader 2 (bytesOf 8 c ∷ bytesOf 8 x ∷ []) mem
-unfolding setNext setCount putHeader putRow write
-two-fields c x mem = refl
-
-pub one-fit : (u : ℕ) → Fit header (fromPlace 2 (bytesOf 8 u ∷ []))
-one-fit u = omega (arith, length-bytesOf 8 u)
-
-pub fields-fit : (u v : ℕ) → Fit header (fromPlace 2 (bytesOf 8 u ∷ bytesOf 8 v ∷ []))
-fields-fit u v = omega (arith, length-bytesOf 8 u, length-bytesOf 8 v)
-
--- what a mount writes fits
-mount-fit : (m : Option Mount) (n : ℕ) → Fit (nodeTable n) (rowMountCells m)
-mount-fit none n = omega (arith, length-bytesOf 8 0)
-mount-fit (some m) n =
-    omega (arith, length-bytesOf 8 (m .index * 2 ^ 56 + m .root), length-bytesOf 4 (m .uid), length-bytesOf 4 (m .gid), length-bytesOf 4 (m .mode))
-
-pub root-fit : (m : Option Mount) → Fit header (fromPlace 17 (mountCells m))
-root-fit none = omega (arith, length-bytesOf 8 0)
-root-fit (some m) = omega (arith, length-bytesOf 8 (m .index * 2 ^ 56 + m .root), length-bytesOf 4 (m .uid), length-bytesOf 4 (m .gid), length-bytesOf 4 (m .mode))
 
 module _ (mem : List ℕ) (d : Laid mem) where
   abbrev n : ℕ

@@ -27,7 +27,8 @@ use Rattle.tables.specs.Rule.{laid}
 use Rattle.tables.specs.Write.{setCounter}
 use Rattle.tables.specs.Answer.{tagIn, heldAt, mountOfPoint}
 use Rattle.tables.proofs.Indexes.{allocate-same}
-use Rattle.tables.proofs.Refine.{MountFits, view-counter}
+use Rattle.tables.proofs.Spells.{MountFits}
+use Rattle.tables.proofs.Refine.{view-counter}
 use Rattle.tables.proofs.Keeps.{keeps-counter}
 use Rattle.placing.specs.Place.{placeMem, Places}
 use Rattle.placing.specs.declared.Tags.{Tags}

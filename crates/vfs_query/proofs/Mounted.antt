@@ -14,7 +14,7 @@ use Rattle.tables.specs.Table.{row}
 use Rattle.tables.specs.Layout.{nodeTable, capacityOf}
 use Rattle.tables.specs.View.{field, mountFrom, nodeFrom, headOf, nodeAt, nodesOf, view}
 use Rattle.tables.specs.Answer.{placeIn}
-use Rattle.tables.proofs.Find.{mount-root, mount-found, mount-missing}
+use Rattle.tables.proofs.ByPlace.{mount-root, mount-found, mount-missing}
 
 abbrev LowRoot : Option Mount → Type 0
 LowRoot none = Unit {0}

@@ -1,6 +1,6 @@
 -- Each return is one of the three tests.
 use mathlib.Core.Path.{sym}
-use Rattle.tables.proofs.Find.{not-placed-low, not-placed-high, placed-by-number}
+use Rattle.tables.proofs.ByPlace.{not-placed-low, not-placed-high, placed-by-number}
 use borrow.Author.Needs.{needs}
 use Rattle.tables.proofs.rows.is_in_place.Statement.{statement}
 use Rattle.tables.proofs.rows.is_in_place.Tie as tie

@@ -1,7 +1,7 @@
 -- The root is known, and so is a number that a row has.
 use mathlib.Core.Path.{sym, ap, _∙_}
 use Rattle.tables.specs.Answer.{rowIn}
-use Rattle.tables.proofs.Find.{known-root, known-in-place, known-found, known-missing}
+use Rattle.tables.proofs.ByPlace.{known-root, known-in-place, known-found, known-missing}
 use borrow.Author.Needs.{needs}
 use Rattle.tables.proofs.rows.is_known.Statement.{statement}
 use Rattle.tables.proofs.rows.is_known.Tie as tie

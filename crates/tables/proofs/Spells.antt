@@ -1,0 +1,105 @@
+-- What the cells of a row spell: a number, a mount, a name, a new node. Assumes nothing.
+use mathlib.Core.Path.{_≡_, _∙_}
+use mathlib.Core.List.{List, _++_, append-nil}
+use mathlib.Core.Option.{Option, none, some}
+use Prim.Native.Nat.{ℕ, _+_, _-_, _*_, _/_, _%_, _^_, _≤_, _<_, min}
+use native.Mathlib.Nat.{mod-eq-of-lt, add-zero}
+use native.Mathlib.Omega.{arith}
+use lib.ListN.{length, take, drop, length-append, length-take, length-drop, take-append-drop}
+use lib.Seq.{take-at, length-take-le}
+use borrow.Author.Tests.{ne-eqb}
+use Rattle.le.specs.Mem.{read, value, bytesOf}
+use Rattle.rules.proofs.Fields.{length-bytesOf, value-bytes}
+use Rattle.rules.specs.Tree.{Mount, bare, withMount}
+use Rattle.tables.specs.Table.{row, over, Fit}
+use Rattle.tables.specs.Layout.{header, nodeTable}
+use Rattle.tables.specs.View.{mountFrom, nameFrom, nodeFrom, nodeAt}
+use Rattle.tables.specs.Write.{fromPlace, mountCells, rowMountCells, nodeCells}
+
+-- a number that fills its cell
+pub whole : (k v : ℕ) (mem : List ℕ) (q : ℕ) → v < 256 ^ k → value (bytesOf k v ++ read mem q (k - length (bytesOf k v))) ≡ v
+unfolding read
+whole k v mem q h =
+    let z : k - k ≡ 0 = omega arith in
+    rw (length-bytesOf k v, z, append-nil, value-bytes k v) (mod-eq-of-lt h)
+
+-- the same of the cell at a place
+pub cell-back : (k v : ℕ) (mem : List ℕ) (at : ℕ) → v < 256 ^ k → value (bytesOf k v ++ read mem (at + length (bytesOf k v)) (k - length (bytesOf k v))) ≡ v
+cell-back k v mem at h = whole k v mem _ h
+
+-- a mount's numbers are within their widths
+pub record MountFits (m : Mount) : Type 0 where
+  pub index : 1 ≤ m .index
+  pub few : m .index ≤ 255
+  pub root : m .root < 2 ^ 56
+  pub uid : m .uid < 2 ^ 32
+  pub gid : m .gid < 2 ^ 32
+  pub mode : m .mode < 2 ^ 32
+
+abbrev pub MayFit : Option Mount → Type 0
+MayFit none = Unit {0}
+MayFit (some m) = MountFits m
+
+pub mount-word : (m : Mount) → MountFits m → mountFrom (m .index * 2 ^ 56 + m .root) (m .uid) (m .gid) (m .mode) ≡ some m
+mount-word m f =
+    let i : (m .index * 2 ^ 56 + m .root) / 2 ^ 56 ≡ m .index = omega (arith, f .root) in
+    let r : (m .index * 2 ^ 56 + m .root) % 2 ^ 56 ≡ m .root = omega (arith, f .root) in
+    rw (i, r, ne-eqb (m .index) 0 (λ z. omega (arith, f .index)))
+
+pub mount-written : (m : Option Mount) (n : ℕ) (mem : List ℕ) (i : ℕ) → MayFit m → nodeFrom (over (nodeTable n) (rowMountCells m) mem i) ≡ withMount m (nodeAt n mem i)
+unfolding nodeFrom nodeAt over row
+mount-written none n mem i f =
+    let w : value (bytesOf 8 0 ++ read mem (8192 + 16 * n + 8 * i + length (bytesOf 8 0)) (8 - length (bytesOf 8 0))) ≡ 0 = whole 8 0 mem _ (omega arith) in
+    rw w (simp add-zero)
+mount-written (some m) n mem i f =
+    let v = m .index * 2 ^ 56 + m .root in
+    let w : value (bytesOf 8 v ++ read mem (8192 + 16 * n + 8 * i + length (bytesOf 8 v)) (8 - length (bytesOf 8 v))) ≡ v = whole 8 v mem _ (omega (arith, f .few, f .root)) in
+    let a : value (bytesOf 4 (m .uid) ++ read mem (8192 + 32 * n + 4 * i + length (bytesOf 4 (m .uid))) (4 - length (bytesOf 4 (m .uid)))) ≡ m .uid = whole 4 (m .uid) mem _ (f .uid) in
+    let b : value (bytesOf 4 (m .gid) ++ read mem (8192 + 36 * n + 4 * i + length (bytesOf 4 (m .gid))) (4 - length (bytesOf 4 (m .gid)))) ≡ m .gid = whole 4 (m .gid) mem _ (f .gid) in
+    let c : value (bytesOf 4 (m .mode) ++ read mem (8192 + 40 * n + 4 * i + length (bytesOf 4 (m .mode))) (4 - length (bytesOf 4 (m .mode)))) ≡ m .mode = whole 4 (m .mode) mem _ (f .mode) in
+    rw (w, a, b, c, mount-word m f) (simp add-zero)
+
+-- a name in its two cells
+pub name-back : (p s t : List ℕ) → length p ≤ 255 → nameFrom ((bytesOf 1 (length p) ++ drop (length p - 7) p) ++ s) (take (length p - 7) p ++ t) ≡ p
+unfolding nameFrom bytesOf
+name-back p s t h =
+    let L = length p in
+    let e : L % 256 ≡ L = mod-eq-of-lt (omega arith) in
+    let f : length (take (L - 7) p) ≡ L - 7 = length-take-le (L - 7) p (omega arith) in
+    let g : length (drop (L - 7) p) ≡ min L 7 = length-drop (L - 7) p ∙ omega arith in
+    let first : take (L - 7) (take (L - 7) p ++ t) ≡ take (L - 7) p = take-at (take (L - 7) p) t (L - 7) f in
+    let last : take (min L 7) (drop (L - 7) p ++ s) ≡ drop (L - 7) p = take-at (drop (L - 7) p) s (min L 7) g in
+    rw e ((λ i. first i ++ last i) ∙ take-append-drop (L - 7) p)
+
+-- the cells of a new node fit, and spell it
+pub cells-fit : (n x above : ℕ) (p : List ℕ) → length p ≤ 255 → Fit (nodeTable n) (nodeCells x above p)
+unfolding nodeCells
+cells-fit n x above p h =
+    let e : length (bytesOf 1 (length p) ++ drop (length p - 7) p) ≤ 8 = simp (length-append, length-bytesOf, length-drop) (omega arith) in
+    let f : length (take (length p - 7) p) ≤ 248 = simp length-take (omega arith) in
+    (omega (arith, length-bytesOf 8 x), (omega (arith, length-bytesOf 8 above), (omega (arith, length-bytesOf 8 0), (e, (omega arith, (omega arith, (omega arith, (f, omega arith))))))))
+
+pub node-written : (n x above : ℕ) (p : List ℕ) (mem : List ℕ) (i : ℕ) → x < 2 ^ 56 → above < 2 ^ 56 → length p ≤ 255
+    → nodeFrom (over (nodeTable n) (nodeCells x above p) mem i) ≡ bare x above p
+unfolding nodeFrom over nodeCells
+node-written n x above p mem i a b h =
+    let u : value (bytesOf 8 x ++ read mem (8192 + 8 * i + length (bytesOf 8 x)) (8 - length (bytesOf 8 x))) ≡ x = whole 8 x mem _ (omega arith) in
+    let v : value (bytesOf 8 above ++ read mem (8192 + 8 * n + 8 * i + length (bytesOf 8 above)) (8 - length (bytesOf 8 above))) ≡ above = whole 8 above mem _ (omega arith) in
+    let w : value (bytesOf 8 0 ++ read mem (8192 + 16 * n + 8 * i + length (bytesOf 8 0)) (8 - length (bytesOf 8 0))) ≡ 0 = whole 8 0 mem _ (omega arith) in
+    let last = bytesOf 1 (length p) ++ drop (length p - 7) p in
+    let first = take (length p - 7) p in
+    let name : nameFrom (last ++ read mem (8192 + 24 * n + 8 * i + length last) (8 - length last)) (first ++ read mem (8192 + 44 * n + 248 * i + length first) (248 - length first)) ≡ p =
+    name-back p (read mem (8192 + 24 * n + 8 * i + length last) (8 - length last)) (read mem (8192 + 44 * n + 248 * i + length first) (248 - length first)) h in
+    let c : x % 2 ^ 56 ≡ x = mod-eq-of-lt a in
+    let d : above % 2 ^ 56 ≡ above = mod-eq-of-lt b in
+    rw (u, v, w, c, d) (λ t. record { number = x; above = above; called = name t; mount = none })
+
+-- what a mount writes fits
+pub mount-fit : (m : Option Mount) (n : ℕ) → Fit (nodeTable n) (rowMountCells m)
+mount-fit none n = omega (arith, length-bytesOf 8 0)
+mount-fit (some m) n =
+    omega (arith, length-bytesOf 8 (m .index * 2 ^ 56 + m .root), length-bytesOf 4 (m .uid), length-bytesOf 4 (m .gid), length-bytesOf 4 (m .mode))
+
+pub root-fit : (m : Option Mount) → Fit header (fromPlace 17 (mountCells m))
+root-fit none = omega (arith, length-bytesOf 8 0)
+root-fit (some m) = omega (arith, length-bytesOf 8 (m .index * 2 ^ 56 + m .root), length-bytesOf 4 (m .uid), length-bytesOf 4 (m .gid), length-bytesOf 4 (m .mode))
