@@ -2,7 +2,7 @@
 use Prim.Native.Nat.{ℕ, _+_, _-_, _*_, _^_, _≤_, _<_}
 use native.Mathlib.Omega.{arith}
 use mathlib.Core.Path.{_≡_, refl, sym, ap, _∙_}
-use mathlib.Core.Bool.{Bool, true, false, cond, _&&_}
+use mathlib.Core.Bool.{Bool, true, false, cond, _&&_, and-false}
 use mathlib.Core.List.{List, [], _∷_}
 use mathlib.Core.Option.{Option, none, some}
 use lib.Dec.{leb, ltb}
@@ -19,10 +19,6 @@ spelt-le : (s : List ℕ) (n : ℕ) → n ≤ spelt n s
 unfolding spelt
 spelt-le [] n = omega arith
 spelt-le (b ∷ s) n = omega (arith, spelt-le s (n * 10 + (b - 48)))
-
-and-false : (t : Bool) → (t && false) ≡ false
-and-false true = refl
-and-false false = refl
 
 length-nil : (s : List ℕ) → length s ≡ 0 → s ≡ []
 length-nil [] h = refl

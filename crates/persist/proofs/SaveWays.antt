@@ -18,6 +18,7 @@ use Rattle.rules.specs.RoundTrip.{NamesTo}
 use Rattle.rules.proofs.Fields.{total, fields-length}
 use Rattle.rules.proofs.Encoded.{encode-length}
 use Rattle.rules.proofs.RoundTrip.{longest}
+use Rattle.rules.proofs.Shape.{entries-length}
 use Rattle.le.specs.Mem.{get, write}
 use Rattle.le.proofs.Lens.{write-append}
 use Rattle.dirent.proofs.Writes.{write-over}
@@ -50,11 +51,6 @@ pub saves-once : (mem d : List ℕ) (r t : Saved) (e f : List ℕ) → Saves mem
 saves-once mem d r t e f a b = (savedTold-injective r t (a .answer ∙ sym (b .answer)), a .bytes ∙ sym (b .bytes))
 
 -- ---- lengths
-
-entries-count : (ns : List Node) → length (entriesFor ns) ≡ length ns
-unfolding entriesFor
-entries-count [] = refl
-entries-count (n ∷ ns) = ap suc (entries-count ns)
 
 options-long : (o : Options) → length (optionsBytes o) ≡ 32
 unfolding optionsBytes total
@@ -107,7 +103,7 @@ module _ (mem d : List ℕ) where
       saves-whole h d₁ d₂ d₃ c x k f g j p q r =
           let os : List ℕ = optionsBytes (optionsFrom (headOf mem)) in
           let ts : List ℕ = trailerBytes end (countOf mem) (nextOf mem) (counterAt mem) in
-          let all : state ≡ records mem ++ (os ++ ts) = parts end e ∙ rw (entries-count (nodesOf mem), nodes-count mem) in
+          let all : state ≡ records mem ++ (os ++ ts) = parts end e ∙ rw (entries-length (nodesOf mem), nodes-count mem) in
           let a : 0 + length (records mem) ≡ end = zero-add (length (records mem)) ∙ sym e in
           let w : write d 0 state ≡ write (write (write d 0 (records mem)) end os) (end + 32) ts =
           ap (write d 0) all ∙ write-append d 0 (records mem) (os ++ ts) ∙ write-append (write d 0 (records mem)) (0 + length (records mem)) os ts
@@ -167,7 +163,7 @@ at-most : (mem : List ℕ) → laid mem ≡ true → length (encode (saved (view
 unfolding saved view
 at-most mem l =
     let r = laid-is mem l in
-    let few : length (entriesFor (nodesOf mem)) ≤ 1023 = omega (arith, entries-count (nodesOf mem), nodes-count mem, r .live, r .few-nodes) in
+    let few : length (entriesFor (nodesOf mem)) ≤ 1023 = omega (arith, entries-length (nodesOf mem), nodes-count mem, r .live, r .few-nodes) in
     let short : NamesTo 255 (entriesFor (nodesOf mem)) =
     rw (nodes-of mem) (names-to (nodeAt (capacityOf mem) mem) (λ j. name-short (capacityOf mem) mem j _ refl) 0 (countOf mem)) in
     longest .most (saved (view mem)) few short

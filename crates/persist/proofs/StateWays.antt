@@ -1,8 +1,8 @@
 -- What each way through a state restore gives. Assumes nothing.
 use mathlib.Core.Path.{_≡_, refl, sym, ap, _∙_}
-use mathlib.Core.Bool.{Bool, true, false, not, false≢true}
-use mathlib.Core.List.{List, [], _∷_, _++_}
-use mathlib.Core.Option.{Option, none, some}
+use mathlib.Core.Bool.{Bool, true, false, not}
+use mathlib.Core.List.{List, [], _++_}
+use mathlib.Core.Option.{none}
 use Prim.Native.Nat.{ℕ, _+_, _≤_, _<_}
 use native.Mathlib.Omega.{arith}
 use lib.ListN.{length}
@@ -11,7 +11,7 @@ use borrow.Author.Tests.{not-true, not-false, ne-eqb, ltb-false}
 use Rattle.le.specs.Mem.{get}
 use Rattle.rules.specs.Bytes.{Bytes}
 use Rattle.rules.specs.Numbers.{DONE, BADSAVE, BADOPT, NOROOM, NOTFRESH}
-use Rattle.rules.specs.Tree.{Mount, Node, isNone}
+use Rattle.rules.specs.Tree.{Node, isNone}
 use Rattle.rules.specs.Instance.{Instance}
 use Rattle.rules.specs.Outcome.{nothing, Outcome, refused, says, firstOf}
 use Rattle.rules.specs.Create.{unknown}
@@ -19,6 +19,7 @@ use Rattle.rules.specs.Saved.{State, countOf as recordsOf, stateOf, accepted}
 use Rattle.rules.specs.Restore.{nodesFrom, noNodes, fresh, restoredTo, restoreRule}
 use Rattle.rules.proofs.Tests.{and-both}
 use Rattle.rules.proofs.Accepted.{fits}
+use Rattle.rules.proofs.Driven.{no-nodes, no-root}
 use Rattle.tables.specs.Table.{row}
 use Rattle.tables.specs.Layout.{capacityOf, countOf}
 use Rattle.tables.specs.View.{view}
@@ -38,15 +39,6 @@ use Rattle.restore_parts.proofs.Loads.{AllLoaded, loads-all}
 use Rattle.restore_parts.proofs.StateHead.{become, view-state, state-keeps}
 
 -- ---- a fresh instance
-
-no-nodes : (ns : List Node) → noNodes ns ≡ true → ns ≡ []
-unfolding noNodes
-no-nodes [] e = refl
-no-nodes (n ∷ ns) e = absurd (false≢true e)
-
-no-root : (m : Option Mount) → isNone m ≡ true → m ≡ none
-no-root none e = refl
-no-root (some m) e = absurd (false≢true e)
 
 module _ (mem : List ℕ) (f : fresh (view mem) ≡ true) where
   parts : (noNodes (view mem .tree .nodes) ≡ true) × (isNone (view mem .tree .root) ≡ true)

@@ -1,6 +1,6 @@
 -- The instance's numbers, and the room that it has. Assumes nothing.
 use mathlib.Core.Path.{_≡_, refl, ap, _∙_}
-use mathlib.Core.Bool.{Bool, true, false, not, _||_}
+use mathlib.Core.Bool.{false, not, _||_, or-true}
 use mathlib.Core.Logic.{⊎-elim}
 use mathlib.Core.List.{List}
 use mathlib.Core.Option.{none, some}
@@ -45,10 +45,6 @@ module _ (mem : List ℕ) where
   planned-is path = refl
 
 -- ---- the room
-
-or-true : (b : Bool) → (b || true) ≡ true
-or-true true = refl
-or-true false = refl
 
 exact : (cap live next top n : ℕ) → live ≤ cap → next ≤ top → (ltb cap (live + n) || ltb top (next + n)) ≡ not (leb n (min (cap - live) (top - next)))
 exact cap live next top n h k =

@@ -29,10 +29,6 @@ pub options-put : (mem : List ℕ) (o : Options)
 unfolding put write putHeader putRow setOptions
 options-put mem o = refl
 
-pub next-put : (mem : List ℕ) (x : ℕ) → put 8 mem 24 x ≡ setNext x mem
-unfolding put write putHeader putRow setNext
-next-put mem x = refl
-
 pub state-put : (mem : List ℕ) (next counter : ℕ) (o : Options) → put 1 (put 1 (setOptions o (put 8 mem 24 next)) 81 counter) 83 (heldByte (hasBits (o .inOpts))) ≡ setState next counter o mem
 unfolding put write putHeader putRow setNext setState
 state-put mem next counter o = refl

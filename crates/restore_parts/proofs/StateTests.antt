@@ -26,11 +26,11 @@ use Rattle.tables.specs.Answer.{mountIn}
 use Rattle.tables.specs.declared.mounts.MountPoint.{MountPoint}
 use Rattle.tables.specs.declared.mounts.MountOn.{MountOn}
 use Rattle.tables.specs.declared.mounts.MountOn.the-variants.{Point, Nothing}
+use Rattle.tables.proofs.Writes.{put-next}
 use Rattle.tables.proofs.Places.{nodes-count}
 use Rattle.restore_parts.specs.Parts.{hasBits, Loads, loadNode, loadNodes, setState, stateMem}
 use Rattle.restore_parts.proofs.Records.{count-is}
 use Rattle.restore_parts.proofs.Loads.{next-capacity, next-count, next-next, next-laid}
-use Rattle.restore_parts.proofs.StateHead.{next-put}
 
 -- ---- the byte of `initialized`
 
@@ -88,7 +88,7 @@ many-by mem b n k e f = no-less n k ∙ (λ t. ltb (e t) (1 + (f ∙ sym (count-
 
 module _ (mem b : List ℕ) (at x : ℕ) (m′ : List ℕ) (i : x ≡ nodeAt b at .number) (p : m′ ≡ put 8 mem 24 x) where
   set-is : m′ ≡ setNext (nodeAt b at .number) mem
-  set-is = p ∙ next-put mem x ∙ ap (λ (y : ℕ). setNext y mem) i
+  set-is = p ∙ put-next mem x ∙ ap (λ (y : ℕ). setNext y mem) i
 
   pub record Ready : Type 0 where
     pub laid : Laid m′

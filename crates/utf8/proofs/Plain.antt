@@ -1,6 +1,6 @@
 -- A plain text is well formed, has no byte 0, and is no dots. Assumes nothing.
 use mathlib.Core.Path.{_≡_, refl, sym, ap, _∙_}
-use mathlib.Core.Bool.{Bool, true, false, not, _&&_, false≢true}
+use mathlib.Core.Bool.{true, false, not}
 use mathlib.Core.List.{List, [], _∷_}
 use Prim.Native.Nat.{ℕ, zero, suc, _+_, _≤_, _<_}
 use native.Mathlib.Nat.{zero-add}
@@ -12,6 +12,7 @@ use lib.Dec.{eqb, leb, ltb}
 use Rattle.rules.specs.Bytes.{holds}
 use Rattle.rules.specs.Path.{dot, isDot, isDots}
 use Rattle.rules.specs.Utf8.{table, fits, sequence, validTo, wellFormed}
+use Rattle.rules.proofs.Tests.{and-both}
 use Rattle.scan.specs.First.{anyOf}
 use Rattle.scan.proofs.First.{neither}
 use Rattle.path.specs.Together.{isByte}
@@ -19,10 +20,6 @@ use Rattle.utf8.specs.Plain.{odd, isOdd, plainLong}
 use Rattle.utf8.proofs.Table.{sequence-row, valid-next, valid-done}
 use Rattle.path.proofs.Naming.{same-length}
 use Rattle.path.proofs.Together.{any-first, holds-any}
-
-both : (a b : Bool) → (a && b) ≡ true → (a ≡ true) × (b ≡ true)
-both true b e = (refl, e)
-both false b e = (e, absurd (false≢true e))
 
 -- ---- a plain text is well formed
 
@@ -42,7 +39,7 @@ plain-from s (suc k) i e f =
 pub plain-formed : (s : List ℕ) → plainLong s ≡ true → wellFormed s ≡ true
 unfolding plainLong wellFormed
 plain-formed s e =
-    let n = both (leb 8 (length s)) (not (anyOf (isOdd s) 0 (length s))) e in
+    let n = and-both (leb 8 (length s)) (not (anyOf (isOdd s) 0 (length s))) e in
     eq-eqb (validTo s) (length s) (plain-from s (length s) 0 (zero-add (length s)) (not-true (anyOf (isOdd s) 0 (length s)) (n .1)))
 
 -- it has no byte 0, and is no dots
@@ -58,11 +55,11 @@ no-zero s i (suc k) e =
 module _ (s : List ℕ) (e : plainLong s ≡ true) where
   plain-long : 8 ≤ length s
   unfolding plainLong
-  plain-long = leb-true 8 (length s) (both (leb 8 (length s)) (not (anyOf (isOdd s) 0 (length s))) e .0)
+  plain-long = leb-true 8 (length s) (and-both (leb 8 (length s)) (not (anyOf (isOdd s) 0 (length s))) e .0)
 
   pub plain-no-zero : holds 0 s ≡ false
   unfolding plainLong
-  plain-no-zero = holds-any 0 s ∙ no-zero s 0 (length s) (not-true (anyOf (isOdd s) 0 (length s)) (both (leb 8 (length s)) (not (anyOf (isOdd s) 0 (length s))) e .1))
+  plain-no-zero = holds-any 0 s ∙ no-zero s 0 (length s) (not-true (anyOf (isOdd s) 0 (length s)) (and-both (leb 8 (length s)) (not (anyOf (isOdd s) 0 (length s))) e .1))
 
   pub plain-no-dot : isDot s ≡ false
   plain-no-dot = sym (same-length s (dot ∷ []) (λ q. omega (arith, plain-long, q)))
