@@ -93,9 +93,6 @@ module _ (mem path : List ℕ) where
 
   -- by what the tests answered
   module _ (l : Bool) (le : l ≡ laid mem) where
-    laid-true : not l ≡ false → laid mem ≡ true
-    laid-true e = sym le ∙ not-false l e
-
     pub small : not l ≡ true → Does mem F (unmountedTold Small) mem (unmountMem path mem)
     unfolding unmountMem unmountedTold
     small e =
@@ -105,12 +102,12 @@ module _ (mem path : List ℕ) where
     module _ (on : not l ≡ false) (u : Bool) (ue : u ≡ wellFormed path) where
       pub bad-bytes : not u ≡ true → Does mem F (unmountedTold Inval) mem (unmountMem path mem)
       unfolding badPath
-      bad-bytes e = bad (laid-true on) (rw (sym ue ∙ not-true u e))
+      bad-bytes e = bad (laid-by mem l le on) (rw (sym ue ∙ not-true u e))
 
       module _ (good : not u ≡ false) (r : Bool) (re : r ≡ rooted path) where
         pub bad-slash : not r ≡ true → Does mem F (unmountedTold Inval) mem (unmountMem path mem)
         unfolding badPath
-        bad-slash e = bad (laid-true on) (rw (sym ue ∙ not-false u good, sym re ∙ not-true r e))
+        bad-slash e = bad (laid-by mem l le on) (rw (sym ue ∙ not-false u good, sym re ∙ not-true r e))
 
         module _ (slash : not r ≡ false) (o : Walked) (k : Walks (nodesOf mem) (components 0 path) o) where
           path-good : badPath path ≡ false
@@ -121,11 +118,11 @@ module _ (mem path : List ℕ) where
           unfolding walkedOf unmountMem unmountedTold unmountRule unmountAt offMem firstOf
           missing p q =
               let n : reached (view mem) path ≡ none = sym (walk-is o k) ∙ ap walkedOf q in
-              does-nothing mem F (unmountedTold NotFound) (unmountMem path mem) (refused NOTFOUND (view mem)) (laid-true on) (rw (path-good, n)) refl refl (rw (laid-true on, path-good, n))
+              does-nothing mem F (unmountedTold NotFound) (unmountMem path mem) (refused NOTFOUND (view mem)) (laid-by mem l le on) (rw (path-good, n)) refl refl (rw (laid-by mem l le on, path-good, n))
 
           pub arrived : (x : ℕ) → o ≡ At x → (v : Unmounted) (after : List ℕ) → Unmounts mem x v after → Does mem F (unmountedTold v) after (unmountMem path mem)
           unfolding unmountMem unmountRule firstOf
           arrived x q v after f =
               let n : reached (view mem) path ≡ some x = reaches o k x q in
-              does mem F (unmountedTold v) after (unmountMem path mem) (unmountAt (view mem) (some x) (mountOf (view mem .tree) x)) (laid-true on) (rw (path-good, n)) (f .told)
-              (f .bytes ∙ sym (rw (laid-true on, path-good, n))) (f .stands) (f .keeps)
+              does mem F (unmountedTold v) after (unmountMem path mem) (unmountAt (view mem) (some x) (mountOf (view mem .tree) x)) (laid-by mem l le on) (rw (path-good, n)) (f .told)
+              (f .bytes ∙ sym (rw (laid-by mem l le on, path-good, n))) (f .stands) (f .keeps)
