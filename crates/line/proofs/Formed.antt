@@ -2,7 +2,7 @@
 use Prim.Native.Nat.{ℕ, _^_, _<_}
 use native.Mathlib.Omega.{arith}
 use mathlib.Core.Path.{_≡_, refl, sym, _∙_}
-use mathlib.Core.Bool.{Bool, true, false, cond, not, _&&_, _||_}
+use mathlib.Core.Bool.{Bool, true, false, cond, not, _&&_, or-true}
 use mathlib.Core.List.{List, [], _∷_}
 use mathlib.Core.Option.{Option, none, some}
 use lib.Dec.{lit≤, ltb}
@@ -39,10 +39,6 @@ by-filled false d u a n e = refl
 number-filled : (bits : ℕ) (s : List ℕ) (n : ℕ) → number bits s ≡ some n → same s [] ≡ false
 unfolding number
 number-filled bits s n e = by-filled (same s []) (allDigits s) (ltb (spelt 0 s) (2 ^ bits)) (spelt 0 s) n e
-
-or-true : (t : Bool) → (t || true) ≡ true
-or-true true = refl
-or-true false = refl
 
 -- fields of no form, whether or not one is empty
 pub either-none : (t : Bool) → cond {A = Option Line} t none none ≡ none
