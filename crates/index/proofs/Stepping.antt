@@ -1,7 +1,7 @@
 -- A step of a lent allocator meets its contract: a walk of its MIR, by hand. The borrow is opened, the table's three fields are lent to `take` for a lifetime
 -- that is made for the call (`Lent`), and the borrow is closed at what they hold after it. All that the proof knows of `take` is that it meets its contract.
 -- The walk is over the code of `allocate_in`. Any function with the same code and the same contract is proved by it.
--- Assumes nothing.
+-- Assumes `Given`.
 use mathlib.Core.Path.{refl}
 use Prim.Native.Nat.{ℕ, _<_, _^_, _+_}
 use mathlib.Core.List.{[], _∷_, List}

@@ -1,4 +1,4 @@
--- Calls that are refused, in general. Assumes nothing.
+-- What any call on bytes does, by the outcome of its rule: refused by the layout rule, leaving all as it was, or leaving other bytes. Assumes nothing.
 use mathlib.Core.Path.{_≡_, sym, _∙_}
 use mathlib.Core.Bool.{true, false, true≢false}
 use mathlib.Core.List.{List}

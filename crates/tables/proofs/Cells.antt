@@ -1,4 +1,4 @@
--- The cells of the header and of a row, as the code reads them. Assumes nothing.
+-- The cells of a row, as the code reads them, and its name beside another. Assumes nothing.
 use mathlib.Core.Path.{_≡_, refl, sym, ap, _∙_}
 use mathlib.Core.Bool.{Bool, true, false, _&&_, and-true, and-false}
 use mathlib.Core.List.{List, [], _∷_, _++_}
