@@ -1,6 +1,6 @@
 -- What an export answers and leaves, from what the call answers and leaves that it wraps. Assumes nothing.
 use Prim.Native.Nat.{ℕ}
-use mathlib.Core.Path.{_≡_, sym}
+use mathlib.Core.Path.{_≡_, sym, subst}
 use mathlib.Core.Bool.{cond}
 use mathlib.Core.List.{List}
 use lib.Dec.{ltb}
@@ -9,6 +9,7 @@ use Rattle.rules.specs.Numbers.{maxIno, convert, INODE, DONE}
 use Rattle.rules.specs.Instance.{Instance}
 use Rattle.rules.specs.Outcome.{Outcome}
 use Rattle.rules.specs.Create.{Creation}
+use Rattle.rules.specs.Mount.{Request}
 use Rattle.tables.specs.Call.{Told, answeredBy, writtenBy, Does}
 use Rattle.inode.specs.Converted.{codeOf, fullOf, Converts}
 use Rattle.inode.specs.declared.Converted.{Converted}
@@ -28,6 +29,12 @@ pub does-by : {A : Type 0} (numbers : Told → A) (mem : List ℕ) (f : Instance
     → r ≡ numbers t → Does mem f t after exact → DoesBy numbers mem f r after exact
 does-by numbers mem f t r after exact e d =
     record { answer = by-told numbers r t (answeredBy mem f) e (d .answer); bytes = d .bytes; stands = d .stands; keeps = d .keeps }
+
+-- the same of a call for the request q, which is the request p that is asked for
+pub does-asked : {A : Type 0} (numbers : Told → A) (mem : List ℕ) (rule : Instance → Request → Outcome) (exact : Request → List ℕ) (q p : Request) (t : Told) (r : A) (after : List ℕ)
+    → q ≡ p → r ≡ numbers t → Does mem (λ i. rule i q) t after (exact q) → DoesBy numbers mem (λ i. rule i p) r after (exact p)
+does-asked numbers mem rule exact q p t r after e h d =
+    does-by numbers mem (λ i. rule i p) t r after (exact p) h (subst (λ (x : Request). Does mem (λ i. rule i x) t after (exact x)) e d)
 
 pub writes-by : (mem : List ℕ) (f : Instance → Outcome) (d : List ℕ) (t : Told) (r : WroteAnswer) (e : List ℕ)
     → r ≡ wroteNumbers t → t ≡ answeredBy mem f → e ≡ write d 0 (writtenBy mem f) → WritesBy mem f d r e

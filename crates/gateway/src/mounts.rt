@@ -1,11 +1,13 @@
 // The mount tables: mount, restored mount, unmount, the root query and routing.
 ghost use mathlib.Core.Path.{_≡_};
+ghost use mathlib.Core.List.{List};
+ghost use Prim.Native.Nat.{ℕ};
 ghost use Rattle.rules.specs.Instance.{Instance};
 ghost use Rattle.rules.specs.Mount.{mountRule, restoreMountRule};
 ghost use Rattle.rules.specs.Unmount.{unmountRule, rootRule};
 ghost use Rattle.rules.specs.Lookup.{routeRule};
 ghost use Rattle.tables.specs.Call.{answeredBy};
-ghost use Rattle.vfs.specs.Mounting.{mountMem};
+ghost use Rattle.vfs.specs.Mounting.{requestOf, mountMem};
 ghost use Rattle.vfs.specs.Restoring.{restoreMem};
 ghost use Rattle.vfs.specs.Unmounting.{unmountMem};
 ghost use Rattle.flat.specs.Flat.{mountNumbers, restoreMountNumbers, umountNumbers, rootfsNumbers, routeNumbers};
@@ -18,6 +20,20 @@ use flat::UmountAnswer;
 use inode::BackendNumber;
 use inode::VfsInode;
 use vfs::backend::Backend;
+
+// The backend of a request, by its numbers (R3).
+fn backend(tag: u32, root: u64, max: u64, uid: u32, gid: u32, mode: u32) -> Backend
+    ensures { λ r. ⌜ ((path : List ℕ) → requestOf path r ≡ requestBy path tag root max uid gid mode) ⌝ }
+{
+    Backend {
+        tag,
+        root: BackendNumber(root),
+        max,
+        uid,
+        gid,
+        mode,
+    }
+}
 
 // The first of the rows of a mount that applies, or the mount (R68 to R79).
 #[no_mangle]
@@ -33,15 +49,7 @@ pub extern "C" fn galdovar_mount(
 ) -> MountAnswer
     ensures { λ r. ⌜ DoesBy mountNumbers (now (storage .entry)) (λ (i : Instance). mountRule i (requestBy (now (path .entry)) tag root max uid gid mode)) r (now (storage .exit)) (mountMem (requestBy (now (path .entry)) tag root max uid gid mode) (now (storage .entry))) ⌝ }
 {
-    let b = Backend {
-        tag,
-        root: BackendNumber(root),
-        max,
-        uid,
-        gid,
-        mode,
-    };
-    flat::mounted(vfs::mounting::mount(storage, path, b))
+    flat::mounted(vfs::mounting::mount(storage, path, backend(tag, root, max, uid, gid, mode)))
 }
 
 // The first of the rows of a restored mount that applies, or the mount at the index given (R91 to R95).
@@ -59,14 +67,7 @@ pub extern "C" fn galdovar_restore_mount(
 ) -> RestoreMountAnswer
     ensures { λ r. ⌜ DoesBy restoreMountNumbers (now (storage .entry)) (λ (i : Instance). restoreMountRule i «fs_idx» (requestBy (now (path .entry)) tag root max uid gid mode)) r (now (storage .exit)) (restoreMem «fs_idx» (requestBy (now (path .entry)) tag root max uid gid mode) (now (storage .entry))) ⌝ }
 {
-    let b = Backend {
-        tag,
-        root: BackendNumber(root),
-        max,
-        uid,
-        gid,
-        mode,
-    };
+    let b = backend(tag, root, max, uid, gid, mode);
     flat::restored_mount(vfs::restoring::restore_mount(storage, fs_idx, path, b))
 }
 

@@ -1,9 +1,15 @@
 -- The answer by its numbers, from what the call that it wraps answers. Assumes nothing.
+use Rattle.rules.specs.Mount.{mountRule}
+use Rattle.vfs.specs.Mounting.{mountMem}
 use Rattle.flat.specs.Flat.{mountNumbers}
-use Rattle.gateway.proofs.Laws.{does-by}
+use Rattle.gateway.specs.Calls.{requestBy}
+use Rattle.gateway.proofs.Laws.{does-asked}
 use borrow.Author.Needs.{needs}
 use Rattle.gateway.proofs.mounts.galdovar_mount.Statement.{statement}
 use Rattle.gateway.proofs.mounts.galdovar_mount.Tie as tie
+
+backend-requires : tie.Need-backend-requires
+backend-requires c κs = search needs
 
 mount-requires : tie.Need-mount-requires
 mount-requires c κs = search needs
@@ -15,7 +21,11 @@ same-length : tie.Need-same-length
 same-length c = search needs
 
 returns : tie.Need-returns
-returns c = does-by mountNumbers _ _ _ _ _ _ (c .mounted .ensures) (c .before .before .before .mount .ensures)
+returns c =
+    let a = c .before .before .before .before .before .before .before .before .args in
+    let s = a .storage .now in
+    let p = requestBy (a .path .now) (a .tag) (a .root) (a .max) (a .uid) (a .gid) (a .mode) in
+    does-asked mountNumbers s mountRule (λ q. mountMem q s) _ p _ _ _ (c .before .before .before .before .backend .ensures _) (c .mounted .ensures) (c .before .before .before .mount .ensures)
 
 pub galdovar-mount-spec : {M : Type 1} → statement M
-galdovar-mount-spec = tie.close (tie.spec mount-requires mounted-requires same-length returns)
+galdovar-mount-spec = tie.close (tie.spec backend-requires mount-requires mounted-requires same-length returns)

@@ -1,9 +1,15 @@
 -- The answer by its numbers, from what the call that it wraps answers. Assumes nothing.
+use Rattle.rules.specs.Mount.{restoreMountRule}
+use Rattle.vfs.specs.Restoring.{restoreMem}
 use Rattle.flat.specs.Flat.{restoreMountNumbers}
-use Rattle.gateway.proofs.Laws.{does-by}
+use Rattle.gateway.specs.Calls.{requestBy}
+use Rattle.gateway.proofs.Laws.{does-asked}
 use borrow.Author.Needs.{needs}
 use Rattle.gateway.proofs.mounts.galdovar_restore_mount.Statement.{statement}
 use Rattle.gateway.proofs.mounts.galdovar_restore_mount.Tie as tie
+
+backend-requires : tie.Need-backend-requires
+backend-requires c κs = search needs
 
 restore-mount-requires : tie.Need-restore-mount-requires
 restore-mount-requires c κs = search needs
@@ -15,8 +21,12 @@ same-length : tie.Need-same-length
 same-length c = search needs
 
 returns : tie.Need-returns
-returns c = does-by restoreMountNumbers _ _ _ _ _ _ (c .restored-mount .ensures) (c .before .before .before .restore-mount .ensures)
+returns c =
+    let a = c .before .before .before .before .before .before .before .before .args in
+    let s = a .storage .now in
+    let p = requestBy (a .path .now) (a .tag) (a .root) (a .max) (a .uid) (a .gid) (a .mode) in
+    does-asked restoreMountNumbers s (λ i q. restoreMountRule i (a .fs-idx) q) (λ q. restoreMem (a .fs-idx) q s) _ p _ _ _ (c .before .before .before .before .before .backend .ensures _) (c .restored-mount .ensures) (c .before .before .before .restore-mount .ensures)
 
 pub galdovar-restore-mount-spec : {M : Type 1} → statement M
 galdovar-restore-mount-spec =
-    tie.close (tie.spec restore-mount-requires restored-mount-requires same-length returns)
+    tie.close (tie.spec backend-requires restore-mount-requires restored-mount-requires same-length returns)
