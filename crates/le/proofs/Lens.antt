@@ -54,6 +54,10 @@ put-add k j mem at v =
     ap (write mem at) (bytes-add k j v) ∙ write-append mem at b (bytesOf j (v / 256 ^ k))
     ∙ ap (λ (n : ℕ). write (write mem at b) (at + n) (bytesOf j (v / 256 ^ k))) (length-bytesOf k (v % 256 ^ k))
 
+-- the same of two writes, the second behind the first
+pub put-both : (k j : ℕ) (mem mid after : List ℕ) (at v : ℕ) → mid ≡ put k mem at (v % 256 ^ k) → after ≡ put j mid (at + k) (v / 256 ^ k) → after ≡ put (k + j) mem at v
+put-both k j mem mid after at v e f = f ∙ ap (λ (m : List ℕ). put j m (at + k) (v / 256 ^ k)) e ∙ sym (put-add k j mem at v)
+
 -- one byte: where the widths begin
 pub get-one : (mem : List ℕ) (at : ℕ) → getD mem at 0 ≡ get 1 mem at
 unfolding get value read

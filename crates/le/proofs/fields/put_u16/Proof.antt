@@ -1,11 +1,13 @@
 -- Two bytes are one and one.
 use borrow.Author.Needs.{needs}
-use Rattle.le.proofs.Lens.{put-add}
+use Rattle.le.proofs.Lens.{put-both}
 use Rattle.le.proofs.fields.put_u16.Statement.{statement}
 use Rattle.le.proofs.fields.put_u16.Tie as tie
 
 returns : tie.Need-returns
-returns c = let a = c .before .before .before .before .before .before .before .before .before .args in cc (put-add 1 1 (a .s .now) (a .at) (a .v))
+returns c =
+    let a = c .before .before .before .before .before .before .before .before .before .args in
+    put-both 1 1 (a .s .now) _ _ (a .at) (a .v) (c .before .before .before .before .before .before .put-u8 .ensures) (c .before .before .put-u82 .ensures)
 
 pub put-u16-spec : {M : Type 1} → statement M
 put-u16-spec =

@@ -1,11 +1,13 @@
 -- Four bytes are two and two.
 use borrow.Author.Needs.{needs}
-use Rattle.le.proofs.Lens.{put-add}
+use Rattle.le.proofs.Lens.{put-both}
 use Rattle.le.proofs.fields.put_u32.Statement.{statement}
 use Rattle.le.proofs.fields.put_u32.Tie as tie
 
 returns : tie.Need-returns
-returns c = let a = c .before .before .before .before .before .before .before .before .before .args in cc (put-add 2 2 (a .s .now) (a .at) (a .v))
+returns c =
+    let a = c .before .before .before .before .before .before .before .before .before .args in
+    put-both 2 2 (a .s .now) _ _ (a .at) (a .v) (c .before .before .before .before .before .before .put-u16 .ensures) (c .before .before .put-u162 .ensures)
 
 pub put-u32-spec : {M : Type 1} → statement M
 put-u32-spec =

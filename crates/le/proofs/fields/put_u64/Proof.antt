@@ -1,11 +1,13 @@
 -- Eight bytes are four and four.
 use borrow.Author.Needs.{needs}
-use Rattle.le.proofs.Lens.{put-add}
+use Rattle.le.proofs.Lens.{put-both}
 use Rattle.le.proofs.fields.put_u64.Statement.{statement}
 use Rattle.le.proofs.fields.put_u64.Tie as tie
 
 returns : tie.Need-returns
-returns c = let a = c .before .before .before .before .before .before .before .before .before .args in cc (put-add 4 4 (a .s .now) (a .at) (a .v))
+returns c =
+    let a = c .before .before .before .before .before .before .before .before .before .args in
+    put-both 4 4 (a .s .now) _ _ (a .at) (a .v) (c .before .before .before .before .before .before .put-u32 .ensures) (c .before .before .put-u322 .ensures)
 
 pub put-u64-spec : {M : Type 1} → statement M
 put-u64-spec =
