@@ -10,7 +10,7 @@ use Rattle.pseudo_fs.proofs.path_fault.Statement.{statement}
 use Rattle.pseudo_fs.proofs.path_fault.Tie as tie
 
 formed : (c : tie.Else1) → wellFormed (now (c .before .before .before .before .args .path)) ≡ true
-formed c = sym (c .before .before .is-utf8 .ensures) ∙ not-false _ (c .if1 .left)
+formed c = sym (c .before .before .is-utf8 .ensures) ∙ not-false (c .before .before .is-utf8 .result) (c .if1 .left)
 
 returns : tie.Need-returns
 returns c = not-formed _ (sym (c .before .before .is-utf8 .ensures) ∙ not-true _ (c .if1 .taken))
