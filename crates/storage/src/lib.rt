@@ -190,23 +190,16 @@ fn put_bytes(s: &mut [u8], flags: u8)
 }
 
 // All that a new instance has in the bytes (R31 to R34).
-fn put_new(
-    s: &mut [u8],
-    n: usize,
-    known: u64,
-    in_opts: u64,
-    out_opts: u64,
-    flags: u8,
-    mapping: id_map::IdMapping,
-)
+fn put_new(s: &mut [u8], n: usize, known: u64, o: VfsOptions)
     requires { ⌜ 8192 ≤ length (now s) ⌝ }
-    ensures { λ _. ⌜ now (s .exit) ≡ createMem (creationOf n known «in_opts» «out_opts» flags mapping) (now (s .entry)) ⌝ }
+    ensures { λ _. ⌜ now (s .exit) ≡ createMem (creationOf n known (o .«in_opts») (o .«out_opts») (o .flags) (o .mapping)) (now (s .entry)) ⌝ }
 {
+    let mapping = o.mapping;
     put_slots(s);
-    put_words(s, n as u64, known, in_opts, out_opts);
+    put_words(s, n as u64, known, o.in_opts, o.out_opts);
     put_mapping(s, 56, mapping);
     put_mapping(s, 68, mapping);
-    put_bytes(s, flags);
+    put_bytes(s, o.flags);
 }
 
 // A new instance of N nodes, whatever the bytes held: SMALL, then BADOPT, then BADMAP, or done (R19, R26 to R34).
@@ -233,7 +226,13 @@ pub fn create(
     if id_map::is_bad(mapping) {
         return Created::BadMap;
     }
-    put_new(s, n, known, in_opts, out_opts, flags, mapping);
+    let o = VfsOptions {
+        in_opts,
+        out_opts,
+        mapping,
+        flags,
+    };
+    put_new(s, n, known, o);
     Created::Done
 }
 

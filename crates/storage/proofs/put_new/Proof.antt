@@ -11,10 +11,10 @@ returns c =
     let m₁ = m₂ .before .before .before .before in
     let w = m₁ .before .before .before .before in
     let s = w .before .before .before .before in
-    let a = s .before .before .before .args in
+    let a = s .before .before .before .before .args in
     c .before .before .put-bytes .ensures
     ∙ (rw (m₂ .put-mapping2 .ensures, m₁ .put-mapping .ensures, w .put-words .ensures, s .put-slots .ensures)
-    (all-put (a .s .now) (a .n) (a .known) (a .in-opts) (a .out-opts) (a .flags) (a .mapping)))
+    (all-put (a .s .now) (a .n) (a .known) (a .o .«in_opts») (a .o .«out_opts») (a .o .flags) (a .o .mapping)))
 
 pub put-new-spec : {M : Type 1} → statement M
 put-new-spec =
