@@ -1,4 +1,5 @@
 -- The options stand among the other fields of the header. Assumes nothing.
+use mathlib.Core.Path.{_∙_}
 use borrow.Author.Needs.{needs}
 use Rattle.saved.specs.Options.{meant}
 use Rattle.restore_parts.proofs.StateHead.{state-put}
@@ -25,8 +26,11 @@ same-length c = search needs
 
 returns : tie.Need-returns
 returns c =
-    let a = c .before .before .before .before .before .before .before .before .before .before .before .before .before .before .before .before .before .before .args in
-    cc (state-put (a .s .now) (a .next) (a .counter) (meant (a .o)))
+    let u₃ = c .before .before .before .before .before .before in
+    let u₂ = u₃ .before .before .before .before in
+    let u₁ = u₂ .before .before .before .before in
+    let a = u₁ .before .before .before .before .args in
+    c .before .before .put-u82 .ensures ∙ (rw (u₃ .put-u8 .ensures, u₂ .put-options .ensures, u₁ .put-u64 .ensures, u₁ .before .before .has-bits .ensures) (state-put (a .s .now) (a .next) (a .counter) (meant (a .o))))
 
 pub put-state-spec : {M : Type 1} → statement M
 put-state-spec =
