@@ -44,10 +44,7 @@ pub fn change(
         verbs::KEEP => lent::copy(kept, storage, n[0]),
         verbs::BACK => lent::copy(storage, kept, n[0]),
         verbs::SAME => same(n, storage, kept, regs),
-        _ => {
-            crate::told::call(verb, name, n, storage, before, saved, text, regs);
-            crate::told::rest(verb, storage, before, regs);
-        }
+        _ => crate::told::call(verb, name, n, storage, before, saved, text, regs),
     }
 }
 

@@ -6,7 +6,7 @@ use crate::verbs;
 use le::runs::same_at;
 use words::numbers::least;
 
-// A call: the verb and the numbers of the answer. What stood in the watched bytes is kept before.
+// A call, and what it left. What stood in the watched bytes is kept before.
 pub fn call(
     verb: u64,
     name: &[u8],
@@ -19,6 +19,19 @@ pub fn call(
 ) {
     steps::lent::copy(before, storage, regs[regs::WATCH]);
     sink::bytes(name, regs);
+    made(verb, n, storage, saved, text, regs);
+    left(verb, storage, before, regs);
+}
+
+// The numbers of its answer.
+fn made(
+    verb: u64,
+    n: &[u64; 8],
+    storage: &mut [u8],
+    saved: &mut [u8],
+    text: &[u8],
+    regs: &mut [u64; CELLS],
+) {
     let end = least(regs[regs::LENT], storage.len());
     let len = least(regs[regs::TEXT_LEN], text.len());
     match verb {
@@ -29,11 +42,11 @@ pub fn call(
 }
 
 // The rest of its line: the counter, what the call left, and the sum of the tables.
-pub fn rest(verb: u64, storage: &[u8], before: &[u8], regs: &mut [u64; CELLS]) {
+fn left(verb: u64, storage: &[u8], before: &[u8], regs: &mut [u64; CELLS]) {
     sink::number(words::hex::byte_at(storage, 81) as u64, regs);
     if regs[regs::WATCH] != 0 {
         sink::byte(b' ', regs);
-        left(verb, storage, before, regs);
+        watched(verb, storage, before, regs);
     }
     if regs[regs::VIEWS] != 0 {
         let lent = least(regs[regs::LENT], storage.len());
@@ -44,7 +57,7 @@ pub fn rest(verb: u64, storage: &[u8], before: &[u8], regs: &mut [u64; CELLS]) {
 }
 
 // What the call left of the watched bytes; `.` where it is done and writes.
-fn left(verb: u64, storage: &[u8], before: &[u8], regs: &mut [u64; CELLS]) {
+fn watched(verb: u64, storage: &[u8], before: &[u8], regs: &mut [u64; CELLS]) {
     if regs[regs::CODE] != 0 {
         marked(storage, before, regs);
         return;

@@ -34,7 +34,7 @@ fn digit(b: u8) -> u16
 }
 
 // The byte that two hex digits spell; above 255 where one of them is none.
-pub fn pair(a: u8, b: u8) -> u16
+fn pair(a: u8, b: u8) -> u16
     ensures { λ r. ⌜ r ≡ hexPair a b ⌝ }
 {
     digit(a) * 16 + digit(b)
