@@ -42,7 +42,7 @@ nodes-written b (suc k) at h =
     (ap₂ (λ (x y : List ℕ). x ++ y) (node-back b at h) (nodes-written b k (behind b at) h ∙ ap (λ (p : ℕ). read b p (endAt b k (behind b at) - behind b at)) a)
     ∙ sym (read-add b at n (endAt b k (behind b at) - behind b at)))
 
-nodes-count : (b : List ℕ) (k at : ℕ) → length (nodesAt b k at) ≡ k
+pub nodes-count : (b : List ℕ) (k at : ℕ) → length (nodesAt b k at) ≡ k
 unfolding nodesAt
 nodes-count b zero at = refl
 nodes-count b (suc k) at = ap suc (nodes-count b k (behind b at))
@@ -59,11 +59,11 @@ nodes-fit b (suc k) at h = (
   nodes-fit b k (behind b at) h,
 )
 
-module _ (b : List ℕ) (h : Bytes b) (a : accepted b ≡ true) where
-  clauses : (laidOut b ≡ true) × (valid (stateOf b) ≡ true)
-  unfolding accepted
-  clauses = and-both (laidOut b) (valid (stateOf b)) a
+pub clauses : (b : List ℕ) → accepted b ≡ true → (laidOut b ≡ true) × (valid (stateOf b) ≡ true)
+unfolding accepted
+clauses b a = and-both (laidOut b) (valid (stateOf b)) a
 
+module _ (b : List ℕ) (h : Bytes b) (a : accepted b ≡ true) where
   abbrev E : ℕ
   E = optionsIn b
 
@@ -74,7 +74,7 @@ module _ (b : List ℕ) (h : Bytes b) (a : accepted b ≡ true) where
       (leb 56 (length b) ∷ eqb (offsetOf b) E ∷ eqb (get 1 b (t + 17)) 1 ∷ eqb (get 6 b (t + 18)) 0 ∷ eqb (get 3 b (E + 29)) 0 ∷ ltb (get 1 b (E + 28)) 64
       ∷ eqb (endAt b (countOf b) 0) E ∷ [])
   unfolding laidOut
-  laid = passed _ (clauses .0)
+  laid = passed _ (clauses b a .0)
 
   long : length b ≡ E + 56
   long = omega (arith, leb-true 56 (length b) (laid .0))
@@ -136,6 +136,3 @@ module _ (b : List ℕ) (h : Bytes b) (a : accepted b ≡ true) where
     next = get-fits 8 b (t + 8) h;
     counter = get-fits 1 b (t + 16) h;
   }
-
-  pub good : valid (stateOf b) ≡ true
-  good = clauses .1

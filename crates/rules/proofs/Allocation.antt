@@ -10,12 +10,12 @@ use lib.Dec.{eqb}
 use borrow.Author.Tests.{eq-eqb, ne-eqb, eqb-false, not-true}
 use Rattle.rules.specs.Round.{untilTwice, freeOf, allocate}
 use Rattle.rules.specs.Allocation.{FirstFree, Exact}
-use Rattle.rules.proofs.Tests.{known, and-both}
+use Rattle.rules.proofs.Tests.{known, le-or-lt, and-both}
 use Rattle.rules.proofs.Round.{meets, finds-none, spent, At, found-at, at-found}
 
 module _ (held : ℕ → Bool) where
   -- a free index is not 0 and not held
-  pub free-is : (k : ℕ) → freeOf held k ≡ true → (0 < k) × (held k ≡ false)
+  free-is : (k : ℕ) → freeOf held k ≡ true → (0 < k) × (held k ≡ false)
   free-is k e =
       let b = and-both (not (eqb k 0)) (not (held k)) e in
       let z = eqb-false k 0 (not-true (eqb k 0) (b .0)) in
@@ -44,10 +44,10 @@ module _ (held : ℕ → Bool) (c : ℕ) (h : c < 256) where
       go (d, a) =
           let f = free-is held k (a .is-free) in
           let near : d < 256 =
-          ⊎-elim (λ (z : d ≡ 256).
-          let s : k ≡ (c + 0) % 256 = omega (arith, a .place) in
+          ⊎-elim (λ (z : 256 ≤ d).
+          let s : k ≡ (c + 0) % 256 = omega (arith, a .within, a .place) in
           absurd (true≢false (sym (a .is-free) ∙ (ap (freeOf held) s ∙ a .before 0 (omega arith)))))
-          (λ (l : d < 256). l) (last d (a .within)) in (
+          (λ (l : d < 256). l) (le-or-lt 256 d) in (
             d,
             record {
               near = near;
@@ -59,9 +59,6 @@ module _ (held : ℕ → Bool) (c : ℕ) (h : c < 256) where
               counted = a .counted;
             },
           )
-        where
-          last : (d : ℕ) → d < 257 → (d ≡ 256) ⊎ (d < 256)
-          last d l = ⊎-elim (λ (z : 256 - d ≡ 0). inl (omega arith)) (λ (p : 0 < 256 - d). inr (omega arith)) (eq-zero-or-pos (256 - d))
 
   taken-first : (k : ℕ) → (d : ℕ) × FirstFree held c k d → allocate held c .found ≡ some k
   unfolding allocate untilTwice

@@ -25,7 +25,7 @@ use Rattle.rules.proofs.Tests.{le-or-lt, and-both, or-neither, passed}
 use Rattle.rules.proofs.Rows.{first-of}
 use Rattle.rules.proofs.Ids.{within}
 use Rattle.rules.proofs.Still.{every-call}
-use Rattle.rules.proofs.Accepted.{fits, good}
+use Rattle.rules.proofs.Accepted.{clauses, fits}
 use Rattle.rules.proofs.Shape.{entries-from, entries-length}
 use Rattle.rules.proofs.Good.{good-shape}
 use Rattle.rules.proofs.MountFacts.{Keeps, mount-facts, restored-facts, unmount-facts}
@@ -55,7 +55,7 @@ module _ (i : Instance) (b : List ℕ) (f : Facts i) (bytes : Bytes b) (fresh-is
   valid-parts : (2 ≤ stateOf b .next) × (stateOf b .next ≤ topNumber) × (goodNodes (stateOf b .next) [] (stateOf b .nodes) ≡ true)
   unfolding valid
   valid-parts =
-      let t = passed _ (good b bytes ok) in
+      let t = passed _ (clauses b ok .1) in
       (leb-true 2 (stateOf b .next) (t .0), leb-true (stateOf b .next) topNumber (t .1 .0), t .1 .1 .0)
 
   state-facts : Facts (restoredTo (stateOf b) i)

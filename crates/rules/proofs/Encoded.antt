@@ -107,7 +107,7 @@ nodes-end (n ∷ ns) pre post at e f =
 abbrev optionsOf : Options → List ℕ
 optionsOf o = o .inOpts ∷ o .outOpts ∷ o .mapping .internal ∷ o .mapping .external ∷ o .mapping .range ∷ o .flags ∷ 0 ∷ []
 
-options-length : (o : Options) → length (optionsBytes o) ≡ 32
+pub options-length : (o : Options) → length (optionsBytes o) ≡ 32
 unfolding optionsBytes total
 options-length o = fields-length optionsRow (optionsOf o) refl
 

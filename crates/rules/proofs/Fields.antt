@@ -8,6 +8,7 @@ use native.Mathlib.Numerals.{add-one}
 use lib.ListN.{length, getD, take, drop, length-append}
 use lib.Seq.{take-at, drop-at, take-length, drop-cons}
 use lib.Arith.{mod-mul}
+use lib.Pow.{pow-add}
 use lib.Dec.{lit<}
 use Rattle.rules.specs.Bytes.{Bytes}
 use Rattle.rules.specs.Fields.{read, value, bytesOf, get, fields, fieldsAt}
@@ -33,6 +34,13 @@ pub value-append : (a b : List ℕ) → value (a ++ b) ≡ value a + 256 ^ lengt
 unfolding value
 value-append [] b = omega arith
 value-append (x ∷ a) b = omega (arith, value-append a b, pow-step (length a) (value b))
+
+-- so many bytes in bits
+pub bytes-bits : (k : ℕ) → 2 ^ (8 * k) ≡ 256 ^ k
+bytes-bits zero = refl
+bytes-bits (suc k) =
+    let e : 8 * suc k ≡ 8 * k + 8 = omega arith in
+    ap (λ (n : ℕ). 2 ^ n) e ∙ pow-add 2 (8 * k) 8 ∙ ap (λ (n : ℕ). n * 256) (bytes-bits k) ∙ sym (pow-suc 256 k)
 
 -- a remainder by one byte more
 pub mod-step : (k v : ℕ) → v % 256 ^ suc k ≡ (v / 256 % 256 ^ k) * 256 + v % 256
@@ -85,7 +93,7 @@ read-behind pre xs post at e =
     let l : length (pre ++ (xs ++ post)) ≡ length pre + (length xs + length post) = simp length-append in
     read-slice (pre ++ (xs ++ post)) at (length xs) (omega arith) ∙ ap (take (length xs)) (drop-at pre (xs ++ post) at e) ∙ take-at xs post (length xs) refl
 
-pub get-behind : (k v : ℕ) (pre post : List ℕ) (at : ℕ) → length pre ≡ at → v < 256 ^ k → get k (pre ++ (bytesOf k v ++ post)) at ≡ v
+get-behind : (k v : ℕ) (pre post : List ℕ) (at : ℕ) → length pre ≡ at → v < 256 ^ k → get k (pre ++ (bytesOf k v ++ post)) at ≡ v
 unfolding get
 get-behind k v pre post at e f =
     let r : read (pre ++ (bytesOf k v ++ post)) at k ≡ bytesOf k v =

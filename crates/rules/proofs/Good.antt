@@ -21,7 +21,7 @@ pub record Good (next : ℕ) (before : List Entry) (e : Entry) : Type 0 where
   pub parent : present (e .above) before ≡ true
   pub alone : used (e .above) (e .called) before ≡ false
 
-pub good-is : (next : ℕ) (before : List Entry) (e : Entry) → goodNode next before e ≡ true → Good next before e
+good-is : (next : ℕ) (before : List Entry) (e : Entry) → goodNode next before e ≡ true → Good next before e
 unfolding goodNode
 good-is next before e h =
     let t = passed _ h in

@@ -1,13 +1,13 @@
 -- The wrapped difference is the whole-number formula, and out and back is the identity. Assumes nothing.
 use mathlib.Core.Path.{_≡_, refl, ap, _∙_}
-use mathlib.Core.Bool.{Bool, true, false, cond, _&&_, false≢true}
-use mathlib.Core.Logic.{_⊎_, inl, inr, ⊎-elim}
+use mathlib.Core.Bool.{Bool, true, false, cond, _&&_}
+use mathlib.Core.Logic.{inl, inr, ⊎-elim}
 use Prim.Native.Nat.{ℕ, _+_, _-_, _%_, _^_, _≤_, _<_}
 use native.Mathlib.Omega.{arith}
 use lib.Dec.{leb, ltb}
 use borrow.Author.Tests.{leb-true, ltb-true, ltb-false, le-leb, lt-leb, lt-ltb, le-ltb}
 use Rattle.rules.specs.Ids.{Mapping, turned, badMapping, inside, mapped, unmapped, wrapped, unwrapped, WrappedIsWhole, OutAndBack, WrappedBack}
-use Rattle.rules.proofs.Tests.{le-or-lt, or-neither}
+use Rattle.rules.proofs.Tests.{le-or-lt, and-both, or-neither}
 
 -- within the mapping's limits
 pub record Within (m : Mapping) : Type 0 where
@@ -20,7 +20,7 @@ within m e =
     let o = or-neither (ltb (2 ^ 32 - 1) (m .internal + m .range)) (ltb (2 ^ 32 - 1) (m .external + m .range)) e in
     record { low = omega (arith, ltb-false (2 ^ 32 - 1) (m .internal + m .range) (o .0)); high = omega (arith, ltb-false (2 ^ 32 - 1) (m .external + m .range) (o .1)) }
 
-pub turned-good : (m : Mapping) → badMapping m ≡ false → badMapping (turned m) ≡ false
+turned-good : (m : Mapping) → badMapping m ≡ false → badMapping (turned m) ≡ false
 unfolding badMapping
 turned-good m e =
     let w = within m e in
@@ -28,18 +28,15 @@ turned-good m e =
 
 -- ---- inside or not
 
-pub is-inside : (m : Mapping) (x : ℕ) → m .internal ≤ x → x < m .internal + m .range → inside m x ≡ true
+is-inside : (m : Mapping) (x : ℕ) → m .internal ≤ x → x < m .internal + m .range → inside m x ≡ true
 unfolding inside
 is-inside m x a b = rw (le-leb (m .internal) x a, lt-ltb x (m .internal + m .range) b)
 
-pub inside-is : (m : Mapping) (x : ℕ) → inside m x ≡ true → (m .internal ≤ x) × (x < m .internal + m .range)
+inside-is : (m : Mapping) (x : ℕ) → inside m x ≡ true → (m .internal ≤ x) × (x < m .internal + m .range)
 unfolding inside
-inside-is m x e = go (leb (m .internal) x) refl (ltb x (m .internal + m .range)) refl e
-  where
-    go : (a : Bool) → leb (m .internal) x ≡ a → (b : Bool) → ltb x (m .internal + m .range) ≡ b → (a && b) ≡ true → (m .internal ≤ x) × (x < m .internal + m .range)
-    go true p true q f = (leb-true (m .internal) x p, ltb-true x (m .internal + m .range) q)
-    go true p false q f = absurd (false≢true f)
-    go false p b q f = absurd (false≢true f)
+inside-is m x e =
+    let b = and-both (leb (m .internal) x) (ltb x (m .internal + m .range)) e in
+    (leb-true (m .internal) x (b .0), ltb-true x (m .internal + m .range) (b .1))
 
 -- ---- the wrapped difference
 

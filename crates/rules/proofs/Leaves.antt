@@ -1,12 +1,11 @@
 -- What a refusal leaves, of every call. Assumes nothing.
 use mathlib.Core.Path.{_≡_, refl, ap}
 use mathlib.Core.Bool.{false}
-use mathlib.Core.Logic.{_⊎_, inl, inr, ⊎-elim}
+use mathlib.Core.Logic.{inl, inr, ⊎-elim}
 use mathlib.Core.List.{List}
 use mathlib.Core.Option.{Option, none, some}
 use Prim.Native.Nat.{ℕ, _+_, _%_}
 use native.Mathlib.Omega.{arith}
-use lib.ListN.{length}
 use borrow.Author.Tests.{not-true}
 use Rattle.rules.specs.Numbers.{INVAL, INODE, FULL}
 use Rattle.rules.specs.Path.{rooted}
@@ -21,6 +20,7 @@ use Rattle.rules.specs.Calls.{Call, mount, restore-mount, umount, restor
 use Rattle.rules.specs.Leaves.{Leaves, EveryRefusal}
 use Rattle.rules.proofs.Rows.{first-of, each-of}
 use Rattle.rules.proofs.Round.{spent}
+use Rattle.rules.proofs.Turn.{seen-moved}
 use Rattle.rules.proofs.Still.{Still, still-refused, every-call}
 
 module _ (i : Instance) (c : Call) where
@@ -54,10 +54,6 @@ one-further : (i : Instance) → allocation i .found ≡ none → allocation i .
 unfolding allocation allocate untilTwice
 one-further i e = omega (arith, spent (freeOf (heldIn i)) 257 (counterOf i) e)
 
-moved-is : (i : Instance) → allocation i .counter ≡ (counterOf i + length (allocation i .visits)) % 256
-unfolding allocation allocate
-moved-is i = refl
-
 module _ (i : Instance) (r : Request) where
   row5 : allocation i .found ≡ none → Leaves i (mount r) (allocated i FULL nothing (stepped i))
   row5 e = record {
@@ -71,7 +67,7 @@ module _ (i : Instance) (r : Request) where
   row6 : rooted (r .path) ≡ false → Leaves i (mount r) (allocated i INVAL nothing (stepped i))
   row6 e = record {
     full = λ f. absurd (omega arith);
-    inval = λ f. inr (r, record { call = refl; slash = e; leaves = ap (λ (n : ℕ). withCounter n i) (moved-is i) });
+    inval = λ f. inr (r, record { call = refl; slash = e; leaves = ap (λ (n : ℕ). withCounter n i) (seen-moved i) });
     inode = λ f. absurd (omega arith);
     others = λ f g h k. absurd (h refl);
     values = λ f. (refl, refl);
@@ -81,7 +77,7 @@ module _ (i : Instance) (r : Request) where
   row7 = record {
     full = λ f. absurd (omega arith);
     inval = λ f. absurd (omega arith);
-    inode = λ f. inr (inl (r, record { call = refl; leaves = ap (λ (n : ℕ). walkedTo (r .path) (withCounter n i)) (moved-is i) }));
+    inode = λ f. inr (inl (r, record { call = refl; leaves = ap (λ (n : ℕ). walkedTo (r .path) (withCounter n i)) (seen-moved i) }));
     others = λ f g h k. absurd (k refl);
     values = λ f. (refl, refl);
   }

@@ -1,5 +1,6 @@
 -- What is proved of the rules.
 pub mod Tests
+pub mod Same
 pub mod Fields
 pub mod Worked
 pub mod Rows

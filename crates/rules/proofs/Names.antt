@@ -2,7 +2,7 @@
 use mathlib.Core.Path.{_≡_, refl, sym, ap, _∙_, subst}
 use mathlib.Core.Bool.{Bool, true, false, cond, _&&_, true≢false}
 use mathlib.Core.List.{List, [], _∷_}
-use mathlib.Core.Logic.{_⊎_, ⊎-elim}
+use mathlib.Core.Logic.{⊎-elim}
 use Prim.Native.Nat.{ℕ, zero, suc, _+_, _≤_}
 use native.Mathlib.Nat.{suc-inj}
 use native.Mathlib.Omega.{arith}
@@ -14,6 +14,7 @@ use Rattle.rules.specs.Utf8.{Range, table, within, fits, firstRow, seque
 use Rattle.rules.specs.Path.{slash, Part, name, parent, onto, partsBy, pieces, isDot, isDots, sorted, kept, components, anyLonger, tooLong}
 use Rattle.rules.specs.Saved.{goodName}
 use Rattle.rules.proofs.Tests.{known, and-both, or-neither, pass}
+use Rattle.rules.proofs.Same.{some-byte}
 
 -- ---- sequences do not reach over a slash
 
@@ -33,10 +34,6 @@ unfoldable Apart : List Range → Type 0
 Apart [] = Unit {0}
 Apart (r ∷ rs) = (within r slash ≡ false) × Apart rs
 
-and-false-l : (a b : Bool) → a ≡ false → (a && b) ≡ false
-and-false-l true b e = absurd (true≢false e)
-and-false-l false b e = refl
-
 -- what such ranges say of bytes, they say of the bytes before a slash
 fits-cut : (rs : List Range) (s : List ℕ) → Apart rs → fits rs s ≡ fits rs (cut s)
 unfolding fits cut Apart
@@ -45,7 +42,7 @@ fits-cut (r ∷ rs) [] h = refl
 fits-cut (r ∷ rs) (b ∷ s) h = go (eqb b slash) refl (fits-cut rs s (h .1))
   where
     go : (t : Bool) → eqb b slash ≡ t → fits rs s ≡ fits rs (cut s) → (within r b && fits rs s) ≡ fits (r ∷ rs) (cond t [] (b ∷ cut s))
-    go true e k = and-false-l (within r b) (fits rs s) (ap (within r) (eqb-true b slash e) ∙ h .0)
+    go true e k = rw (ap (within r) (eqb-true b slash e) ∙ h .0)
     go false e k = ap (λ (x : Bool). within r b && x) k
 
 fits-apart : (rs : List Range) (s : List ℕ) → Apart rs → fits rs s ≡ true → NoSlash (length rs) s
@@ -191,11 +188,6 @@ unfoldable pub GoodParts : List Part → Type 0
 GoodParts [] = Unit {0}
 GoodParts (parent at ∷ ps) = GoodParts ps
 GoodParts (name at p ∷ ps) = (goodName p ≡ true) × GoodParts ps
-
-some-byte : (p : List ℕ) → same p [] ≡ false → 1 ≤ length p
-unfolding same
-some-byte [] e = absurd (true≢false e)
-some-byte (b ∷ p) e = omega arith
 
 good : (p : List ℕ) → same p [] ≡ false → isDot p ≡ false → isDots p ≡ false → holds slash p ≡ false → length p ≤ 255 → Whole 0 p → goodName p ≡ true
 unfolding goodName wellFormed validTo

@@ -118,7 +118,7 @@ all-parents all (n ∷ ns) p = (go (eqb (n .above) rootNumber) refl (p .0), all-
 
 -- ---- and fit
 
-name-length : (p : List ℕ) → goodName p ≡ true → length p ≤ 255
+pub name-length : (p : List ℕ) → goodName p ≡ true → length p ≤ 255
 unfolding goodName
 name-length p g = leb-true (length p) 255 (passed _ g .1 .0)
 

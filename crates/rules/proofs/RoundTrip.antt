@@ -11,7 +11,7 @@ use Rattle.rules.specs.Saved.{Entry, State, nodeBytes, nodesBytes, encod
 use Rattle.rules.specs.Restore.{saved, entriesFor}
 use Rattle.rules.specs.RoundTrip.{Fits, ThereAndBack, Only, NoOther, FreshLength, NamesTo, NamesOf, Longest}
 use Rattle.rules.proofs.Encoded.{node-length, encode-length, state-read, is-accepted}
-use Rattle.rules.proofs.Accepted.{written, fits, good}
+use Rattle.rules.proofs.Accepted.{clauses, written, fits}
 
 -- the theorem: saved bytes give back the state
 pub there-and-back : ThereAndBack
@@ -26,7 +26,7 @@ no-other b s h = go (accepted b) refl
     go : (t : Bool) → accepted b ≡ t → cond t (some (stateOf b)) none ≡ some s → Only b s
     go true a e =
         let same : stateOf b ≡ s = cc in
-        record { bytes = sym (written b h a) ∙ ap encode same; fits = subst Fits same (fits b h a); good = ap valid (sym same) ∙ good b h a }
+        record { bytes = sym (written b h a) ∙ ap encode same; fits = subst Fits same (fits b h a); good = ap valid (sym same) ∙ clauses b a .1 }
     go false a e =
         let z : _≡_ {A = ℕ} 0 1 = cc in
         absurd (omega arith)

@@ -7,13 +7,13 @@ use Prim.Native.Nat.{ℕ, suc, _+_, _≤_, _<_}
 use native.Mathlib.Omega.{arith}
 use lib.ListN.{length}
 use lib.Dec.{eqb}
-use borrow.Author.Tests.{eqb-true, eqb-false, eq-eqb, ne-eqb}
 use Rattle.rules.specs.Bytes.{same}
 use Rattle.rules.specs.Tree.{Mount, Node, isChild, childIn, withMount, mountAt, without}
 use Rattle.rules.specs.Saved.{Entry, used, goodName}
 use Rattle.rules.specs.Restore.{entryFor, entriesFor, nodesFrom}
 use Rattle.rules.specs.Driven.{Rises, Below, Named, Unique, Shape}
 use Rattle.rules.proofs.Tests.{or-neither}
+use Rattle.rules.proofs.Same.{eqb-sym, same-sym}
 
 -- ---- nodes and entries
 
@@ -52,20 +52,6 @@ child-unused (n ∷ ns) here p e = go (eqb (n .above) here && same (n .called) p
     go false f k = k f
 
 -- ---- the same parent and name, either way round
-
-eqb-sym : (a b : ℕ) → eqb a b ≡ eqb b a
-eqb-sym a b = go (eqb a b) refl
-  where
-    go : (t : Bool) → eqb a b ≡ t → t ≡ eqb b a
-    go true e = sym (eq-eqb b a (sym (eqb-true a b e)))
-    go false e = sym (ne-eqb b a (λ q. eqb-false a b e (sym q)))
-
-same-sym : (p q : List ℕ) → same p q ≡ same q p
-unfolding same
-same-sym [] [] = refl
-same-sym [] (y ∷ q) = refl
-same-sym (x ∷ p) [] = refl
-same-sym (x ∷ p) (y ∷ q) = rw (eqb-sym x y, same-sym p q)
 
 abbrev pub beside : Entry → Entry → Bool
 beside d e = eqb (d .above) (e .above) && same (d .called) (e .called)

@@ -1,11 +1,12 @@
--- Tests: both, neither, all of a list, and which of two numbers is the smaller. Assumes nothing.
+-- Tests: both, neither, all of a list or one that fails, and which of two numbers is the smaller. Assumes nothing.
 use mathlib.Core.Path.{_≡_, refl}
-use mathlib.Core.Bool.{Bool, true, false, _&&_, _||_, true≢false, false≢true}
+use mathlib.Core.Bool.{Bool, true, false, _&&_, _||_, true≢false, false≢true, and-false}
 use mathlib.Core.Logic.{_⊎_, inl, inr}
 use mathlib.Core.List.{List, [], _∷_}
-use Prim.Native.Nat.{ℕ, _≤_, _<_}
+use Prim.Native.Nat.{ℕ, zero, suc, _≤_, _<_}
 use native.Mathlib.Omega.{arith}
 use native.Mathlib.Decide.{decLe}
+use lib.ListN.{getD}
 use Rattle.rules.specs.Saved.{every}
 
 pub known : (b : Bool) → (b ≡ true) ⊎ (b ≡ false)
@@ -37,3 +38,11 @@ unfolding every
 passed [] h = tt
 passed (true ∷ ts) h = (refl, passed ts h)
 passed (false ∷ ts) h = absurd (false≢true h)
+
+-- one that fails, wherever it stands among the others
+pub fails : (k : ℕ) (ts : List Bool) → getD ts k true ≡ false → every ts ≡ false
+unfolding every
+fails zero [] e = e
+fails (suc k) [] e = e
+fails zero (t ∷ ts) e = rw e
+fails (suc k) (t ∷ ts) e = rw (fails k ts e, and-false)

@@ -130,6 +130,11 @@ keeps-turn i o h q = record {
   sees = λ d l p. absurd (omega (arith, rw (q .visits) at l));
 }
 
+-- a search moves the counter by as many as it visits
+pub seen-moved : (i : Instance) → allocation i .counter ≡ (counterOf i + length (allocation i .visits)) % 256
+unfolding allocation allocate
+seen-moved i = refl
+
 module _ (i : Instance) (h : counterOf i < 256) where
   seen-round : allocation i .visits ≡ goingRound (length (allocation i .visits)) (counterOf i)
   unfolding allocation allocate untilTwice
@@ -138,10 +143,6 @@ module _ (i : Instance) (h : counterOf i < 256) where
   seen-ends : (k : ℕ) → allocation i .found ≡ some k → allocation i .counter ≡ after k
   unfolding allocation allocate untilTwice
   seen-ends k e = ends (freeOf (heldIn i)) 257 (counterOf i) k h e
-
-  seen-moved : allocation i .counter ≡ (counterOf i + length (allocation i .visits)) % 256
-  unfolding allocation allocate
-  seen-moved = refl
 
   seen-some : 0 < length (allocation i .visits)
   unfolding allocation allocate untilTwice goingRound visited
@@ -158,7 +159,7 @@ module _ (i : Instance) (h : counterOf i < 256) where
 moves-turn : (i : Instance) (c : Call) (o : Outcome) (r : Request) → counterOf i < 256 → Moves i c o r → Turn i o
 moves-turn i c o r h q = record {
   round = rw (q .visits) (seen-round i h);
-  moved = q .counter ∙ rw (q .visits) (seen-moved i h);
+  moved = q .counter ∙ rw (q .visits) (seen-moved i);
   ended-at = λ k e. q .counter ∙ seen-ends i h k (sym (q .found) ∙ e);
   counted = λ k e. rw (q .visits) (seen-some i h);
   sees = λ d l p. rw (q .visits, q .found) (seen-meets i h d (rw (q .visits) at l) p);

@@ -74,7 +74,7 @@ down ns high here p x r e h = go (child-place ns 2 high here p x r e)
 
 -- ---- more nodes
 
-node-append : (ns ms : List Node) (x : ℕ) (n : Node) → nodeIn ns x ≡ some n → nodeIn (ns ++ ms) x ≡ some n
+pub node-append : (ns ms : List Node) (x : ℕ) (n : Node) → nodeIn ns x ≡ some n → nodeIn (ns ++ ms) x ≡ some n
 unfolding nodeIn
 node-append [] ms x n e = let z : _≡_ {A = ℕ} 0 1 = cc in absurd (omega arith)
 node-append (m ∷ ns) ms x n e = go (eqb (m .number) x) e (node-append ns ms x n)

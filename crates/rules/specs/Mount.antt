@@ -106,7 +106,7 @@ mountRule i r =
     ∷ [])
     (mountAs i r (allocation i .found))
 
--- ---- restored mount: rows 1, 2, BADINDEX, 3, 4, 6, 7, 8; no allocation
+-- ---- restored mount: no allocation
 
 -- rows 1, 2, BADINDEX, 3, 4, 6, 7, 8, with the index given; the counter stays; what then still stands in the slot is displaced (R91 to R95)
 unfoldable pub restoreMountRule : Instance → ℕ → Request → Outcome

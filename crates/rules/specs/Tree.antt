@@ -63,7 +63,7 @@ unfoldable pub childrenIn : List Node → ℕ → List Node
 childrenIn [] x = []
 childrenIn (n ∷ ns) x = cond (eqb (n .above) x) (n ∷ childrenIn ns x) (childrenIn ns x)
 
--- ---- the walk: a missing name answers none
+-- ---- the walk
 
 -- none stays none
 abbrev pub onward : {A B : Type 0} → Option A → (A → Option B) → Option B
@@ -76,7 +76,7 @@ walk nodes here [] = some here
 walk nodes here (parent at ∷ ps) = walk nodes (parentIn nodes here) ps
 walk nodes here (name at p ∷ ps) = onward (childIn nodes here p) (λ (x : ℕ). walk nodes x ps)
 
--- ---- the mount walk: the nodes made so far, and where it stands
+-- ---- the mount walk
 
 -- the nodes made so far, and the node where the walk stands (R48)
 pub record Made : Type 0 where
