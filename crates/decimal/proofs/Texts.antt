@@ -6,8 +6,8 @@ use mathlib.Core.Path.{_≡_, refl, sym, ap, _∙_}
 use mathlib.Core.Bool.{Bool, true, false}
 use mathlib.Core.List.{List, [], _∷_, _++_}
 use lib.Dec.{ltb}
-use lib.ListN.{length, set, length-append}
-use lib.Seq.{sets}
+use lib.ListN.{length, take, drop, set, length-append}
+use lib.Seq.{sets, sets-eq, take-append-seam}
 use borrow.Author.Tests.{lt-ltb, le-ltb, ltb-true, ltb-false}
 use Rattle.rules.specs.Session.{digits, decimal}
 use Rattle.decimal.specs.Wrote.{Wrote}
@@ -72,6 +72,10 @@ sets-append l i [] ys = ap (λ (k : ℕ). sets l k ys) (add-zero i)
 sets-append l i (x ∷ xs) ys =
     ap (λ (k : ℕ). sets (sets (set l i x) (suc i) xs) k ys) (let e : i + suc (length xs) ≡ suc i + length xs = omega arith in e)
     ∙ sets-append (set l i x) (suc i) xs ys
+
+-- a text at the front is there to be read
+pub sets-front : (xs l : List ℕ) → length xs ≤ length l → take (length xs) (sets l 0 xs) ≡ xs
+sets-front xs l h = rw (sets-eq xs l 0 (omega arith)) (take-append-seam xs (drop (0 + length xs) l))
 
 -- the last digit alone, or behind those before it
 pub put-first : (n i : ℕ) (l : List ℕ) → n < 10 → set l i (48 + n) ≡ sets l i (decimal n)
