@@ -1,7 +1,7 @@
 -- The answers of a save: a law for each, that the contract allows one alone, what each leaves, and how much is written at most. Assumes nothing.
 use mathlib.Core.Path.{_≡_, refl, sym, ap, _∙_}
 use mathlib.Core.Bool.{Bool, true, false}
-use mathlib.Core.List.{List, [], _∷_, _++_}
+use mathlib.Core.List.{List, _++_}
 use Prim.Native.Nat.{ℕ, zero, suc, _+_, _≤_, _<_}
 use native.Mathlib.Nat.{zero-add}
 use native.Mathlib.Decide.{decLe}
@@ -10,13 +10,11 @@ use lib.ListN.{length, drop}
 use borrow.Author.Tests.{lt-ltb, le-ltb}
 use Rattle.rules.specs.Numbers.{SMALL}
 use Rattle.rules.specs.Tree.{Node}
-use Rattle.rules.specs.Instance.{Options}
 use Rattle.rules.specs.Outcome.{wrote, Outcome, refused, writes, firstOf}
-use Rattle.rules.specs.Saved.{optionsRow, optionsBytes, trailerBytes, encode}
+use Rattle.rules.specs.Saved.{optionsBytes, trailerBytes, encode}
 use Rattle.rules.specs.Restore.{entriesFor, saved, saveRule}
 use Rattle.rules.specs.RoundTrip.{NamesTo}
-use Rattle.rules.proofs.Fields.{total, fields-length}
-use Rattle.rules.proofs.Encoded.{encode-length}
+use Rattle.rules.proofs.Encoded.{options-length, encode-length}
 use Rattle.rules.proofs.RoundTrip.{longest}
 use Rattle.rules.proofs.Shape.{entries-length}
 use Rattle.le.specs.Mem.{get, write}
@@ -49,12 +47,6 @@ savedTold-injective Small Small e = refl
 -- any two answers that the contract allows are equal, and so are the bytes after
 pub saves-once : (mem d : List ℕ) (r t : Saved) (e f : List ℕ) → Saves mem d r e → Saves mem d t f → (r ≡ t) × (e ≡ f)
 saves-once mem d r t e f a b = (savedTold-injective r t (a .answer ∙ sym (b .answer)), a .bytes ∙ sym (b .bytes))
-
--- ---- lengths
-
-options-long : (o : Options) → length (optionsBytes o) ≡ 32
-unfolding optionsBytes total
-options-long o = fields-length optionsRow (o .inOpts ∷ o .outOpts ∷ o .mapping .internal ∷ o .mapping .external ∷ o .mapping .range ∷ o .flags ∷ 0 ∷ []) refl
 
 -- ---- each answer
 
@@ -107,7 +99,7 @@ module _ (mem d : List ℕ) where
           let a : 0 + length (records mem) ≡ end = zero-add (length (records mem)) ∙ sym e in
           let w : write d 0 state ≡ write (write (write d 0 (records mem)) end os) (end + 32) ts =
           ap (write d 0) all ∙ write-append d 0 (records mem) (os ++ ts) ∙ write-append (write d 0 (records mem)) (0 + length (records mem)) os ts
-          ∙ rw (a, options-long (optionsFrom (headOf mem))) in
+          ∙ rw (a, options-length (optionsFrom (headOf mem))) in
           let last : d₃ ≡ write d 0 state = r ∙ rw (f, g, j, q, p) (sym w) in
           let s : end + 56 ≡ length state = omega (arith, size) in
           rw (last, s) (saves-all (omega (arith, size)))

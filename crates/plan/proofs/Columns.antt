@@ -15,10 +15,11 @@ use Rattle.le.specs.Mem.{read}
 use Rattle.rules.specs.Bytes.{same}
 use Rattle.rules.specs.Numbers.{rootNumber}
 use Rattle.rules.specs.Tree.{Node, bare, isChild, childIn, nodeIn, aboveOf, parentIn}
+use Rattle.rules.proofs.Same.{same-length}
 use Rattle.rules.proofs.Fields.{read-slice, read-all}
+use Rattle.rules.proofs.Walk.{node-append}
 use Rattle.path.specs.Steps.{part}
 use Rattle.path.proofs.Places.{part-length}
-use Rattle.path.proofs.Naming.{same-length}
 use Rattle.tables.specs.Table.{tab}
 use Rattle.tables.specs.Layout.{capacityOf, nextOf}
 use Rattle.tables.specs.View.{nodeAt, nodesOf}
@@ -26,7 +27,7 @@ use Rattle.tables.specs.Answer.{placeIn}
 use Rattle.tables.proofs.Tab.{length-tab, tab-next, tab-done, tab-append}
 use Rattle.tables.proofs.Places.{place-first, place-nowhere, nodes-count, nodes-at}
 use Rattle.plan.specs.Plan.{Columns, columns, noted, plannedAt, plannedFrom}
-use Rattle.plan.proofs.Nodes.{node-first, node-second}
+use Rattle.plan.proofs.Nodes.{node-second}
 
 -- ---- whether planned node j is the child of a name
 
@@ -40,7 +41,7 @@ module _ (path : List ℕ) (t : Columns) (j here : ℕ) (p : List ℕ) where
     unfolding isChild plannedAt
     is-longer d =
         let k = part-length path (getD (t .starts) j 0) (getD (t .lens) j 0) h in
-        let q : same (part path (getD (t .starts) j 0) (getD (t .lens) j 0)) p ≡ false = sym (same-length (part path (getD (t .starts) j 0) (getD (t .lens) j 0)) p (λ f. d (e ∙ (sym k ∙ f)))) in
+        let q : same (part path (getD (t .starts) j 0) (getD (t .lens) j 0)) p ≡ false = same-length (part path (getD (t .starts) j 0) (getD (t .lens) j 0)) p (λ f. d (e ∙ (sym k ∙ f))) in
         rw (q, and-false)
 
     pub is-named : getD (t .made) j 0 ≡ here → l ≡ length p → (a : ℕ) → a ≡ getD (t .starts) j 0 → {r : Bool} → r ≡ same (read path a l) (read p 0 l) → r ≡ isChild here p (plannedAt path 0 t j)
@@ -111,7 +112,7 @@ module _ (mem path : List ℕ) (t : Columns) (count x : ℕ) (d : x ≡ rootNumb
   unfolding parentIn
   up-live i e =
       let f = place-first (nodesOf mem) x i e in
-      let n : nodeIn all x ≡ some (nodeAt (capacityOf mem) mem i) = node-first x (nodesOf mem) (plannedFrom path (nextOf mem) t 0 count) (f .node ∙ ap some (nodes-at mem i (omega (arith, f .within, nodes-count mem)))) in
+      let n : nodeIn all x ≡ some (nodeAt (capacityOf mem) mem i) = node-append (nodesOf mem) (plannedFrom path (nextOf mem) t 0 count) x _ (f .node ∙ ap some (nodes-at mem i (omega (arith, f .within, nodes-count mem)))) in
       rw (ne-eqb x 1 d, n)
 
   module _ (e : placeIn (nodesOf mem) x ≡ none) where

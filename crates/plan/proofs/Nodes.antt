@@ -35,15 +35,6 @@ module _ (here : ℕ) (p : List ℕ) where
       go false ih e = ih e
 
 module _ (x : ℕ) where
-  pub node-first : (xs ys : List Node) {n : Node} → nodeIn xs x ≡ some n → nodeIn (xs ++ ys) x ≡ some n
-  unfolding nodeIn
-  node-first [] ys e = let z : _≡_ {A = ℕ} 0 1 = cc in absurd (omega arith)
-  node-first (m ∷ xs) ys {n} e = go (eqb (m .number) x) (node-first xs ys) e
-    where
-      go : (t : Bool) → (nodeIn xs x ≡ some n → nodeIn (xs ++ ys) x ≡ some n) → cond t (some m) (nodeIn xs x) ≡ some n → cond t (some m) (nodeIn (xs ++ ys) x) ≡ some n
-      go true ih e = e
-      go false ih e = ih e
-
   pub node-second : (xs ys : List Node) → nodeIn xs x ≡ none → nodeIn (xs ++ ys) x ≡ nodeIn ys x
   unfolding nodeIn
   node-second [] ys e = refl

@@ -1,5 +1,5 @@
 -- What accepted bytes say of each record and of the rest of the state: all that the storage needs. Assumes nothing.
-use mathlib.Core.Path.{_≡_, refl, ap, subst}
+use mathlib.Core.Path.{_≡_, subst}
 use mathlib.Core.Bool.{true}
 use mathlib.Core.List.{List, [], _∷_}
 use Prim.Native.Nat.{ℕ, zero, suc, _+_, _^_, _≤_, _<_}
@@ -7,11 +7,13 @@ use native.Mathlib.Nat.{add-zero, zero-add}
 use native.Mathlib.Omega.{arith}
 use lib.ListN.{length}
 use borrow.Author.Tests.{leb-true}
-use Rattle.rules.specs.Saved.{Entry, nodeAt, behind, nodesAt, countOf, stateOf, laidOut, goodName, valid, accepted}
+use Rattle.rules.specs.Saved.{Entry, nodeAt, nodesAt, countOf, stateOf, valid, accepted}
 use Rattle.rules.specs.Driven.{Rises, Below, Named, Shape}
-use Rattle.rules.proofs.Tests.{and-both, passed}
+use Rattle.rules.proofs.Tests.{passed}
+use Rattle.rules.proofs.Accepted.{nodes-count, clauses}
 use Rattle.rules.proofs.Shape.{rises-end}
 use Rattle.rules.proofs.Good.{good-shape}
+use Rattle.rules.proofs.Restored.{name-length}
 use Rattle.saved.specs.Scan.{startOf}
 use Rattle.restore_parts.specs.Parts.{Loads}
 
@@ -21,16 +23,12 @@ unfoldable pub AllLoad : List Entry → Type 0
 AllLoad [] = Unit {0}
 AllLoad (e ∷ es) = Loads e × AllLoad es
 
-name-short : (p : List ℕ) → goodName p ≡ true → length p ≤ 255
-unfolding goodName
-name-short p g = leb-true (length p) 255 (passed _ g .1 .0)
-
 shape-loads : (low next : ℕ) (es : List Entry) → 2 ≤ low → next ≤ 2 ^ 56 → Rises low es next → Below es → Named es → AllLoad es
 unfolding Rises Below Named AllLoad
 shape-loads low next [] l t r b n = tt
 shape-loads low next (e ∷ es) l t r b n =
     let h = rises-end (e .number + 1) next es (r .1) in (
-      record { low = omega (arith, r .0); top = omega arith; above = omega (arith, b .1); short = name-short (e .called) (n .0) },
+      record { low = omega (arith, r .0); top = omega arith; above = omega (arith, b .1); short = name-length (e .called) (n .0) },
       shape-loads (e .number + 1) next es (omega (arith, r .0)) t (r .1) (b .2) (n .1),
     )
 
@@ -43,34 +41,25 @@ load-at b (suc k) (suc i) j a h =
     let e : suc j + i ≡ j + suc i = omega arith in
     subst (λ (x : ℕ). Loads (nodeAt b (startOf b x))) e (load-at b k i (suc j) (a .1) (omega arith))
 
-nodes-length : (b : List ℕ) (k at : ℕ) → length (nodesAt b k at) ≡ k
-unfolding nodesAt
-nodes-length b zero at = refl
-nodes-length b (suc k) at = ap suc (nodes-length b k (behind b at))
-
 pub count-is : (b : List ℕ) → length (stateOf b .nodes) ≡ countOf b
 unfolding stateOf
-count-is b = nodes-length b (countOf b) 0
+count-is b = nodes-count b (countOf b) 0
 
 -- ---- of accepted bytes
 
 module _ (b : List ℕ) (a : accepted b ≡ true) where
-  parts : (laidOut b ≡ true) × (valid (stateOf b) ≡ true)
-  unfolding accepted
-  parts = and-both (laidOut b) (valid (stateOf b)) a
-
   pub next-low : 2 ≤ stateOf b .next
   unfolding valid
-  next-low = leb-true 2 (stateOf b .next) (passed _ (parts .1) .0)
+  next-low = leb-true 2 (stateOf b .next) (passed _ (clauses b a .1) .0)
 
   pub next-top : stateOf b .next ≤ 2 ^ 56
   unfolding valid
-  next-top = leb-true (stateOf b .next) (2 ^ 56) (passed _ (parts .1) .1 .0)
+  next-top = leb-true (stateOf b .next) (2 ^ 56) (passed _ (clauses b a .1) .1 .0)
 
   pub all-load : AllLoad (stateOf b .nodes)
   unfolding valid
   all-load =
-      let s : Shape (stateOf b .nodes) (stateOf b .next) = good-shape (stateOf b .next) (stateOf b .nodes) next-low (passed _ (parts .1) .1 .1 .0) in
+      let s : Shape (stateOf b .nodes) (stateOf b .next) = good-shape (stateOf b .next) (stateOf b .nodes) next-low (passed _ (clauses b a .1) .1 .1 .0) in
       shape-loads 2 (stateOf b .next) (stateOf b .nodes) (omega arith) next-top (s .rises) (s .below) (s .named)
 
   pub record-loads : (i at : ℕ) → at ≡ startOf b i → i < countOf b → Loads (nodeAt b at)

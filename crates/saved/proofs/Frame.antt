@@ -12,11 +12,10 @@ use Rattle.rules.specs.Numbers.{topNumber}
 use Rattle.rules.specs.Bytes.{Bytes}
 use Rattle.rules.specs.Fields.{get}
 use Rattle.rules.specs.Saved.{optionsIn, trailerIn, offsetOf, nextOf, every}
-use Rattle.rules.proofs.Tests.{known, passed}
+use Rattle.rules.proofs.Tests.{known, passed, fails}
 use Rattle.rules.proofs.Fields.{get-fits}
 use Rattle.le.proofs.Lens.{get-add}
 use Rattle.saved.specs.Scan.{framed}
-use Rattle.saved.proofs.Split.{fails}
 
 module _ (b : List ℕ) where
   abbrev t : ℕ

@@ -12,9 +12,9 @@ use Rattle.rules.specs.Utf8.{wellFormed}
 use Rattle.rules.specs.Path.{slash, isDot, isDots}
 use Rattle.rules.specs.Fields.{get}
 use Rattle.rules.specs.Saved.{Entry, nodeAt, behind, nodesAt, endAt, every, goodName}
+use Rattle.rules.proofs.Tests.{fails}
 use Rattle.rules.proofs.Fields.{read-slice}
 use Rattle.saved.specs.Scan.{sound, allSound, soundTo}
-use Rattle.saved.proofs.Split.{fails}
 
 module _ (p : List ℕ) where
   pub name-none : length p < 1 → goodName p ≡ false

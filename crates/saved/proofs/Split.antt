@@ -2,8 +2,8 @@
 use mathlib.Core.Path.{_≡_, refl, sym, _∙_}
 use mathlib.Core.Bool.{Bool, true, false, not, _&&_, and-true, and-false, and-assoc}
 use mathlib.Core.List.{List, [], _∷_, _++_}
-use Prim.Native.Nat.{ℕ, zero, suc, _+_}
-use lib.ListN.{length, getD}
+use Prim.Native.Nat.{ℕ, _+_}
+use lib.ListN.{length}
 use lib.Dec.{leb, ltb, eqb}
 use Rattle.rules.specs.Numbers.{topNumber}
 use Rattle.rules.specs.Fields.{get}
@@ -18,14 +18,6 @@ every-append (x ∷ xs) ys = rw (every-append xs ys) (sym (and-assoc x (every xs
 every-one : (t : Bool) → every (t ∷ []) ≡ t
 unfolding every
 every-one t = and-true t
-
--- a test that fails, wherever it stands among others
-pub fails : (k : ℕ) (ts : List Bool) → getD ts k true ≡ false → every ts ≡ false
-unfolding every
-fails zero [] e = e
-fails (suc k) [] e = e
-fails zero (t ∷ ts) e = rw e
-fails (suc k) (t ∷ ts) e = rw (fails k ts e, and-false)
 
 middle : (s p S P : Bool) → ((s && p) && (S && P)) ≡ ((s && S) && (p && P))
 middle false p S P = refl

@@ -12,10 +12,9 @@ use Rattle.rules.specs.Bytes.{Bytes, same}
 use Rattle.rules.specs.Fields.{read, value, bytesOf, get}
 use Rattle.rules.specs.Saved.{nodeAt, behind}
 use Rattle.rules.proofs.Tests.{known, and-both}
+use Rattle.rules.proofs.Same.{same-eq, same-length}
 use Rattle.rules.proofs.Fields.{length-read, read-add, bytes-back}
 use Rattle.le.proofs.Lens.{read-part}
-use Rattle.le.proofs.Same.{same-eq}
-use Rattle.path.proofs.Naming.{same-length}
 use Rattle.saved.specs.Scan.{twin}
 use Rattle.saved.specs.Columns.{keyAt}
 
@@ -31,7 +30,7 @@ module _ (b : List ℕ) (p q : ℕ) where
   other-length h =
       let P : List ℕ = read b (p + 18) (get 2 b (p + 16)) in
       let Q : List ℕ = read b (q + 18) (get 2 b (q + 16)) in
-      rw (← same-length P Q (λ e. h (omega (arith, length-read b (p + 18) (get 2 b (p + 16)), length-read b (q + 18) (get 2 b (q + 16))))), and-false)
+      rw (same-length P Q (λ e. h (omega (arith, length-read b (p + 18) (get 2 b (p + 16)), length-read b (q + 18) (get 2 b (q + 16))))), and-false)
 
   pub by-name : nodeAt b p .above ≡ nodeAt b q .above → (len : ℕ) → len ≡ get 2 b (q + 16) → get 2 b (p + 16) ≡ len
       → same (read b (p + 18) len) (read b (q + 18) len) ≡ twin (nodeAt b p) (nodeAt b q)

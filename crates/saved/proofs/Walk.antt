@@ -10,10 +10,9 @@ use lib.ListN.{getD}
 use lib.Dec.{eqb}
 use borrow.Author.Tests.{eq-eqb, ne-eqb, eqb-true}
 use Rattle.rules.specs.Saved.{Entry, nodeAt, behind, nodesAt, endAt, every, present, used}
-use Rattle.rules.proofs.Tests.{passed}
+use Rattle.rules.proofs.Tests.{passed, fails}
 use Rattle.saved.specs.Scan.{startOf, earlier, soundTo, twin, placed, allPlaced}
 use Rattle.saved.specs.Columns.{Column, listed}
-use Rattle.saved.proofs.Split.{fails}
 
 -- ---- where records start
 

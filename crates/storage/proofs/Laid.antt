@@ -1,9 +1,9 @@
 -- The layout rule, test by test: where one fails the rule does. And what it means for the answer of a call. Assumes nothing.
-use mathlib.Core.Path.{_≡_, ap, _∙_}
-use mathlib.Core.Bool.{Bool, true, false, not, _&&_, _||_, and-true, and-false}
-use mathlib.Core.List.{List, [], _∷_}
-use Prim.Native.Nat.{ℕ, zero, suc, _+_, _*_, _^_, _≤_, _<_}
-use lib.ListN.{length, getD}
+use mathlib.Core.Path.{_≡_}
+use mathlib.Core.Bool.{true, false, not, _||_, and-true}
+use mathlib.Core.List.{List}
+use Prim.Native.Nat.{ℕ, _+_, _*_, _^_, _≤_, _<_}
+use lib.ListN.{length}
 use borrow.Author.Tests.{eq-eqb, ne-eqb, le-leb, lt-leb, lt-ltb, le-ltb}
 use Rattle.le.specs.Mem.{get}
 use Rattle.rules.specs.Ids.{Mapping, badMapping}
@@ -11,19 +11,13 @@ use Rattle.rules.specs.Create.{outside, unknown}
 use Rattle.rules.specs.Instance.{Instance}
 use Rattle.rules.specs.Outcome.{Outcome}
 use Rattle.rules.specs.Saved.{every}
+use Rattle.rules.proofs.Tests.{fails}
 use Rattle.tables.specs.Table.{row}
 use Rattle.tables.specs.Layout.{mark, capacityOf, countOf, nextOf}
 use Rattle.tables.specs.View.{mappingFrom, headOf, view}
 use Rattle.tables.specs.Rule.{laidBy, laid}
 use Rattle.tables.specs.Call.{toldBy, toldSmall, answeredBy}
 use Rattle.storage.specs.Laid.{settingsFit}
-
-pub fails : (k : ℕ) (ts : List Bool) → getD ts k true ≡ false → every ts ≡ false
-unfolding every
-fails zero [] e = e
-fails (suc k) [] e = e
-fails zero (t ∷ ts) e = rw e
-fails (suc k) (t ∷ ts) e = ap (λ (b : Bool). t && b) (fails k ts e) ∙ and-false t
 
 -- ---- the last three
 

@@ -1,21 +1,22 @@
 -- The cell of a row's name beside the key of a name: where they differ, the names differ. Assumes nothing.
 use mathlib.Core.Path.{_≡_, refl, sym, ap, _∙_}
-use mathlib.Core.Bool.{Bool, true, false, _&&_, true≢false, false≢true, and-false}
+use mathlib.Core.Bool.{Bool, true, false, _&&_, true≢false, and-false}
 use mathlib.Core.List.{List}
 use mathlib.Core.Option.{none, some}
-use Prim.Native.Nat.{ℕ, zero, suc, _+_, _-_, _*_, _%_, _^_, _≤_, _<_, min}
-use native.Mathlib.Nat.{pow-suc, mod-eq-of-lt, add-comm, mul-comm}
+use Prim.Native.Nat.{ℕ, _+_, _-_, _*_, _%_, _^_, _≤_, _<_, min}
+use native.Mathlib.Nat.{mod-eq-of-lt, add-comm, mul-comm}
 use native.Mathlib.Omega.{arith}
 use borrow.Author.Tests.{eq-eqb, eqb-true, eqb-false, leb-true, leb-false}
 use lib.ListN.{length}
 use lib.Arith.{digits-mod}
 use lib.Bits.{bitAnd, and-mask}
-use lib.Pow.{pow-add}
 use lib.Dec.{eqb, leb}
 use Rattle.le.specs.Mem.{read, value, get, same, Bytes}
 use Rattle.le.proofs.Lens.{get-add}
-use Rattle.le.proofs.Same.{same-eq, same-words, other-words}
-use Rattle.rules.proofs.Fields.{get-fits}
+use Rattle.le.proofs.Same.{same-words, other-words}
+use Rattle.rules.proofs.Tests.{and-both}
+use Rattle.rules.proofs.Same.{same-eq}
+use Rattle.rules.proofs.Fields.{bytes-bits, get-fits}
 use Rattle.rules.specs.Tree.{isChild}
 use Rattle.scan.specs.First.{cellIs, firstOf}
 use Rattle.scan.proofs.First.{first-passes, first-finds, first-after}
@@ -27,12 +28,6 @@ use Rattle.tables.proofs.Cells.{number-at, other-length, short-name, lo
 use Rattle.tables.proofs.Find.{Sought, child-on, Placed, place-begins, place-here, place-on, place-none}
 
 -- ---- the low bytes of a cell
-
-bytes-bits : (k : ℕ) → 2 ^ (8 * k) ≡ 256 ^ k
-bytes-bits zero = refl
-bytes-bits (suc k) =
-    let e : 8 * suc k ≡ 8 * k + 8 = omega arith in
-    ap (λ (n : ℕ). 2 ^ n) e ∙ pow-add 2 (8 * k) 8 ∙ ap (λ (n : ℕ). n * 256) (bytes-bits k) ∙ sym (pow-suc 256 k)
 
 -- k bytes are the eight, without those above them
 low-of : (mem : List ℕ) (at k : ℕ) → Bytes mem → k ≤ 8 → get 8 mem at % 2 ^ (8 * k) ≡ get k mem at
@@ -63,10 +58,6 @@ module _ (a b : List ℕ) (p q k : ℕ) (ba : Bytes a) (bb : Bytes b) (h : k ≤
       rw (ev, ew, em, ej, and-mask (get 8 a p) (8 * k), and-mask (get 8 b q) (8 * k), low-of a p k ba h, low-of b q k bb h) by-numbers
 
 -- ---- a row and a name
-
-both-true : (x y : Bool) → (x && y) ≡ true → y ≡ true
-both-true true y e = e
-both-true false y e = absurd (false≢true e)
 
 get-of : (k : ℕ) (a b : List ℕ) (p q : ℕ) → read a p k ≡ read b q k → get k a p ≡ get k b q
 unfolding get
@@ -103,7 +94,7 @@ module _ (n : ℕ) (mem : List ℕ) (i : ℕ) (p : List ℕ) (b : Bytes mem) whe
           rw m
           (get-of 7 mem p (lastAt n i + 1) (length p - 7)
           (same-eq (read mem (lastAt n i + 1) 7) (read p (length p - 7) 7)
-          (both-true (same (read mem (firstAt n i) (length p - 7)) (read p 0 (length p - 7))) _ (rw h at (sym (long-name n mem i l p refl byte h many) ∙ e)))))
+          (and-both (same (read mem (firstAt n i) (length p - 7)) (read p 0 (length p - 7))) _ (rw h at (sym (long-name n mem i l p refl byte h many) ∙ e)) .1)))
 
   pub like : same (nodeAt n mem i .called) p ≡ true → cellIs mem (tableAt + 24 * n) (maskOf p) (wordOf p) i ≡ true
   unfolding cellIs maskOf wordOf

@@ -1,6 +1,6 @@
 -- What the rules say of a number, and what is written for it, by the place of its row. Assumes nothing.
 use mathlib.Core.Path.{_≡_, refl, sym, ap, _∙_}
-use mathlib.Core.Bool.{Bool, true, false, cond, not, _&&_, false≢true}
+use mathlib.Core.Bool.{Bool, true, false, cond, not, _&&_}
 use mathlib.Core.List.{List, [], _∷_}
 use mathlib.Core.Option.{Option, none, some}
 use Prim.Native.Nat.{ℕ, zero, suc, _+_, _-_, _≤_, _<_}
@@ -12,6 +12,7 @@ use Rattle.le.specs.Mem.{write, put}
 use Rattle.rules.specs.Numbers.{rootNumber}
 use Rattle.rules.specs.Tree.{Mount, Node, isNone, nodeIn, isKnown, parentIn}
 use Rattle.rules.specs.Instance.{mountOf}
+use Rattle.rules.proofs.Tests.{and-both}
 use Rattle.tables.specs.Table.{putRow, tab}
 use Rattle.tables.specs.Layout.{mountCellAt, capacityOf, countOf}
 use Rattle.tables.specs.View.{nodeAt, nodesOf, view}
@@ -48,10 +49,6 @@ a-place f i (suc k) x j e = go (eqb (f i .number) x) (placeIn (tab f (i + 1) k) 
         let y : i + j ≡ i + 1 + m = omega arith in
         let h = r m refl in
         (omega (arith, h .0), h .1 ∙ rw y)
-
-both : (a b : Bool) → (a && b) ≡ true → (a ≡ true) × (b ≡ true)
-both true b e = (refl, e)
-both false b e = (e, absurd (false≢true e))
 
 pos : {i : ℕ} (j : ℕ) → (i + j ≡ i → ⊥) → 0 < j
 pos {i} zero h = absurd (h (add-zero i))
@@ -112,8 +109,8 @@ module _ (mem : List ℕ) (x : ℕ) where
   pub known-in-place : (x ≡ rootNumber → ⊥) → inPlace mem x ≡ true → isKnown (nodesOf mem) x ≡ true
   unfolding inPlace isKnown
   known-in-place r e =
-      let q = both (not (ltb x 2) && ltb (x - 2) (countOf mem)) (eqb (nodeAt (capacityOf mem) mem (x - 2) .number) x) e in
-      let w = both (not (ltb x 2)) (ltb (x - 2) (countOf mem)) (q .0) in
+      let q = and-both (not (ltb x 2) && ltb (x - 2) (countOf mem)) (eqb (nodeAt (capacityOf mem) mem (x - 2) .number) x) e in
+      let w = and-both (not (ltb x 2)) (ltb (x - 2) (countOf mem)) (q .0) in
       let h : x - 2 < countOf mem = ltb-true (x - 2) (countOf mem) (w .1) in
       let n : nodeAt (capacityOf mem) mem (x - 2) .number ≡ x = eqb-true (nodeAt (capacityOf mem) mem (x - 2) .number) x (q .1) in
       rw (ne-eqb x 1 r) (rw (nodes-of mem) (ap not (some-node (nodeAt (capacityOf mem) mem) 0 (countOf mem) x (x - 2) h (rw zero-add n))))

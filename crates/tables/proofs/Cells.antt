@@ -1,15 +1,14 @@
 -- The cells of a row, as the code reads them, and its name beside another. Assumes nothing.
 use mathlib.Core.Path.{_≡_, refl, sym, ap, _∙_}
-use mathlib.Core.Bool.{Bool, true, false, _&&_, and-true, and-false}
-use mathlib.Core.List.{List, [], _∷_, _++_}
-use Prim.Native.Nat.{ℕ, suc, _+_, _-_, _%_, _^_, _≤_, _<_, min}
+use mathlib.Core.Bool.{Bool, true, false, _&&_, and-true}
+use mathlib.Core.List.{List, _++_}
+use Prim.Native.Nat.{ℕ, _+_, _-_, _%_, _^_, _≤_, _<_, min}
 use native.Mathlib.Nat.{zero-add}
 use native.Mathlib.Omega.{arith}
 use lib.ListN.{length, getD, take, length-append}
-use lib.Dec.{eqb}
 use Rattle.le.specs.Mem.{read, get, same}
 use Rattle.le.proofs.Lens.{get-one, take-read}
-use Rattle.le.proofs.Same.{same-append}
+use Rattle.rules.proofs.Same.{same-length, same-append}
 use Rattle.rules.proofs.Fields.{length-read, read-add, read-all}
 use Rattle.tables.specs.Table.{row}
 use Rattle.tables.specs.Layout.{numberAt, parentAt, mountCellAt, lastAt, uidAt, gidAt, modeAt, firstAt}
@@ -41,13 +40,6 @@ name-cells : (mem : List ℕ) (at : ℕ) (first : List ℕ) → nameFrom (read m
 unfolding nameFrom read
 name-cells mem at first = refl
 
-same-lengths : (a b : List ℕ) → (length a ≡ length b → ⊥) → same a b ≡ false
-unfolding same
-same-lengths [] [] h = absurd (h refl)
-same-lengths [] (y ∷ b) h = refl
-same-lengths (x ∷ a) [] h = refl
-same-lengths (x ∷ a) (y ∷ b) h = ap (λ (t : Bool). eqb x y && t) (same-lengths a b (λ e. h (ap suc e))) ∙ and-false (eqb x y)
-
 -- row i, whose length byte is l, against a name
 module _ (n : ℕ) (mem : List ℕ) (i l : ℕ) (p : List ℕ) (e : l ≡ get 1 mem (lastAt n i)) (fits : l < 256) where
   -- the bytes of the name where they stand
@@ -61,7 +53,7 @@ module _ (n : ℕ) (mem : List ℕ) (i l : ℕ) (p : List ℕ) (e : l ≡ get 1 
   other-length h =
       let long : length (nodeAt n mem i .called) ≡ (l - 7) + min l 7 =
       ap length spelt ∙ length-append (read mem (firstAt n i) (l - 7)) (read mem (lastAt n i + 1) (min l 7)) ∙ rw (length-read mem (firstAt n i) (l - 7), length-read mem (lastAt n i + 1) (min l 7)) in
-      same-lengths (nodeAt n mem i .called) p (λ q. h (omega arith))
+      same-length (nodeAt n mem i .called) p (λ q. h (omega arith))
 
   -- the last bytes are all of it
   pub short-name : l ≡ length p → l ≤ 7 → same (nodeAt n mem i .called) p ≡ same (read mem (lastAt n i + 1) l) (read p 0 l)

@@ -1,13 +1,13 @@
 -- `line::forms::is_word` meets its contract: words of one length are equal where all their bytes are.
 use borrow.Author.Needs.{needs}
-use mathlib.Core.Path.{_∙_}
-use Rattle.path.proofs.Naming.{same-length}
+use mathlib.Core.Path.{sym, _∙_}
+use Rattle.rules.proofs.Same.{same-length}
 use Rattle.line.proofs.Verbs.{all-bytes}
 use Rattle.line.proofs.forms.is_word.Statement.{statement}
 use Rattle.line.proofs.forms.is_word.Tie as tie
 
 returns : tie.Need-returns
-returns c = same-length _ _ (c .if1 .taken)
+returns c = sym (same-length _ _ (c .if1 .taken))
 
 returns-2 : tie.Need-returns-2
 returns-2 c = c .same-at .ensures ∙ all-bytes _ _ (c .before .if1 .left)
