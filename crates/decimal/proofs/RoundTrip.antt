@@ -1,9 +1,9 @@
--- What is written is read back.
+-- What is written is read back. Assumes nothing.
 use Prim.Native.Nat.{ℕ, zero, suc, _+_, _-_, _*_, _/_, _%_, _^_, _<_}
 use native.Mathlib.Omega.{arith}
 use native.Mathlib.Nat.{div-lt-iff-lt-mul, pow-suc}
 use mathlib.Core.Path.{_≡_, refl, sym, ap, _∙_}
-use mathlib.Core.Bool.{Bool, true, false, _&&_}
+use mathlib.Core.Bool.{Bool, true, false, _&&_, and-assoc}
 use mathlib.Core.List.{List, [], _∷_, _++_}
 use lib.Dec.{ltb}
 use lib.ListN.{length, length-append}
@@ -18,10 +18,6 @@ spelt-append : (xs ys : List ℕ) (n : ℕ) → spelt n (xs ++ ys) ≡ spelt (sp
 unfolding spelt
 spelt-append [] ys n = refl
 spelt-append (x ∷ xs) ys n = spelt-append xs ys (n * 10 + (x - 48))
-
-and-assoc : (a b c : Bool) → (a && b && c) ≡ (a && (b && c))
-and-assoc true b c = refl
-and-assoc false b c = refl
 
 digits-append : (xs ys : List ℕ) → allDigits (xs ++ ys) ≡ (allDigits xs && allDigits ys)
 unfolding allDigits

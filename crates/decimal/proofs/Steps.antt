@@ -1,4 +1,4 @@
--- Reading a number digit by digit: `readFrom` goes by `more`, one digit at a time; and the rule's widths.
+-- Reading a number digit by digit: `readFrom` goes by `more`, one digit at a time; and the rule's widths. Assumes nothing.
 use Prim.Native.Nat.{ℕ, _+_, _-_, _*_, _^_, _≤_, _<_}
 use native.Mathlib.Omega.{arith}
 use mathlib.Core.Path.{_≡_, refl, sym, ap, _∙_}
@@ -6,7 +6,7 @@ use mathlib.Core.Bool.{Bool, true, false, cond, _&&_, and-false}
 use mathlib.Core.List.{List, [], _∷_}
 use mathlib.Core.Option.{Option, none, some}
 use lib.Dec.{leb, ltb}
-use lib.ListN.{length, drop, length-drop}
+use lib.ListN.{length}
 use borrow.Author.Tests.{le-leb, lt-leb, leb-true, leb-false, lt-ltb, le-ltb}
 use Rattle.rules.specs.Bytes.{same}
 use Rattle.rules.specs.Session.{isDigit, allDigits, spelt, number}
@@ -19,13 +19,6 @@ spelt-le : (s : List ℕ) (n : ℕ) → n ≤ spelt n s
 unfolding spelt
 spelt-le [] n = omega arith
 spelt-le (b ∷ s) n = omega (arith, spelt-le s (n * 10 + (b - 48)))
-
-length-nil : (s : List ℕ) → length s ≡ 0 → s ≡ []
-length-nil [] h = refl
-length-nil (b ∷ s) h = absurd (let z : ⊥ = omega arith in z)
-
-pub drop-past : (i : ℕ) (s : List ℕ) → length s ≤ i → drop i s ≡ []
-drop-past i s h = length-nil _ (let e : length (drop i s) ≡ 0 = simp length-drop (omega arith) in e)
 
 pub from-nil : (max n : ℕ) → n ≤ max → readFrom max n [] ≡ valueIn (Value n)
 unfolding readFrom allDigits spelt valueIn

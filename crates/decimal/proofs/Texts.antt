@@ -1,4 +1,4 @@
--- Laws of decimal text, and of writers that follow each other.
+-- Laws of decimal text, and of writers that follow each other. Assumes nothing.
 use Prim.Native.Nat.{ℕ, zero, suc, _+_, _/_, _%_, _^_, _≤_, _<_}
 use native.Mathlib.Omega.{arith}
 use native.Mathlib.Nat.{add-zero, div-lt-iff-lt-mul, pow-suc}
@@ -21,7 +21,7 @@ pub large : (k n : ℕ) → 10 ≤ n → digits (suc k) n ≡ digits k (n / 10) 
 unfolding digits
 large k n h = simp (le-ltb _ _ h)
 
-pub decimal-small : (n : ℕ) → n < 10 → decimal n ≡ (48 + n) ∷ []
+decimal-small : (n : ℕ) → n < 10 → decimal n ≡ (48 + n) ∷ []
 unfolding decimal
 decimal-small n h = small 19 n h
 
@@ -43,7 +43,7 @@ pub length-decimal : (n : ℕ) → length (decimal n) ≤ 20
 unfolding decimal
 length-decimal n = length-digits 20 n _ refl
 
-pub decimal-step : (n : ℕ) → 10 ≤ n → n < 10 ^ 20 → decimal n ≡ decimal (n / 10) ++ ((48 + n % 10) ∷ [])
+decimal-step : (n : ℕ) → 10 ≤ n → n < 10 ^ 20 → decimal n ≡ decimal (n / 10) ++ ((48 + n % 10) ∷ [])
 unfolding decimal
 decimal-step n h l =
     large 19 n h ∙ ap (λ (k : List ℕ). k ++ ((48 + n % 10) ∷ [])) (sym (enough 18 (n / 10) (omega arith) _ refl))
@@ -52,7 +52,7 @@ pub length-step : (n : ℕ) → 10 ≤ n → n < 10 ^ 20 → length (decimal n) 
 length-step n h l = ap length (decimal-step n h l) ∙ simp length-append
 
 -- a number below 1,000 has at most three digits
-pub length-short : (n : ℕ) → n < 1000 → (t u : Bool) → ltb n 10 ≡ t → ltb (n / 10) 10 ≡ u → length (decimal n) ≤ 3
+length-short : (n : ℕ) → n < 1000 → (t u : Bool) → ltb n 10 ≡ t → ltb (n / 10) 10 ≡ u → length (decimal n) ≤ 3
 length-short n h true u e f = rw (decimal-small n (ltb-true n 10 e)) (omega arith)
 length-short n h false true e f =
     omega (arith, length-step n (ltb-false n 10 e) (omega arith), ap length (decimal-small (n / 10) (ltb-true (n / 10) 10 f)))

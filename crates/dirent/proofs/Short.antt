@@ -2,26 +2,20 @@
 use mathlib.Core.Path.{_≡_, refl, sym, ap, ap₂, _∙_}
 use mathlib.Core.List.{List, [], _∷_, _++_}
 use Prim.Native.Nat.{ℕ, zero, suc, _+_, _-_, _*_, _/_, _%_, _^_, _≤_, _<_}
-use native.Mathlib.Nat.{pow-zero, pow-suc, mod-lt, div-eq-of-lt, one-le-pow}
+use native.Mathlib.Nat.{mod-lt, div-eq-of-lt, one-le-pow}
 use native.Mathlib.Omega.{arith}
 use lib.ListN.{length, replicate}
 use lib.Dec.{lit<}
-use lib.Pow.{pow-pos, pow-add, shl-exact}
+use lib.Pow.{pow-pos, shl-exact}
 use Rattle.rules.specs.Fields.{bytesOf, fields}
 use Rattle.rules.specs.Listing.{padding, recordOf, direntRow}
-use Rattle.rules.proofs.Fields.{length-bytesOf}
+use Rattle.rules.proofs.Fields.{bytes-bits, length-bytesOf}
 use Rattle.le.specs.Mem.{write, put}
 use Rattle.le.proofs.Lens.{bytes-add, write-append}
 use Rattle.dirent.specs.Entry.{entry, Lays}
 use Rattle.dirent.proofs.Records.{frontOf, front-length, entry-length, lays-in, lays-out, low-bytes}
 
 -- ---- the mask
-
-eights : (l : ℕ) → 2 ^ (8 * l) ≡ 256 ^ l
-eights zero = pow-zero 2 ∙ sym (pow-zero 256)
-eights (suc l) =
-    let e : 8 * suc l ≡ 8 * l + 8 = omega arith in
-    ap (λ (k : ℕ). 2 ^ k) e ∙ pow-add 2 (8 * l) 8 ∙ ap (λ (k : ℕ). k * 256) (eights l) ∙ sym (pow-suc 256 l)
 
 -- a bit below the top
 pub bit-some : (k : ℕ) → k < 64 → 0 < 1 * 2 ^ k % 2 ^ 64
@@ -34,7 +28,7 @@ bit-some k h =
 above : (l : ℕ) → l ≤ 7 → 1 * 2 ^ (8 * l) % 2 ^ 64 ≡ 256 ^ l
 above l h =
     let s : 1 * 2 ^ (8 * l) % 2 ^ 64 ≡ 1 * 2 ^ (8 * l) = shl-exact 1 (8 * l) 64 (omega arith) (omega arith) in
-    let t : 2 ^ (8 * l) ≡ 256 ^ l = eights l in
+    let t : 2 ^ (8 * l) ≡ 256 ^ l = bytes-bits l in
     omega arith
 
 -- ---- the bytes of a number that is masked

@@ -1,18 +1,18 @@
 -- Laws of cells that a line names: which is named, and the line from a place on. Assumes nothing.
 use Prim.Native.Nat.{ℕ, _+_, _-_, _≤_, _<_}
 use native.Mathlib.Omega.{arith}
-use native.Mathlib.Numerals.{add-one}
 use mathlib.Core.Path.{_≡_, refl, sym, ap, _∙_}
+use mathlib.Core.Bool.{and-false}
 use mathlib.Core.Logic.{_≢_}
 use mathlib.Core.List.{List, [], _∷_, _++_}
 use lib.ListN.{length, getD, take, drop, drop-of-length-le, length-drop}
-use lib.Seq.{sets, sets-eq, take-append-seam, drop-cons, getD-drop, drop-drop}
+use lib.Seq.{getD-drop, drop-drop}
 use borrow.Author.Tests.{le-leb, lt-leb, lt-ltb, le-ltb, eq-eqb, ne-eqb}
 use Rattle.rules.specs.Session.{decimal}
 use Rattle.decimal.specs.Wrote.{Wrote}
-use Rattle.decimal.proofs.Texts.{length-decimal}
+use Rattle.decimal.proofs.Texts.{length-decimal, sets-front}
 use Rattle.expand.specs.Cells.{cellNamed, expandedBy}
-use Rattle.words.proofs.Spelling.{and-false, first}
+use Rattle.words.proofs.Spelling.{first}
 
 -- ---- which cell is named
 
@@ -35,18 +35,11 @@ module _ (a b : ℕ) where
 
 -- ---- runs of bytes
 
--- the bytes from a place on, by their first
-pub next-byte : (s : List ℕ) (i : ℕ) → i < length s → drop i s ≡ getD s i 0 ∷ drop (i + 1) s
-next-byte s i h = rw (add-one i) (drop-cons s i 0 h)
-
 -- a run that was written is there to be read
-written : (was xs : List ℕ) → length xs ≤ length was → take (length xs) (sets was 0 xs) ≡ xs
-written was xs h = rw (sets-eq xs was 0 (omega arith)) (take-append-seam xs (drop (0 + length xs) was))
-
 read-back : (was text xs : List ℕ) (most k : ℕ) → length xs ≤ length was → Wrote was 0 most xs k text → take (k - 0) (drop 0 text) ≡ xs
 read-back was text xs most k h w =
     let e : k - 0 ≡ length xs = omega (arith, w .end) in
-    rw (e, w .bytes) (written was xs h)
+    rw (e, w .bytes) (sets-front xs was h)
 
 -- a decimal that was written apart is put as it is
 pub decimal-run : (was text out now : List ℕ) (n room k r v : ℕ) → length was ≡ 20 → Wrote was 0 20 (decimal v) k text

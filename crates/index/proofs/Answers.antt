@@ -1,7 +1,7 @@
 -- Which indexes are free by their occupancy bytes; and a search's answer is known by its meaning.
 -- Assumes nothing.
 use mathlib.Core.Path.{_≡_, refl, sym, ap, _∙_}
-use mathlib.Core.Bool.{Bool, true, false, not}
+use mathlib.Core.Bool.{true, false, Bool·not-not}
 use mathlib.Core.List.{List}
 use Prim.Native.Nat.{ℕ, _≤_}
 use borrow.Author.Tests.{eq-eqb, ne-eqb}
@@ -22,11 +22,7 @@ module _ (used : List ℕ) (i : ℕ) where
 
   pub free-at : (i ≡ 0 → ⊥) → eqb (getD used i 0) 0 ≡ freeOf (heldIn used) i
   unfolding heldIn
-  free-at n = rw (ne-eqb i 0 n) (sym (twice (eqb (getD used i 0) 0)))
-    where
-      twice : (b : Bool) → not (not b) ≡ b
-      twice true = refl
-      twice false = refl
+  free-at n = rw (ne-eqb i 0 n) (sym (Bool·not-not (eqb (getD used i 0) 0)))
 
   pub free-past : (i ≡ 0 → ⊥) → length used ≤ i → true ≡ freeOf (heldIn used) i
   free-past n h = ap (λ (b : ℕ). eqb b 0) (sym (List·getD-eq-default used 0 h)) ∙ free-at n

@@ -7,10 +7,11 @@ use Prim.Native.Nat.{ℕ, _+_, _-_, _≤_, _<_}
 use native.Mathlib.Nat.{add-zero, sub-zero}
 use native.Mathlib.Omega.{arith}
 use lib.ListN.{length, getD, set, replicate, length-set, length-replicate, replicate-append-replicate}
+use Rattle.rules.proofs.Same.{same-append}
 use Rattle.rules.proofs.Fields.{length-read, read-add}
 use Rattle.le.specs.Mem.{read, get, write, same, Bytes}
 use Rattle.le.proofs.Lens.{write-append, byte-apart}
-use Rattle.le.proofs.Same.{same-append, same-words, other-words}
+use Rattle.le.proofs.Same.{same-words, other-words}
 
 -- ---- loops that write, of which i of n bytes are done
 

@@ -1,12 +1,12 @@
 -- Laws of `.`, `..`, a byte in a name, and the component check. Assumes nothing.
-use mathlib.Core.Path.{_≡_, refl, sym}
-use mathlib.Core.Bool.{true, false, _&&_, and-true, and-false, false≢true, and-eq-true-iff, or-true}
+use mathlib.Core.Path.{_≡_, refl}
+use mathlib.Core.Bool.{true, false, _&&_, and-true, or-true}
 use mathlib.Core.List.{List, [], _∷_}
 use Prim.Native.Nat.{ℕ, _+_, _≤_, _<_}
 use native.Mathlib.Omega.{arith}
 use lib.ListN.{length, getD, drop, drop-of-length-le}
 use lib.Dec.{eqb}
-use borrow.Author.Tests.{eq-eqb, ne-eqb, eqb-true}
+use borrow.Author.Tests.{eq-eqb, ne-eqb}
 use Rattle.rules.specs.Bytes.{same, holds}
 use Rattle.rules.specs.Numbers.{DONE, INVAL}
 use Rattle.rules.specs.Path.{slash, dot, isDot, isDots, badComponent}
@@ -14,23 +14,6 @@ use Rattle.path.specs.declared.names.Checked.{Checked}
 use Rattle.path.specs.declared.names.Checked.the-variants.{Done, Inval}
 use Rattle.path.specs.Checks.{code, checkCode}
 use Rattle.path.proofs.Places.{here}
-
-pub same-eq : (p q : List ℕ) → same p q ≡ true → p ≡ q
-unfolding same
-same-eq [] [] e = refl
-same-eq [] (y ∷ ys) e = absurd (false≢true e)
-same-eq (x ∷ xs) [] e = absurd (false≢true e)
-same-eq (x ∷ xs) (y ∷ ys) e =
-    let b = and-eq-true-iff (eqb x y) (same xs ys) .0 e in
-    rw (eqb-true x y (b .0), same-eq xs ys (b .1))
-
--- two names of different lengths differ
-pub same-length : (p q : List ℕ) → (length p ≡ length q → ⊥) → false ≡ same p q
-unfolding same
-same-length [] [] h = absurd (h refl)
-same-length [] (y ∷ ys) h = refl
-same-length (x ∷ xs) [] h = refl
-same-length (x ∷ xs) (y ∷ ys) h = rw (sym (same-length xs ys (λ e. h (omega arith))), and-false)
 
 -- ---- `.` and `..`, by the tests of their bytes
 

@@ -1,6 +1,6 @@
 -- Stepping from place to place with the next component gives the components of the path. Assumes nothing.
 use mathlib.Core.Path.{_≡_, refl, ap, sym, _∙_, subst}
-use mathlib.Core.Bool.{Bool, true, false, cond, false≢true}
+use mathlib.Core.Bool.{Bool, true, false, cond}
 use mathlib.Core.List.{List, [], _∷_}
 use Prim.Native.Nat.{ℕ, zero, suc, _+_, _-_, _≤_, _<_}
 use native.Mathlib.Nat.{add-zero}
@@ -11,11 +11,11 @@ use lib.Seq.{drop-drop, length-take-le}
 use lib.Dec.{eqb}
 use Rattle.rules.specs.Bytes.{same}
 use Rattle.rules.specs.Path.{slash, dot, isDot, isDots, Part, name, parent, onto, partsBy, pieces, sorted, kept, components}
+use Rattle.rules.proofs.Same.{some-byte, same-eq, same-length}
 use Rattle.path.specs.declared.components.Component.{Component}
 use Rattle.path.specs.declared.components.Component.the-variants.{Name, Parent, End}
 use Rattle.path.specs.Steps.{part, between, wordLength, wordEnd, stepOf, nextAt, onStep, stepped}
 use Rattle.path.proofs.Places.{here, between-length}
-use Rattle.path.proofs.Naming.{same-eq, same-length}
 use Rattle.path.proofs.Words.{part-nil, part-cons, part-le, end-here, end-length, behind, first-part}
 
 -- ---- the components: what the first part is, and those from its end on
@@ -71,11 +71,6 @@ pub data Sort (w : List ℕ) : Type 0 where
   double : w ≡ dot ∷ dot ∷ [] → Sort w
   plain : 0 < length w → ((at : ℕ) (ps : List Part) → sorted at w ps ≡ name at w ∷ ps) → Sort w
 
-some-bytes : (w : List ℕ) → same w [] ≡ false → 0 < length w
-unfolding same
-some-bytes [] e = absurd (false≢true (sym e))
-some-bytes (b ∷ w) e = omega arith
-
 pub sort : (w : List ℕ) → Sort w
 unfolding sorted
 sort w = go (same w []) (isDot w) (isDots w) refl refl refl
@@ -84,7 +79,7 @@ sort w = go (same w []) (isDot w) (isDots w) refl refl refl
     go true y z a b c = empty (same-eq w [] a)
     go false true z a b c = single (same-eq w (dot ∷ []) b)
     go false false true a b c = double (same-eq w (dot ∷ dot ∷ []) c)
-    go false false false a b c = plain (some-bytes w a) (λ (at : ℕ) (ps : List Part). rw (a, b, c))
+    go false false false a b c = plain (some-byte w a) (λ (at : ℕ) (ps : List Part). rw (a, b, c))
 
 -- ---- the tests of the code on the part from one place to another
 
@@ -111,7 +106,7 @@ module _ (s : List ℕ) (at end : ℕ) (h : (at ≤ end) × (end ≤ length s)) 
   pub is-plain : (length (between s at end) ≡ 0 → ⊥) → isDot (between s at end) ≡ false → isDots (between s at end) ≡ false → Name at (end - at) end ≡ stepOf (sorted at (between s at end) [])
   unfolding stepOf sorted
   is-plain e x y =
-      let z : same (between s at end) [] ≡ false = sym (same-length (between s at end) [] e) in
+      let z : same (between s at end) [] ≡ false = same-length (between s at end) [] e in
       let m : at + (end - at) ≡ end = omega arith in
       rw (z, x, y, between-length s at end (h .0) (h .1), m)
 

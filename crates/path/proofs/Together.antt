@@ -9,8 +9,9 @@ use borrow.Author.Tests.{eq-eqb, ne-eqb, eqb-true, eqb-false}
 use lib.ListN.{length, getD, drop}
 use lib.Dec.{eqb}
 use Rattle.rules.specs.Bytes.{holds}
+use Rattle.rules.proofs.Tests.{or-neither}
 use Rattle.scan.specs.First.{anyOf}
-use Rattle.scan.proofs.First.{neither, any-add, any-part, any-last, any-more}
+use Rattle.scan.proofs.First.{any-add, any-part, any-last, any-more}
 use Rattle.path.specs.Steps.{partEnd}
 use Rattle.path.specs.Together.{isByte}
 use Rattle.path.proofs.Words.{end-more}
@@ -52,7 +53,7 @@ end-skip : (b : ℕ) (s : List ℕ) (i k : ℕ) → i + k ≤ length s → anyOf
 unfolding anyOf isByte
 end-skip b s i zero h e = rw add-zero
 end-skip b s i (suc k) h e =
-    let n = neither (anyOf (isByte b s) i k) (isByte b s (i + k)) e in
+    let n = or-neither (anyOf (isByte b s) i k) (isByte b s (i + k)) e in
     let z : i + k + 1 ≡ i + suc k = omega arith in
     end-skip b s i k (omega arith) (n .0) ∙ end-more b s (i + k) (omega arith) (eqb-false (getD s (i + k) 0) b (n .1)) ∙ ap (partEnd b s) z
 

@@ -1,12 +1,13 @@
 -- The first place where a test holds: passed over where it fails, found where it holds. Assumes nothing.
 use mathlib.Core.Path.{_≡_, refl, sym, ap, _∙_}
-use mathlib.Core.Bool.{Bool, true, false, cond, _||_, true≢false, or-true, or-false, or-assoc}
+use mathlib.Core.Bool.{Bool, true, false, cond, _||_, or-true, or-false, or-assoc}
 use mathlib.Core.List.{List}
 use Prim.Native.Nat.{ℕ, zero, suc, _+_, _-_, _*_, _≤_, _<_}
 use native.Mathlib.Nat.{zero-add}
 use native.Mathlib.Omega.{arith}
 use borrow.Author.Tests.{eq-eqb, ne-eqb}
 use lib.Bits.{bitAnd}
+use Rattle.rules.proofs.Tests.{or-neither}
 use Rattle.le.specs.Mem.{get}
 use Rattle.scan.specs.First.{cellIs, anyOf, firstOf}
 
@@ -58,16 +59,12 @@ module _ (f : ℕ → Bool) (i : ℕ) where
 
 -- ---- the first
 
-pub neither : (a b : Bool) → (a || b) ≡ false → (a ≡ false) × (b ≡ false)
-neither true b e = (e, absurd (true≢false e))
-neither false b e = (refl, e)
-
 -- places where the test fails are passed over
-pub first-skip : (f : ℕ → Bool) (i j k : ℕ) → anyOf f i j ≡ false → firstOf f i (j + k) ≡ firstOf f (i + j) k
+first-skip : (f : ℕ → Bool) (i j k : ℕ) → anyOf f i j ≡ false → firstOf f i (j + k) ≡ firstOf f (i + j) k
 unfolding anyOf firstOf
 first-skip f i zero k e = let z : zero + k ≡ k = omega arith in let y : i + zero ≡ i = omega arith in rw (z, y)
 first-skip f i (suc j) k e =
-    let n = neither (anyOf f i j) (f (i + j)) e in
+    let n = or-neither (anyOf f i j) (f (i + j)) e in
     let z : suc j + k ≡ j + suc k = omega arith in
     let y : i + j + 1 ≡ i + suc j = omega arith in
     ap (firstOf f i) z ∙ first-skip f i j (suc k) (n .0) ∙ rw (n .1) (ap (λ (m : ℕ). firstOf f m k) y)
@@ -170,7 +167,7 @@ module _ (f : ℕ → Bool) where
   any-last i k n e h l =
       let z : n ≡ n - k + k = omega arith in
       let y : i ≡ n - k + (i - (n - k)) = omega arith in
-      let b = neither (anyOf f 0 (n - k)) (anyOf f (0 + (n - k)) (i - (n - k))) (sym (any-add 0 (n - k) (i - (n - k))) ∙ sym (ap (anyOf f 0) y) ∙ e) in
+      let b = or-neither (anyOf f 0 (n - k)) (anyOf f (0 + (n - k)) (i - (n - k))) (sym (any-add 0 (n - k) (i - (n - k))) ∙ sym (ap (anyOf f 0) y) ∙ e) in
       sym (ap (anyOf f 0) z ∙ any-add 0 (n - k) k ∙ rw zero-add (rw (b .0) refl))
 
   pub any-more : (i k : ℕ) → anyOf f 0 i ≡ false → anyOf f i k ≡ false → anyOf f 0 (i + k) ≡ false

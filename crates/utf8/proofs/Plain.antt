@@ -12,14 +12,13 @@ use lib.Dec.{eqb, leb, ltb}
 use Rattle.rules.specs.Bytes.{holds}
 use Rattle.rules.specs.Path.{dot, isDot, isDots}
 use Rattle.rules.specs.Utf8.{table, fits, sequence, validTo, wellFormed}
-use Rattle.rules.proofs.Tests.{and-both}
+use Rattle.rules.proofs.Tests.{and-both, or-neither}
+use Rattle.rules.proofs.Same.{same-length}
 use Rattle.scan.specs.First.{anyOf}
-use Rattle.scan.proofs.First.{neither}
 use Rattle.path.specs.Together.{isByte}
+use Rattle.path.proofs.Together.{any-first, holds-any}
 use Rattle.utf8.specs.Plain.{odd, isOdd, plainLong}
 use Rattle.utf8.proofs.Table.{sequence-row, valid-next, valid-done}
-use Rattle.path.proofs.Naming.{same-length}
-use Rattle.path.proofs.Together.{any-first, holds-any}
 
 -- ---- a plain text is well formed
 
@@ -31,8 +30,8 @@ plain-from : (s : List ℕ) (k i : ℕ) → i + k ≡ length s → anyOf (isOdd 
 unfolding odd
 plain-from s zero i e f = valid-done s i (omega arith)
 plain-from s (suc k) i e f =
-    let n = neither (isOdd s i) (anyOf (isOdd s) (i + 1) k) (sym (any-first (isOdd s) i k) ∙ f) in
-    let m = neither (eqb (getD s i 0) 0) (ltb 127 (getD s i 0)) (n .0) in
+    let n = or-neither (isOdd s i) (anyOf (isOdd s) (i + 1) k) (sym (any-first (isOdd s) i k) ∙ f) in
+    let m = or-neither (eqb (getD s i 0) 0) (ltb 127 (getD s i 0)) (n .0) in
     valid-next s i 1 (one-byte s i (omega arith) (ltb-false 127 (getD s i 0) (m .1))) (omega arith)
     ∙ ap (λ (m : ℕ). 1 + m) (plain-from s k (i + 1) (omega arith) (n .1)) ∙ one-add k
 
@@ -48,8 +47,8 @@ no-zero : (s : List ℕ) (i k : ℕ) → anyOf (isOdd s) i k ≡ false → anyOf
 unfolding anyOf odd isByte
 no-zero s i zero e = refl
 no-zero s i (suc k) e =
-    let n = neither (anyOf (isOdd s) i k) (isOdd s (i + k)) e in
-    let m = neither (eqb (getD s (i + k) 0) 0) (ltb 127 (getD s (i + k) 0)) (n .1) in
+    let n = or-neither (anyOf (isOdd s) i k) (isOdd s (i + k)) e in
+    let m = or-neither (eqb (getD s (i + k) 0) 0) (ltb 127 (getD s (i + k) 0)) (n .1) in
     rw (no-zero s i k (n .0), m .0)
 
 module _ (s : List ℕ) (e : plainLong s ≡ true) where
@@ -62,10 +61,10 @@ module _ (s : List ℕ) (e : plainLong s ≡ true) where
   plain-no-zero = holds-any 0 s ∙ no-zero s 0 (length s) (not-true (anyOf (isOdd s) 0 (length s)) (and-both (leb 8 (length s)) (not (anyOf (isOdd s) 0 (length s))) e .1))
 
   pub plain-no-dot : isDot s ≡ false
-  plain-no-dot = sym (same-length s (dot ∷ []) (λ q. omega (arith, plain-long, q)))
+  plain-no-dot = same-length s (dot ∷ []) (λ q. omega (arith, plain-long, q))
 
   pub plain-no-dots : isDots s ≡ false
-  plain-no-dots = sym (same-length s (dot ∷ dot ∷ []) (λ q. omega (arith, plain-long, q)))
+  plain-no-dots = same-length s (dot ∷ dot ∷ []) (λ q. omega (arith, plain-long, q))
 
 module _ (s : List ℕ) where
   pub short-not-plain : length s < 8 → plainLong s ≡ false

@@ -4,11 +4,11 @@ use Prim.Native.Nat.{suc, _≤_, _-_}
 use borrow.Author.Needs.{needs}
 use native.Mathlib.Omega.{arith}
 use native.Mathlib.Numerals.{add-one}
-use lib.ListN.{length, drop}
+use lib.ListN.{length, drop, drop-of-length-le}
 use lib.Seq.{drop-cons}
 use Rattle.decimal.specs.declared.Number.the-variants.{Value, Bad}
 use Rattle.decimal.specs.Read.{valueIn, numberTo, readFrom}
-use Rattle.decimal.proofs.Steps.{drop-past, from-none, from-start, from-nil, next-value, next-bad}
+use Rattle.decimal.proofs.Steps.{from-none, from-start, from-nil, next-value, next-bad}
 use Rattle.decimal.proofs.read.Statement.{statement}
 use Rattle.decimal.proofs.read.Tie as tie
 
@@ -60,7 +60,7 @@ loop-again c =
 returns-3 : tie.Need-returns-3 Inv-loop μ-loop
 returns-3 c =
     let l = c .before in
-    sym (l .loop .inv .2 ∙ ap (readFrom _ _) (drop-past _ _ (c .loop-test .left)) ∙ from-nil _ _ (l .loop .inv .1))
+    sym (l .loop .inv .2 ∙ ap (readFrom _ _) (drop-of-length-le _ (c .loop-test .left)) ∙ from-nil _ _ (l .loop .inv .1))
 
 pub read-spec : {M : Type 1} → statement M
 read-spec =

@@ -1,9 +1,10 @@
 -- `expand::put_run` meets its contract. The invariant: k bytes stand, and with what is left of s the whole run will. Assumes nothing.
 use Prim.Native.Nat.{_-_}
 use mathlib.Core.Path.{_≡_, refl}
+use native.Mathlib.Numerals.{add-one}
 use lib.ListN.{length, take, drop, drop-of-length-le}
+use lib.Seq.{drop-cons}
 use Rattle.words.proofs.Filling.{Rest, rest-from, ended, full, one-more}
-use Rattle.expand.proofs.Expanding.{next-byte}
 use borrow.Author.Needs.{needs}
 use Rattle.expand.proofs.put_run.Statement.{statement}
 use Rattle.expand.proofs.put_run.Tie as tie
@@ -41,7 +42,7 @@ loop-less c = search needs
 loop-again : tie.Need-loop-again Inv-loop μ-loop
 loop-again c =
     let l = c .before .before .before in
-    (search needs, one-more _ _ (search needs) (next-byte (l .before .args .s .now) (l .loop .i) (c .before .before .loop-test .taken)) (l .loop .inv .1))
+    (search needs, one-more _ _ (search needs) (rw add-one (drop-cons (l .before .args .s .now) (l .loop .i) 0 (c .before .before .loop-test .taken))) (l .loop .inv .1))
 
 same-length-2 : tie.Need-same-length-2 Inv-loop μ-loop
 same-length-2 c = search needs

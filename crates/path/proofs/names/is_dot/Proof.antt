@@ -1,13 +1,15 @@
 -- `path::names::is_dot` meets its contract. Assumes nothing.
 use borrow.Author.Needs.{needs}
+use mathlib.Core.Path.{sym}
 use mathlib.Core.List.{[], _∷_}
 use Rattle.rules.specs.Path.{dot}
-use Rattle.path.proofs.Naming.{same-length, dot-one}
+use Rattle.rules.proofs.Same.{same-length}
+use Rattle.path.proofs.Naming.{dot-one}
 use Rattle.path.proofs.names.is_dot.Statement.{statement}
 use Rattle.path.proofs.names.is_dot.Tie as tie
 
 returns : tie.Need-returns
-returns c = same-length _ (dot ∷ []) (c .if1 .taken)
+returns c = sym (same-length _ (dot ∷ []) (c .if1 .taken))
 
 shared-slice-read-result : tie.Need-shared-slice-read-result
 shared-slice-read-result c = search needs

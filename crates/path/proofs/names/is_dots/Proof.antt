@@ -1,13 +1,15 @@
 -- `path::names::is_dots` meets its contract. Assumes nothing.
 use borrow.Author.Needs.{needs}
+use mathlib.Core.Path.{sym}
 use mathlib.Core.List.{[], _∷_}
 use Rattle.rules.specs.Path.{dot}
-use Rattle.path.proofs.Naming.{same-length, dots-first, dots-second}
+use Rattle.rules.proofs.Same.{same-length}
+use Rattle.path.proofs.Naming.{dots-first, dots-second}
 use Rattle.path.proofs.names.is_dots.Statement.{statement}
 use Rattle.path.proofs.names.is_dots.Tie as tie
 
 returns : tie.Need-returns
-returns c = same-length _ (dot ∷ dot ∷ []) (c .if1 .taken)
+returns c = sym (same-length _ (dot ∷ dot ∷ []) (c .if1 .taken))
 
 shared-slice-read-if2 : tie.Need-shared-slice-read-if2
 shared-slice-read-if2 c = search needs
