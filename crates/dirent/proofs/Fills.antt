@@ -8,13 +8,12 @@ use native.Mathlib.Omega.{arith}
 use lib.ListN.{length, take, drop, length-append, length-drop}
 use lib.Seq.{length-take-le}
 use borrow.Rule.Slice.PartMut.{putMid, put-same}
-use Rattle.rules.specs.Tree.{Node}
-use Rattle.rules.specs.Listing.{direntsFrom, laid}
+use Rattle.rules.specs.Listing.{laid}
 use Rattle.le.specs.Mem.{write}
 use Rattle.le.proofs.Lens.{length-write, write-append}
-use Rattle.dirent.specs.Entry.{entry, Lays}
+use Rattle.dirent.specs.Lays.{Lays}
 use Rattle.dirent.proofs.Writes.{write-part}
-use Rattle.dirent.proofs.Records.{entry-of, laid-in, laid-out, was-laid, was-not}
+use Rattle.dirent.proofs.Records.{laid-in, laid-out, was-laid, was-not}
 
 -- the bytes from `at` to `end`, as they are lent; and the whole with these back as ys
 abbrev pub rest : List ℕ → ℕ → ℕ → List ℕ
@@ -75,8 +74,3 @@ module _ (d₀ : List ℕ) (end : ℕ) (rs₀ : List (List ℕ)) (d : List ℕ) 
       let none : laid (end - at) (r ∷ rs) ≡ [] = laid-out (end - at) r rs (omega (arith, rest-length, v .short)) in
       let now : back d at end ys ≡ d = ap (back d at end) (v .bytes) ∙ put-same at (end - at) d in
       record { count = omega (arith, g .count, ap length none); bytes = now ∙ ap (write d at) (sym none) ∙ g .bytes }
-
--- the entries of the children from a place on: that of the first, and the others
-pub dirents-more : (place : ℕ) (c : Node) (cs : List Node) → direntsFrom place (c ∷ cs) ≡ entry (c .number) (place + 1) (c .called) ∷ direntsFrom (place + 1) cs
-unfolding direntsFrom
-dirents-more place c cs = ap (λ (r : List ℕ). r ∷ direntsFrom (place + 1) cs) (sym (entry-of place c))

@@ -7,11 +7,11 @@ use native.Mathlib.Nat.{add-zero, zero-add}
 use native.Mathlib.Omega.{arith}
 use lib.ListN.{length, getD, replicate, length-append, length-replicate}
 use Rattle.rules.specs.Fields.{bytesOf, fields}
-use Rattle.rules.specs.Listing.{padding, recordOf, direntRow}
+use Rattle.rules.specs.Listing.{padding, recordOf, direntRow, dirent}
 use Rattle.rules.proofs.Fields.{length-read, length-bytesOf, bytes-back, get-fits, read-add, read-all}
 use Rattle.le.specs.Mem.{read, get, write, put, Bytes}
 use Rattle.le.proofs.Lens.{length-write, write-append, get-one, read-apart, read-part, read-within, read-same, read-filled}
-use Rattle.dirent.specs.Entry.{entry, Lays}
+use Rattle.dirent.specs.Lays.{Lays}
 use Rattle.dirent.proofs.Records.{frontOf, front-length, entry-length, lays-in, lays-out}
 use Rattle.dirent.proofs.Short.{zeros}
 
@@ -171,11 +171,11 @@ module _ (d : List ℕ) (ino off : ℕ) (src : List ℕ) (from len last : ℕ) (
   size : length name ≡ len
   size = length-append (read src from (len - 7)) (bytesOf 7 last) ∙ omega (arith, length-read src from (len - 7), length-bytesOf 7 last)
 
-  pub long : length (entry ino off name) ≡ 24 + (len + 7) / 8 * 8
+  pub long : length (dirent ino off name) ≡ 24 + (len + 7) / 8 * 8
   long = omega (arith, entry-length ino off name, size)
 
-  pub long-out : length d < 24 + (len + 7) / 8 * 8 → Lays d (length d) (entry ino off name ∷ []) 0 d
-  long-out h = lays-out d (length d) (entry ino off name) 0 d (record { short = omega (arith, long); count = refl; bytes = refl })
+  pub long-out : length d < 24 + (len + 7) / 8 * 8 → Lays d (length d) (dirent ino off name ∷ []) 0 d
+  long-out h = lays-out d (length d) (dirent ino off name) 0 d (record { short = omega (arith, long); count = refl; bytes = refl })
 
   -- the last eight bytes
   ending : (v : ℕ) → v ≡ get 1 src (from + (len - 8)) → bytesOf 8 (last * 256 + v) ≡ read src (from + (len - 8)) 1 ++ bytesOf 7 last
@@ -221,8 +221,8 @@ module _ (d : List ℕ) (ino off : ℕ) (src : List ℕ) (from len last : ℕ) (
         ap₂ (λ (x y : List ℕ). x ++ y) p (ending v qv) ∙ sym (append-assoc (read src from (len - 8)) (read src (from + (len - 8)) 1) (bytesOf 7 last))
         ∙ ap (λ (x : List ℕ). x ++ bytesOf 7 last) (sym (read-add src from (len - 8) 1) ∙ ap (read src from) n)
 
-    all : e₄ ≡ write d 0 (entry ino off name)
-    unfolding entry recordOf
+    all : e₄ ≡ write d 0 (dirent ino off name)
+    unfolding dirent recordOf
     all =
         let zs : List ℕ = replicate pad 0 in
         let n : length front + length name ≡ 24 + len = omega (arith, front-length ino off name, size) in
@@ -232,5 +232,5 @@ module _ (d : List ℕ) (ino off : ℕ) (src : List ℕ) (from len last : ℕ) (
         (ap (λ (x : ℕ). write d 0 (front ++ (name ++ replicate (padding x) 0))) n ∙ write-append d 0 front (name ++ zs)
         ∙ ap (λ (x : ℕ). write (write d 0 front) x (name ++ zs)) f)
 
-    pub long-in : Lays d (length d) (entry ino off name ∷ []) (24 + (len + 7) / 8 * 8) e₄
-    long-in = lays-in d (length d) (entry ino off name) (24 + (len + 7) / 8 * 8) e₄ (record { fits = omega (arith, long); count = sym long; bytes = all })
+    pub long-in : Lays d (length d) (dirent ino off name ∷ []) (24 + (len + 7) / 8 * 8) e₄
+    long-in = lays-in d (length d) (dirent ino off name) (24 + (len + 7) / 8 * 8) e₄ (record { fits = omega (arith, long); count = sym long; bytes = all })

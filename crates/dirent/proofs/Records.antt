@@ -8,12 +8,11 @@ use native.Mathlib.Decide.{decLe}
 use lib.ListN.{length, drop, replicate, length-append, length-replicate}
 use borrow.Author.Tests.{le-leb, lt-leb}
 use Rattle.rules.specs.Fields.{bytesOf, fields}
-use Rattle.rules.specs.Tree.{Node}
 use Rattle.rules.specs.Listing.{padding, recordOf, direntRow, dirent, laid}
 use Rattle.rules.proofs.Fields.{length-read, total, fields-length}
 use Rattle.le.specs.Mem.{read, write, put}
 use Rattle.le.proofs.Lens.{length-write, write-append, put-write, bytes-add}
-use Rattle.dirent.specs.Entry.{entry, Lays}
+use Rattle.dirent.specs.Lays.{Lays}
 use Rattle.dirent.proofs.Writes.{write-over, write-front, write-read}
 
 -- ---- how long it is
@@ -33,21 +32,16 @@ module _ (ino off : ℕ) (name : List ℕ) where
   unfolding total
   front-length = fields-length direntRow (ino ∷ off ∷ length name ∷ 0 ∷ []) refl
 
-  pub entry-length : length (entry ino off name) ≡ 24 + length name + padding (24 + length name)
-  unfolding entry
+  pub entry-length : length (dirent ino off name) ≡ 24 + length name + padding (24 + length name)
+  unfolding dirent
   entry-length = omega (arith, front-length, record-length (frontOf ino off name) name)
 
-  pub entry-some : 0 < length (entry ino off name)
+  pub entry-some : 0 < length (dirent ino off name)
   entry-some = omega (arith, entry-length)
 
-  pub entry-eights : length (entry ino off name) % 8 ≡ 0
-  unfolding entry
+  pub entry-eights : length (dirent ino off name) % 8 ≡ 0
+  unfolding dirent
   entry-eights = record-eights (frontOf ino off name) name
-
--- the rules' own, of the child at a place
-pub entry-of : (place : ℕ) (n : Node) → entry (n .number) (place + 1) (n .called) ≡ dirent place n
-unfolding entry dirent
-entry-of place n = refl
 
 -- ---- laid or not
 
@@ -206,10 +200,10 @@ module _ (d : List ℕ) (ino off : ℕ) (name : List ℕ) (n : ℕ) (e : List �
   entry-room z = omega (arith, length-read d 0 24, front-room d before (frontOf ino off name) name n e as-before w z)
 
   pub entry-in : (e₁ : List ℕ) → (n ≡ 0 → ⊥) → e₁ ≡ write e 0 (fields direntRow (ino ∷ off ∷ length name % 256 ^ 4 ∷ 0 ∷ []))
-      → Lays d (length d) (entry ino off name ∷ []) n e₁
-  unfolding entry
+      → Lays d (length d) (dirent ino off name ∷ []) n e₁
+  unfolding dirent
   entry-in e₁ z q = rw (q ∙ ap (write e 0) (front-low ino off (length name))) (front-in d before (frontOf ino off name) name n e as-before w z)
 
-  pub entry-out : n ≡ 0 → Lays d (length d) (entry ino off name ∷ []) 0 e
-  unfolding entry
+  pub entry-out : n ≡ 0 → Lays d (length d) (dirent ino off name ∷ []) 0 e
+  unfolding dirent
   entry-out z = front-out d before (frontOf ino off name) name n e as-before w (omega (arith, length-read d 0 24)) z

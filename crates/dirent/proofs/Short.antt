@@ -8,11 +8,11 @@ use lib.ListN.{length, replicate}
 use lib.Dec.{lit<}
 use lib.Pow.{pow-pos, shl-exact}
 use Rattle.rules.specs.Fields.{bytesOf, fields}
-use Rattle.rules.specs.Listing.{padding, recordOf, direntRow}
+use Rattle.rules.specs.Listing.{padding, recordOf, direntRow, dirent}
 use Rattle.rules.proofs.Fields.{bytes-bits, length-bytesOf}
 use Rattle.le.specs.Mem.{write, put}
 use Rattle.le.proofs.Lens.{bytes-add, write-append}
-use Rattle.dirent.specs.Entry.{entry, Lays}
+use Rattle.dirent.specs.Lays.{Lays}
 use Rattle.dirent.proofs.Records.{frontOf, front-length, entry-length, lays-in, lays-out, low-bytes}
 
 -- ---- the mask
@@ -55,12 +55,12 @@ module _ (d : List ℕ) (ino off l w : ℕ) (some : 1 ≤ l) (few : l ≤ 7) whe
   size : length name ≡ l
   size = length-bytesOf l w
 
-  long : length (entry ino off name) ≡ 32
+  long : length (dirent ino off name) ≡ 32
   long = omega (arith, entry-length ino off name, size)
 
   -- fixed part, and the number
-  spelt : entry ino off name ≡ frontOf ino off name ++ bytesOf 8 (w % 256 ^ l)
-  unfolding entry recordOf
+  spelt : dirent ino off name ≡ frontOf ino off name ++ bytesOf 8 (w % 256 ^ l)
+  unfolding dirent recordOf
   spelt =
       let k : padding (length (frontOf ino off name) + length name) ≡ 8 - l = omega (arith, front-length ino off name, size) in
       let e : l + (8 - l) ≡ 8 = omega arith in
@@ -68,7 +68,7 @@ module _ (d : List ℕ) (ino off l w : ℕ) (some : 1 ≤ l) (few : l ≤ 7) whe
       ∙ ap (λ (bs : List ℕ). frontOf ino off name ++ bs) (sym (masked l (8 - l) w) ∙ ap (λ (n : ℕ). bytesOf n (w % 256 ^ l)) e)
 
   pub short-in : (e f : List ℕ) → 32 ≤ length d → e ≡ write d 0 (fields direntRow (ino ∷ off ∷ l ∷ 0 ∷ []))
-      → f ≡ put 8 e 24 (w % (1 * 2 ^ (8 * l) % 2 ^ 64)) → Lays d (length d) (entry ino off name ∷ []) 32 f
+      → f ≡ put 8 e 24 (w % (1 * 2 ^ (8 * l) % 2 ^ 64)) → Lays d (length d) (dirent ino off name ∷ []) 32 f
   unfolding put
   short-in e f h a b =
       let front : List ℕ = frontOf ino off name in
@@ -77,10 +77,10 @@ module _ (d : List ℕ) (ino off l w : ℕ) (some : 1 ≤ l) (few : l ≤ 7) whe
       let t : write d 0 (front ++ bytesOf 8 (w % 256 ^ l)) ≡ write (write d 0 front) (0 + length front) (bytesOf 8 (w % 256 ^ l)) =
       write-append d 0 front (bytesOf 8 (w % 256 ^ l)) in
       let at : 0 + length front ≡ 24 = omega (arith, front-length ino off name) in
-      let all : f ≡ write d 0 (entry ino off name) =
+      let all : f ≡ write d 0 (dirent ino off name) =
       r ∙ ap (λ (x : List ℕ). write x 24 (bytesOf 8 (w % 256 ^ l))) g
       ∙ sym (t ∙ ap (λ (n : ℕ). write (write d 0 front) n (bytesOf 8 (w % 256 ^ l))) at) ∙ ap (write d 0) (sym spelt) in
-      lays-in d (length d) (entry ino off name) 32 f (record { fits = omega (arith, long); count = sym long; bytes = all })
+      lays-in d (length d) (dirent ino off name) 32 f (record { fits = omega (arith, long); count = sym long; bytes = all })
 
-  pub short-out : length d < 32 → Lays d (length d) (entry ino off name ∷ []) 0 d
-  short-out h = lays-out d (length d) (entry ino off name) 0 d (record { short = omega (arith, long); count = refl; bytes = refl })
+  pub short-out : length d < 32 → Lays d (length d) (dirent ino off name ∷ []) 0 d
+  short-out h = lays-out d (length d) (dirent ino off name) 0 d (record { short = omega (arith, long); count = refl; bytes = refl })

@@ -1,2 +1,2 @@
--- What the contracts of this crate say: the directory entry, and records laid into lent bytes.
-pub mod Entry
+-- What the contracts of this crate say: records laid into lent bytes.
+pub mod Lays

@@ -4,9 +4,9 @@ ghost use mathlib.Core.List.{[], _∷_, _++_};
 ghost use Prim.Native.Nat.{_+_, _-_, _*_, _^_, _≤_, _<_};
 ghost use lib.ListN.{length};
 ghost use Rattle.rules.specs.Fields.{bytesOf, fields};
-ghost use Rattle.rules.specs.Listing.{direntRow};
+ghost use Rattle.rules.specs.Listing.{direntRow, dirent};
 ghost use Rattle.le.specs.Mem.{read, write};
-ghost use Rattle.dirent.specs.Entry.{entry, Lays};
+ghost use Rattle.dirent.specs.Lays.{Lays};
 
 // The bytes of an entry in front of its name (R64).
 const FRONT: usize = 24;
@@ -30,7 +30,7 @@ pub fn put_front(out: &mut [u8], ino: u64, off: u64, len: u32)
 pub fn write_short(out: &mut [u8], ino: u64, off: u64, len: u64, word: u64) -> usize
     requires { ⌜ 1 ≤ len ⌝ }
     requires { ⌜ len ≤ 7 ⌝ }
-    ensures { λ r. ⌜ Lays (now (out .entry)) (length (now (out .entry))) (entry ino off (bytesOf len word) ∷ []) r (now (out .exit)) ⌝ }
+    ensures { λ r. ⌜ Lays (now (out .entry)) (length (now (out .entry))) (dirent ino off (bytesOf len word) ∷ []) r (now (out .exit)) ⌝ }
 {
     if out.len() < SHORT {
         return 0;
@@ -68,7 +68,7 @@ pub fn write_long(
 ) -> usize
     requires { ⌜ (8 ≤ len) × (len ≤ 255) × (last < 2 ^ 56) ⌝ }
     requires { ⌜ from + len ≤ length (now src) ⌝ }
-    ensures { λ r. ⌜ Lays (now (out .entry)) (length (now (out .entry))) (entry ino off (read (now (src .entry)) from (len - 7) ++ bytesOf 7 last) ∷ []) r (now (out .exit)) ⌝ }
+    ensures { λ r. ⌜ Lays (now (out .entry)) (length (now (out .entry))) (dirent ino off (read (now (src .entry)) from (len - 7) ++ bytesOf 7 last) ∷ []) r (now (out .exit)) ⌝ }
 {
     let size = FRONT + (len + 7) / 8 * 8;
     if out.len() < size {

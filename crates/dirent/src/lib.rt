@@ -2,8 +2,8 @@
 ghost use mathlib.Core.List.{[], _∷_};
 ghost use lib.ListN.{length};
 ghost use Rattle.le.specs.Mem.{read};
-ghost use Rattle.rules.specs.Listing.{recordOf};
-ghost use Rattle.dirent.specs.Entry.{entry, Lays};
+ghost use Rattle.rules.specs.Listing.{recordOf, dirent};
+ghost use Rattle.dirent.specs.Lays.{Lays};
 
 pub mod inner;
 
@@ -37,7 +37,7 @@ fn put_name(out: &mut [u8], front: usize, name: &[u8]) -> usize
 
 // Lays a directory entry at the start of the lent bytes: its length, or 0 and all as it was where it does not fit (R64, R65).
 pub fn write_dirent(out: &mut [u8], ino: u64, off: u64, name: &[u8]) -> usize
-    ensures { λ r. ⌜ Lays (now (out .entry)) (length (now (out .entry))) (entry ino off (now (name .entry)) ∷ []) r (now (out .exit)) ⌝ }
+    ensures { λ r. ⌜ Lays (now (out .entry)) (length (now (out .entry))) (dirent ino off (now (name .entry)) ∷ []) r (now (out .exit)) ⌝ }
 {
     let size = put_name(out, FRONT, name);
     if size == 0 {

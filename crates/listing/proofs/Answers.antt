@@ -14,7 +14,7 @@ use Rattle.le.specs.Mem.{write}
 use Rattle.tables.specs.View.{nodesOf, view}
 use Rattle.tables.specs.Rule.{laid}
 use Rattle.tables.specs.Call.{Told, toldBy, writtenBy}
-use Rattle.dirent.specs.Entry.{Lays}
+use Rattle.dirent.specs.Lays.{Lays}
 use Rattle.storage.proofs.Laid.{told-small, told-by}
 use Rattle.listing.specs.declared.Listed.{Listed}
 use Rattle.listing.specs.declared.Listed.the-variants.{Wrote, NoEnt, Small}

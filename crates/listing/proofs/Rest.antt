@@ -7,14 +7,14 @@ use native.Mathlib.Omega.{arith}
 use borrow.Author.Tests.{eq-eqb, ne-eqb}
 use lib.ListN.{length, drop}
 use Rattle.rules.specs.Tree.{Node, childrenIn}
-use Rattle.rules.specs.Listing.{direntsFrom}
+use Rattle.rules.specs.Listing.{dirent, direntsFrom}
 use Rattle.tables.specs.Layout.{capacityOf, countOf}
 use Rattle.tables.specs.View.{nodeAt, nodesOf}
 use Rattle.tables.proofs.Tab.{tab-next, tab-done}
 use Rattle.tables.proofs.Find.{nodes-of, left}
-use Rattle.dirent.specs.Entry.{entry, Lays}
+use Rattle.dirent.specs.Lays.{Lays}
 use Rattle.dirent.proofs.Records.{entry-some}
-use Rattle.dirent.proofs.Fills.{back, Wrote, Going, going-start, going-done, went, stopped, dirents-more}
+use Rattle.dirent.proofs.Fills.{back, Wrote, Going, going-start, going-done, went, stopped}
 
 -- ---- the records that are due of the children behind the first `place`: those from the offset on
 
@@ -43,12 +43,12 @@ module _ (offset place : ℕ) where
       rw (a, b)
 
   -- or not
-  due-next : (n : Node) (cs : List Node) → offset < place + 1 → due offset place (n ∷ cs) ≡ entry (n .number) (place + 1) (n .called) ∷ due offset (place + 1) cs
-  unfolding due
+  due-next : (n : Node) (cs : List Node) → offset < place + 1 → due offset place (n ∷ cs) ≡ dirent (n .number) (place + 1) (n .called) ∷ due offset (place + 1) cs
+  unfolding due direntsFrom
   due-next n cs h =
       let a : offset - place ≡ 0 = omega arith in
       let b : offset - (place + 1) ≡ 0 = omega arith in
-      rw (a, b, add-zero place, add-zero (place + 1)) (dirents-more place n cs)
+      rw (a, b, add-zero place, add-zero (place + 1))
 
 -- ---- the children among the rows that are left
 
@@ -115,9 +115,9 @@ module _ (mem : List ℕ) (x offset end c : ℕ) (d₀ d : List ℕ) (at place i
 
     -- it is a child from the offset on, and its record is the next
     module _ (e : node mem x c i .above ≡ x) (s : offset < place + 1) (n : ℕ) (ys : List ℕ)
-        (w : Wrote d at end (entry (node mem x c i .number) (place + 1) (node mem x c i .called)) n ys) where
+        (w : Wrote d at end (dirent (node mem x c i .number) (place + 1) (node mem x c i .called)) n ys) where
       abbrev this : List ℕ
-      this = entry (node mem x c i .number) (place + 1) (node mem x c i .called)
+      this = dirent (node mem x c i .number) (place + 1) (node mem x c i .called)
 
       abbrev others : List (List ℕ)
       others = due offset (place + 1) (children mem x c (i + 1))

@@ -22,14 +22,14 @@ recordOf front p = front ++ (p ++ replicate (padding (length front + length p)) 
 abbrev pub direntRow : List ℕ
 direntRow = 8 ∷ 8 ∷ 4 ∷ 4 ∷ []
 
--- the directory entry of the child at a place; its offset is the place + 1, its type 0 (R64)
-unfoldable pub dirent : ℕ → Node → List ℕ
-dirent place n = recordOf (fields direntRow (n .number ∷ (place + 1) ∷ length (n .called) ∷ 0 ∷ [])) (n .called)
+-- the directory entry of a node number, an offset and a name; its type is 0 (R64)
+unfoldable pub dirent : ℕ → ℕ → List ℕ → List ℕ
+dirent number offset p = recordOf (fields direntRow (number ∷ offset ∷ length p ∷ 0 ∷ [])) p
 
--- of the children from a place on (R64)
+-- of the children from a place on; the offset of each is its place + 1 (R64)
 unfoldable pub direntsFrom : ℕ → List Node → List (List ℕ)
 direntsFrom place [] = []
-direntsFrom place (n ∷ ns) = dirent place n ∷ direntsFrom (place + 1) ns
+direntsFrom place (n ∷ ns) = dirent (n .number) (place + 1) (n .called) ∷ direntsFrom (place + 1) ns
 
 -- each record behind the one before it, whole ones only, stopping at the first that does not fit (R65)
 unfoldable pub laid : ℕ → List (List ℕ) → List ℕ

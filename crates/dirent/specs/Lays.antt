@@ -1,15 +1,10 @@
--- The directory entry of a child, and what is answered and left where records are laid into lent bytes.
+-- What is answered and left where records are laid into lent bytes.
 use Prim.Native.Nat.{ℕ}
 use mathlib.Core.Path.{_≡_}
-use mathlib.Core.List.{List, [], _∷_}
+use mathlib.Core.List.{List}
 use lib.ListN.{length}
-use Rattle.rules.specs.Fields.{fields}
-use Rattle.rules.specs.Listing.{recordOf, direntRow, laid}
+use Rattle.rules.specs.Listing.{laid}
 use Rattle.le.specs.Mem.{write}
-
--- the entry of a node number, an offset and a name (R64)
-unfoldable pub entry : ℕ → ℕ → List ℕ → List ℕ
-entry ino off name = recordOf (fields direntRow (ino ∷ off ∷ length name ∷ 0 ∷ [])) name
 
 -- records laid into the first `room` of the lent bytes d (R65, R66): n is the number of bytes written, and e holds
 -- them at the start and behind them what d held
