@@ -11,8 +11,8 @@ use borrow.Rule.Slice.PartMut.{putMid, put-same}
 use Rattle.rules.specs.Listing.{laid}
 use Rattle.le.specs.Mem.{write}
 use Rattle.le.proofs.Lens.{length-write, write-append}
+use Rattle.le.proofs.Writes.{write-part}
 use Rattle.dirent.specs.Lays.{Lays}
-use Rattle.dirent.proofs.Writes.{write-part}
 use Rattle.dirent.proofs.Records.{laid-in, laid-out, was-laid, was-not}
 
 -- the bytes from `at` to `end`, as they are lent; and the whole with these back as ys

@@ -12,16 +12,16 @@ use Rattle.rules.specs.Listing.{padding, recordOf, direntRow, dirent, laid}
 use Rattle.rules.proofs.Fields.{length-read, total, fields-length}
 use Rattle.le.specs.Mem.{read, write, put}
 use Rattle.le.proofs.Lens.{length-write, write-append, put-write, bytes-add}
+use Rattle.le.proofs.Writes.{write-over, write-front, write-read}
 use Rattle.dirent.specs.Lays.{Lays}
-use Rattle.dirent.proofs.Writes.{write-over, write-front, write-read}
 
 -- ---- how long it is
 
-pub record-length : (f p : List ℕ) → length (recordOf f p) ≡ length f + length p + padding (length f + length p)
+record-length : (f p : List ℕ) → length (recordOf f p) ≡ length f + length p + padding (length f + length p)
 unfolding recordOf
 record-length f p = simp (length-append, length-replicate) (omega arith)
 
-pub record-eights : (f p : List ℕ) → length (recordOf f p) % 8 ≡ 0
+record-eights : (f p : List ℕ) → length (recordOf f p) % 8 ≡ 0
 record-eights f p = omega (arith, record-length f p)
 
 abbrev pub frontOf : ℕ → ℕ → List ℕ → List ℕ
@@ -53,7 +53,7 @@ pub laid-out : (room : ℕ) (r : List ℕ) (rs : List (List ℕ)) → room < len
 unfolding laid
 laid-out room r rs h = rw (lt-leb (length r) room h)
 
-pub laid-within : (room : ℕ) (rs : List (List ℕ)) → length (laid room rs) ≤ room
+laid-within : (room : ℕ) (rs : List (List ℕ)) → length (laid room rs) ≤ room
 unfolding laid
 laid-within room [] = omega arith
 laid-within room (r ∷ rs) = go (decLe (length r) room) (laid-within (room - length r) rs)

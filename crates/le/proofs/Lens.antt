@@ -90,7 +90,7 @@ read-apart mem at bs l p zero e h = refl
 read-apart mem at bs l p (suc k) e (inl h) = λ i. byte-apart mem at bs p (inl (omega arith)) i ∷ read-apart mem at bs l (p + 1) k e (inl (omega arith)) i
 read-apart mem at bs l p (suc k) e (inr h) = λ i. byte-apart mem at bs p (inr (omega arith)) i ∷ read-apart mem at bs l (p + 1) k e (inr (omega arith)) i
 
-pub read-put-apart : (j : ℕ) (mem : List ℕ) (at v p k : ℕ) → Apart p k at j → read (put j mem at v) p k ≡ read mem p k
+read-put-apart : (j : ℕ) (mem : List ℕ) (at v p k : ℕ) → Apart p k at j → read (put j mem at v) p k ≡ read mem p k
 unfolding put
 read-put-apart j mem at v p k h = read-apart mem at (bytesOf j v) j p k (length-bytesOf j v) h
 
@@ -101,7 +101,7 @@ get-put-apart k j mem at v p h = ap value (read-put-apart j mem at v p k h)
 -- ---- a part of a run
 
 -- two runs are equal by their bytes
-pub read-ext : (a b : List ℕ) (p q k : ℕ) → ((i : ℕ) → i < k → getD a (p + i) 0 ≡ getD b (q + i) 0) → read a p k ≡ read b q k
+read-ext : (a b : List ℕ) (p q k : ℕ) → ((i : ℕ) → i < k → getD a (p + i) 0 ≡ getD b (q + i) 0) → read a p k ≡ read b q k
 unfolding read
 read-ext a b p q zero h = refl
 read-ext a b p q (suc k) h =
@@ -155,7 +155,7 @@ read-within mem at bs l d w n h k =
 pub read-same : (mem : List ℕ) (at : ℕ) (bs : List ℕ) (l : ℕ) → length bs ≡ l → at + l ≤ length mem → read (write mem at bs) at l ≡ bs
 read-same mem at bs l n h = rw add-zero at (read-within mem at bs l 0 l n h (omega arith)) ∙ ap (read bs 0) (sym n) ∙ read-all bs
 
-pub read-put-same : (k : ℕ) (mem : List ℕ) (at v : ℕ) → at + k ≤ length mem → read (put k mem at v) at k ≡ bytesOf k v
+read-put-same : (k : ℕ) (mem : List ℕ) (at v : ℕ) → at + k ≤ length mem → read (put k mem at v) at k ≡ bytesOf k v
 unfolding put
 read-put-same k mem at v h = read-same mem at (bytesOf k v) k (length-bytesOf k v) h
 

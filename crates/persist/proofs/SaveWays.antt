@@ -19,7 +19,7 @@ use Rattle.rules.proofs.RoundTrip.{longest}
 use Rattle.rules.proofs.Shape.{entries-length}
 use Rattle.le.specs.Mem.{get, write}
 use Rattle.le.proofs.Lens.{write-append}
-use Rattle.dirent.proofs.Writes.{write-over}
+use Rattle.le.proofs.Writes.{write-over}
 use Rattle.tables.specs.Table.{row, tab}
 use Rattle.tables.specs.Layout.{capacityOf, countOf, nextOf, counterAt}
 use Rattle.tables.specs.View.{optionsFrom, headOf, nodeAt, nodesOf, view}

@@ -15,7 +15,7 @@ use Rattle.rules.specs.Restore.{entryFor, entriesFor}
 use Rattle.rules.proofs.Encoded.{node-length}
 use Rattle.le.specs.Mem.{get, write, put}
 use Rattle.le.proofs.Lens.{length-write, write-append, put-write, put-add}
-use Rattle.dirent.proofs.Writes.{write-part}
+use Rattle.le.proofs.Writes.{write-part}
 use Rattle.tables.specs.Table.{row}
 use Rattle.tables.specs.Layout.{capacityOf, countOf}
 use Rattle.tables.specs.View.{optionsFrom, headOf, nodeAt, nodesOf}

@@ -19,12 +19,12 @@ write-suc x xs at (b ∷ bs) =
     rw e (write-suc x (set xs at b) (at + 1) bs)
 
 -- into what stands behind p
-pub write-behind : (p m : List ℕ) (at : ℕ) (bs : List ℕ) → write (p ++ m) (length p + at) bs ≡ p ++ write m at bs
+write-behind : (p m : List ℕ) (at : ℕ) (bs : List ℕ) → write (p ++ m) (length p + at) bs ≡ p ++ write m at bs
 write-behind [] m at bs = rw zero-add
 write-behind (x ∷ p) m at bs = rw (suc-add, write-suc x (p ++ m) (length p + at) bs, write-behind p m at bs)
 
 -- into what stands in front of q
-pub write-before : (m q : List ℕ) (at : ℕ) (bs : List ℕ) → at + length bs ≤ length m → write (m ++ q) at bs ≡ write m at bs ++ q
+write-before : (m q : List ℕ) (at : ℕ) (bs : List ℕ) → at + length bs ≤ length m → write (m ++ q) at bs ≡ write m at bs ++ q
 unfolding write
 write-before m q at [] h = refl
 write-before m q at (b ∷ bs) h =
@@ -32,7 +32,7 @@ write-before m q at (b ∷ bs) h =
     rw (set-append-left m q at b (omega arith)) (write-before (set m at b) q (at + 1) bs (omega arith))
 
 -- every byte anew
-pub write-all : (m bs : List ℕ) → length bs ≡ length m → write m 0 bs ≡ bs
+write-all : (m bs : List ℕ) → length bs ≡ length m → write m 0 bs ≡ bs
 write-all m bs e =
     sym (read-all (write m 0 bs)) ∙ ap (read (write m 0 bs) 0) (length-write m 0 bs ∙ sym e) ∙ read-same m 0 bs (length bs) refl (omega arith)
 
