@@ -20,7 +20,7 @@ pub enum Converted {
 }
 
 // The index stands above so many bits (R6).
-pub const VFS_INDEX_SHIFT: u64 = 56;
+const VFS_INDEX_SHIFT: u64 = 56;
 
 // The full number of an index and a number (R6, R7).
 fn joined(index: u8, number: u64) -> Converted
