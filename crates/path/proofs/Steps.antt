@@ -233,7 +233,7 @@ step-of s at e f = subst (Step s at) (sym e ∙ f) (steps s at)
 
 -- ---- the theorem: stepping through a path yields its components
 
-pub stepped-from : (k : ℕ) (s : List ℕ) (at : ℕ) → length s < at + k → stepped k s at ≡ components at (drop at s)
+stepped-from : (k : ℕ) (s : List ℕ) (at : ℕ) → length s < at + k → stepped k s at ≡ components at (drop at s)
 unfolding components kept partsBy sorted same
 stepped-from zero s at h = let l : length s ≤ at = omega arith in rw (drop-of-length-le s l)
 stepped-from (suc k) s at h = go (nextAt s at) (steps s at) (λ (next : ℕ) (l : at < next). stepped-from k s next (omega arith))

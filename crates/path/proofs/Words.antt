@@ -63,7 +63,7 @@ module _ (sep : ℕ) where
     end-length = add-sub-cancel-left i (partLength sep (drop i s))
 
     -- the bytes behind the one that ends the part
-    behind-end : drop (partLength sep (drop i s) + 1) (drop i s) ≡ drop (partEnd sep s i + 1) s
+    pub behind-end : drop (partLength sep (drop i s) + 1) (drop i s) ≡ drop (partEnd sep s i + 1) s
     unfolding partEnd
     behind-end =
         let e : i + (partLength sep (drop i s) + 1) ≡ i + partLength sep (drop i s) + 1 = omega arith in

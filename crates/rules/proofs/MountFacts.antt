@@ -28,10 +28,10 @@ use Rattle.rules.proofs.Held.{Held, held-grown, held-placed, held-taken
 -- ---- the parts of an instance that a call changes
 
 -- the tree, apart from its mounts
-pub record FineTree (capacity : ℕ) (t : Tree) : Type 0 where
-  pub shape : Shape (entriesFor (t .nodes)) (t .next)
-  pub top : t .next ≤ topNumber
-  pub room : 1 + length (t .nodes) ≤ capacity
+record FineTree (capacity : ℕ) (t : Tree) : Type 0 where
+  shape : Shape (entriesFor (t .nodes)) (t .next)
+  top : t .next ≤ topNumber
+  room : 1 + length (t .nodes) ≤ capacity
 
 fine-of : (i : Instance) → Facts i → FineTree (i .fixed .capacity) (i .tree)
 fine-of i f = record { shape = f .shape; top = f .top; room = f .room }
@@ -56,10 +56,10 @@ taken-fine i x f = go (i .removal && not (eqb x rootNumber)) (set-fine (i .fixed
     go false g = g
 
 -- the facts with another tree, other slots of the same number, another counter
-pub record Changes (i : Instance) (t : Tree) (slots : List Slot) (counter : ℕ) : Type 0 where
-  pub tree : FineTree (i .fixed .capacity) t
-  pub many : length slots ≡ 256
-  pub low : counter < 256
+record Changes (i : Instance) (t : Tree) (slots : List Slot) (counter : ℕ) : Type 0 where
+  tree : FineTree (i .fixed .capacity) t
+  many : length slots ≡ 256
+  low : counter < 256
 
 abbrev with-all : Instance → Tree → List Slot → ℕ → Instance
 with-all i t slots counter = record { fixed = i .fixed; removal = i .removal; initialized = i .initialized; options = i .options; indexes = record { slots = slots; counter = counter }; tree = t }

@@ -7,7 +7,7 @@ use native.Mathlib.Numerals.{one-add}
 use native.Mathlib.Omega.{arith}
 use lib.ListN.{length}
 use lib.Arith.{digits-div}
-use lib.Pow.{pow-pos, pow-mono, high-ones}
+use lib.Pow.{ones-lt, ones-split}
 use Rattle.le.specs.Mem.{read, value, get, Bytes}
 use Rattle.le.proofs.Lens.{get-add}
 use Rattle.rules.proofs.Fields.{get-fits}
@@ -15,10 +15,7 @@ use Rattle.scan.specs.Key.{maskOf, wordOf}
 
 -- ones, shifted down, are fewer ones
 ones-down : (j k : ℕ) → (2 ^ (j + k) - 1) / 2 ^ k ≡ 2 ^ j - 1
-ones-down j k =
-    let more : 2 ^ k ≤ 2 ^ (j + k) = pow-mono (omega arith) in
-    let e : 2 ^ (j + k) - 1 ≡ (2 ^ j - 1) * 2 ^ k + (2 ^ k - 1) = omega (arith, high-ones j k, pow-pos k, more) in
-    ap (λ (x : ℕ). x / 2 ^ k) e ∙ digits-div (2 ^ j - 1) (omega (arith, pow-pos k))
+ones-down j k = ap (λ (x : ℕ). x / 2 ^ k) (ones-split j k) ∙ digits-div (2 ^ j - 1) (ones-lt k)
 
 pub mask-down : (k : ℕ) → k ≤ 7 → 18446744073709551615 / 2 ^ (56 - 8 * k) ≡ 2 ^ (8 * (k + 1)) - 1
 mask-down k h =

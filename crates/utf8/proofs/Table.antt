@@ -144,7 +144,7 @@ firstRow-le (row ∷ rows) s = go (fits row s) refl (firstRow-le rows s)
     go true e h = fits-long row s e
     go false e h = h
 
-pub sequence-le : (s : List ℕ) → sequence s ≤ length s
+sequence-le : (s : List ℕ) → sequence s ≤ length s
 unfolding sequence
 sequence-le s = firstRow-le table s
 

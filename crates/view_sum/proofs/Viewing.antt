@@ -7,6 +7,7 @@ use mathlib.Core.Bool.{Bool, true, false}
 use mathlib.Core.List.{List, [], _∷_, _++_}
 use lib.Dec.{leb}
 use lib.ListN.{length, getD, take, drop, length-drop, drop-of-length-le}
+use lib.Seq.{take-nil}
 use borrow.Author.Tests.{le-leb, lt-leb, leb-true, leb-false, eq-eqb, ne-eqb}
 use Rattle.path.specs.Steps.{part}
 use Rattle.words.specs.Adler.{summed, adler}
@@ -18,10 +19,6 @@ take-short : (n : ℕ) (xs : List ℕ) → take (min n (length xs)) xs ≡ take 
 take-short zero xs = rw (zero-min (length xs))
 take-short (suc n) [] = rw (min-zero (suc n))
 take-short (suc n) (x ∷ xs) = rw (suc-min-suc n (length xs)) (ap (λ (l : List ℕ). x ∷ l) (take-short n xs))
-
-take-nil : (n : ℕ) → take {A = ℕ} n [] ≡ []
-take-nil zero = refl
-take-nil (suc n) = refl
 
 module _ (s : List ℕ) (at n : ℕ) where
   run-by : (t : Bool) → leb at (length s) ≡ t → (a k : ℕ) → a ≡ min at (length s) → k ≡ min n (length s - a) → part s a k ≡ part s at n

@@ -11,7 +11,7 @@ use Rattle.rules.specs.Bytes.{same}
 use Rattle.rules.specs.Path.{partsBy}
 use Rattle.rules.specs.Session.{space, words, number, shown}
 use Rattle.path.specs.Steps.{between, partLength, partEnd}
-use Rattle.path.proofs.Words.{behind, first-part, end-from, end-within, end-length}
+use Rattle.path.proofs.Words.{behind, first-part, end-from, end-within, end-length, behind-end}
 use Rattle.decimal.specs.declared.Number.the-variants.{Value, Bad}
 use Rattle.decimal.specs.Read.{valueIn, numberTo}
 use Rattle.decimal.proofs.Steps.{of-width}
@@ -54,20 +54,15 @@ none-behind [] = refl
 none-behind (b ∷ s) = refl
 
 module _ (s : List ℕ) (at : ℕ) where
-  pub from-past : length s ≤ at → from s at ≡ []
+  from-past : length s ≤ at → from s at ≡ []
   unfolding numbersOf partsBy number same
   from-past h = rw (drop-of-length-le s h)
-
-  behind-end : drop 1 (drop (partLength space (drop at s)) (drop at s)) ≡ drop (partEnd space s at + 1) s
-  unfolding partEnd
-  behind-end = drop-drop 1 (partLength space (drop at s)) (drop at s) ∙ drop-drop (partLength space (drop at s) + 1) at s
-      ∙ ap (λ (k : ℕ). drop k s) (let e : at + (partLength space (drop at s) + 1) ≡ at + partLength space (drop at s) + 1 = omega arith in e)
 
   from-word : from s at ≡ before (number 64 (between s at (partEnd space s at))) (from s (partEnd space s at + 1))
   unfolding numbersOf
   from-word =
       ap numbersOf (first-part space (drop at s))
-      ∙ rw (none-behind (drop (partLength space (drop at s)) (drop at s)), behind-end, end-length space s at)
+      ∙ rw (none-behind (drop (partLength space (drop at s)) (drop at s)), drop-drop 1 (partLength space (drop at s)) (drop at s), behind-end space s at, end-length space s at)
 
   pub from-value : (v : ℕ) → numberTo largest (between s at (partEnd space s at)) ≡ valueIn (Value v) → from s at ≡ v ∷ from s (partEnd space s at + 1)
   unfolding valueIn
