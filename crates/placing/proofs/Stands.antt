@@ -85,7 +85,7 @@ module _ (x : ℕ) (mem : List ℕ) (e : laid mem ≡ true) where
       go true = view-gone mem (laid-is mem e) x
       go false = refl
 
-  keeps-out : laid (outMem x mem) ≡ true
+  pub keeps-out : laid (outMem x mem) ≡ true
   unfolding outMem
   keeps-out = go (flag 15 (headOf mem) && not (eqb x rootNumber))
     where

@@ -1,0 +1,196 @@
+-- Bytes with a rest behind them: what is read and written among the first. Assumes nothing.
+use mathlib.Core.Path.{_≡_, refl, sym, ap, _∙_, subst}
+use mathlib.Core.Bool.{Bool, true}
+use mathlib.Core.List.{List, [], _∷_, _++_}
+use mathlib.Core.Option.{Option}
+use Prim.Native.Nat.{ℕ, _+_, _-_, _*_, _≤_, _<_}
+use native.Mathlib.Nat.{mul-add, mul-le-mul-left}
+use native.Mathlib.Omega.{arith}
+use lib.ListN.{length, take, drop, take-append-drop, set, length-set, length-append, List·getD-append}
+use lib.Seq.{length-take-le, set-append-left}
+use Rattle.le.specs.Mem.{read, write, bytesOf, get}
+use Rattle.le.proofs.Lens.{length-write, read-ext}
+use Rattle.rules.specs.Numbers.{storageFor}
+use Rattle.rules.specs.Tree.{Mount}
+use Rattle.rules.proofs.Fields.{length-read, length-bytesOf}
+use Rattle.tables.specs.Table.{Col, off, row, putRow, closeUp, Beneath, Fit}
+use Rattle.tables.specs.Layout.{header, slotTable, nodeTable, capacityOf, countOf, nextOf}
+use Rattle.tables.specs.View.{field, slotFrom, nodeFrom, instanceFrom, headOf, slotAt, nodeAt, slotsOf, nodesFrom, nodesOf, view}
+use Rattle.tables.specs.Rule.{laid, laidBy, Laid}
+use Rattle.tables.specs.Write.{fromPlace, putHeader, setCount, setNext, heldByte, setSlot, rowMountCells, setRowMount, nodeCells, appendNode, removeRow}
+use Rattle.tables.proofs.Tab.{tab-same}
+use Rattle.tables.proofs.Table.{cell-end, length-putRow, length-closeUp, row-low}
+use Rattle.tables.proofs.Spells.{cells-fit, mount-fit}
+use Rattle.tables.proofs.Heads.{two-fields, one-fit, fields-fit}
+use Rattle.tables.proofs.Keeps.{laid-is, ruled, is-ruled, open-laid}
+use Rattle.behind.specs.Behind.{Leaves}
+
+module _ (rest : List ℕ) where
+  -- ---- runs
+
+  read-front : (mem : List ℕ) (p k : ℕ) → p + k ≤ length mem → read (mem ++ rest) p k ≡ read mem p k
+  read-front mem p k h = read-ext (mem ++ rest) mem p p k (λ i l. List·getD-append mem rest 0 (p + i) (omega arith))
+
+  pub write-front : (mem : List ℕ) (at : ℕ) (bs : List ℕ) → at + length bs ≤ length mem → write (mem ++ rest) at bs ≡ write mem at bs ++ rest
+  unfolding write
+  write-front mem at [] h = refl
+  write-front mem at (b ∷ bs) h =
+      ap (λ (m : List ℕ). write m (at + 1) bs) (set-append-left mem rest at b (omega arith))
+      ∙ write-front (set mem at b) (at + 1) bs (omega (arith, length-set mem at b))
+
+  -- ---- rows
+
+  row-front : (n : ℕ) (cs : List Col) (mem : List ℕ) (j : ℕ) → j < n → Beneath n cs (length mem) → row cs (mem ++ rest) j ≡ row cs mem j
+  row-front n cs mem j l b = row-low n cs (mem ++ rest) mem j (length mem) l b (λ q w h. read-front mem q w h)
+
+  put-front : (n : ℕ) (cs : List Col) (xs : List (List ℕ)) (mem : List ℕ) (i : ℕ) → i < n → Beneath n cs (length mem) → Fit cs xs → putRow cs xs (mem ++ rest) i ≡ putRow cs xs mem i ++ rest
+  unfolding putRow
+  put-front n [] xs mem i l b f = refl
+  put-front n (c ∷ cs) [] mem i l b f = refl
+  put-front n (c ∷ cs) (x ∷ xs) mem i l b f =
+      let end = b .0 in
+      let fit = f .0 in
+      ap (λ (m : List ℕ). putRow cs xs m i) (write-front mem (off c i) x (omega (arith, cell-end c i n l)))
+      ∙ put-front n cs xs (write mem (off c i) x) i l (subst (λ (e : ℕ). Beneath n cs e) (sym (length-write mem (off c i) x)) (b .1)) (f .1)
+
+  close-front : (n k m : ℕ) → k + 1 + m ≤ n → (cs : List Col) (mem : List ℕ) → Beneath n cs (length mem) → closeUp cs (mem ++ rest) k m ≡ closeUp cs mem k m ++ rest
+  unfolding closeUp
+  close-front n k m h [] mem b = refl
+  close-front n k m h (c ∷ cs) mem b =
+      let end = b .0 in
+      let l : ℕ = c .width * m in
+      let bs : List ℕ = read mem (off c (k + 1)) l in
+      let wide = mul-le-mul-left (c .width) h in
+      let sum : c .width * (k + 1 + m) ≡ c .width * k + c .width * 1 + c .width * m = mul-add (c .width) (k + 1) m ∙ ap (λ (x : ℕ). x + c .width * m) (mul-add (c .width) k 1) in
+      let next = mul-add (c .width) k 1 in
+      let size = length-read mem (off c (k + 1)) l in
+      ap (λ (r : List ℕ). closeUp cs (write (mem ++ rest) (off c k) r) k m) (read-front mem (off c (k + 1)) l (omega arith))
+      ∙ ap (λ (x : List ℕ). closeUp cs x k m) (write-front mem (off c k) bs (omega arith))
+      ∙ close-front n k m h cs (write mem (off c k) bs) (subst (λ (e : ℕ). Beneath n cs e) (sym (length-write mem (off c k) bs)) (b .1))
+
+  -- ---- the instance
+
+  module _ (mem : List ℕ) (long : 8192 ≤ length mem) where
+    pub header-front : (k : ℕ) (xs : List (List ℕ)) → Fit header (fromPlace k xs) → Leaves (putHeader k xs) mem rest
+    unfolding putHeader
+    header-front k xs f = put-front 1 header (fromPlace k xs) mem 0 (omega arith) (omega arith) f
+
+    pub slot-front : (k : ℕ) (held : Bool) (tag : ℕ) → k < 256 → Leaves (setSlot k held tag) mem rest
+    unfolding setSlot
+    slot-front k held tag h =
+        put-front 256 slotTable (bytesOf 1 (heldByte held) ∷ bytesOf 4 tag ∷ []) mem k h (omega arith) (omega (arith, length-bytesOf 1 (heldByte held), length-bytesOf 4 tag))
+
+    head-front : headOf (mem ++ rest) ≡ headOf mem
+    head-front = row-front 1 header mem 0 (omega arith) (omega arith)
+
+    slots-front : slotsOf (mem ++ rest) ≡ slotsOf mem
+    unfolding slotsOf slotAt
+    slots-front = tab-same _ _ 0 256 (λ j a b. ap slotFrom (row-front 256 slotTable mem j b (omega arith)))
+
+  module _ (mem : List ℕ) (d : Laid mem) where
+    abbrev n : ℕ
+    n = capacityOf mem
+
+    abbrev c : ℕ
+    c = countOf mem
+
+    long : 8192 ≤ length mem
+    long = omega (arith, d .long)
+
+    beneath : Beneath n (nodeTable n) (length mem)
+    beneath = omega (arith, d .long)
+
+    capacity-front : capacityOf (mem ++ rest) ≡ n
+    unfolding row get
+    capacity-front = ap (λ (h : List (List ℕ)). field 1 h) (head-front mem long)
+
+    count-front : countOf (mem ++ rest) ≡ c
+    unfolding row get
+    count-front = ap (λ (h : List (List ℕ)). field 2 h) (head-front mem long)
+
+    next-front : nextOf (mem ++ rest) ≡ nextOf mem
+    unfolding row get
+    next-front = ap (λ (h : List (List ℕ)). field 3 h) (head-front mem long)
+
+    nodes-front : nodesFrom n (mem ++ rest) 0 c ≡ nodesFrom n mem 0 c
+    unfolding nodesFrom nodeAt
+    nodes-front = tab-same _ _ 0 c (λ j a b. ap nodeFrom (row-front n (nodeTable n) mem j (omega (arith, d .live)) beneath))
+
+    pub view-front : view (mem ++ rest) ≡ view mem
+    unfolding view nodesOf row get
+    view-front =
+        let h = head-front mem long in
+        let nodes : nodesFrom (field 1 (headOf (mem ++ rest))) (mem ++ rest) 0 (field 2 (headOf (mem ++ rest))) ≡ nodesFrom (field 1 (headOf mem)) mem 0 (field 2 (headOf mem)) =
+        (λ t. nodesFrom (field 1 (h t)) (mem ++ rest) 0 (field 2 (h t))) ∙ nodes-front in
+        λ t. instanceFrom (h t) (slots-front mem long t) (nodes t)
+
+    pub row-mount-front : (m : Option Mount) (i : ℕ) → i < c → Leaves (setRowMount m i) mem rest
+    unfolding setRowMount
+    row-mount-front m i h =
+        ap (λ (k : ℕ). putRow (nodeTable k) (rowMountCells m) (mem ++ rest) i) capacity-front
+        ∙ put-front n (nodeTable n) (rowMountCells m) mem i (omega (arith, d .live)) beneath (mount-fit m n)
+
+    pub append-front : (above : ℕ) (p : List ℕ) → length p ≤ 255 → Leaves (appendNode above p) mem rest
+    unfolding appendNode
+    append-front above p l =
+        let x : ℕ = nextOf mem in
+        let cells = nodeCells x above p in
+        let m′ = putRow (nodeTable n) cells mem c in
+        let size : length m′ ≡ length mem = length-putRow (nodeTable n) cells mem c in
+        (λ t. setNext (next-front t + 1) (setCount (count-front t + 1) (putRow (nodeTable (capacity-front t)) (nodeCells (next-front t) above p) (mem ++ rest) (count-front t))))
+        ∙ ap (λ (m : List ℕ). setNext (x + 1) (setCount (c + 1) m)) (put-front n (nodeTable n) cells mem c (d .live) beneath (cells-fit n x above p l))
+        ∙ two-fields (c + 1) (x + 1) (m′ ++ rest)
+        ∙ header-front m′ (omega (arith, d .long)) 2 (bytesOf 8 (c + 1) ∷ bytesOf 8 (x + 1) ∷ []) (fields-fit (c + 1) (x + 1))
+        ∙ ap (λ (m : List ℕ). m ++ rest) (sym (two-fields (c + 1) (x + 1) m′))
+
+    pub remove-front : (i : ℕ) → i < c → Leaves (removeRow i) mem rest
+    unfolding removeRow setCount
+    remove-front i h =
+        let m′ = closeUp (nodeTable n) mem i (c - 1 - i) in
+        let size : length m′ ≡ length mem = length-closeUp (nodeTable n) mem i (c - 1 - i) in
+        (λ t. setCount (count-front t - 1) (closeUp (nodeTable (capacity-front t)) (mem ++ rest) i (count-front t - 1 - i)))
+        ∙ ap (setCount (c - 1)) (close-front n i (c - 1 - i) (omega (arith, d .live)) (nodeTable n) mem beneath)
+        ∙ header-front m′ (omega (arith, d .long)) 2 (bytesOf 8 (c - 1) ∷ []) (one-fit (c - 1))
+
+  pub laid-front : (mem : List ℕ) → laid mem ≡ true → laid (mem ++ rest) ≡ true
+  unfolding laid
+  laid-front mem e =
+      let d = laid-is mem e in
+      let r = ruled (headOf mem) (length mem) (open-laid mem e) in
+      let more : length (mem ++ rest) ≡ length mem + length rest = length-append mem rest in
+      ap (λ (h : List (List ℕ)). laidBy h (length (mem ++ rest))) (head-front mem (omega (arith, d .long)))
+      ∙ is-ruled (headOf mem) (length (mem ++ rest)) (record {
+        size = record {
+          long = omega (arith, r .size .long);
+          marked = r .size .marked;
+          some-node = r .size .some-node;
+          few-nodes = r .size .few-nodes;
+          enough = omega (arith, r .size .enough);
+        };
+        live = r .live;
+        low = r .low;
+        top = r .top;
+        bits = r .bits;
+        flags = r .flags;
+        maps = r .maps;
+      })
+
+-- the bytes that an instance needs
+pub first-laid : (s : List ℕ) → laid s ≡ true → laid (take (storageFor (capacityOf s)) s) ≡ true
+unfolding laid row get
+first-laid s e =
+    let r = ruled (headOf s) (length s) (open-laid s e) in
+    let n : ℕ = capacityOf s in
+    let size : length (take (storageFor n) s) ≡ 512 * n + 8192 = length-take-le (storageFor n) s (r .size .enough) in
+    let head : headOf (take (storageFor n) s) ≡ headOf s =
+    sym (head-front (drop (storageFor n) s) (take (storageFor n) s) (omega arith)) ∙ ap headOf (take-append-drop (storageFor n) s) in
+    ap (λ (h : List (List ℕ)). laidBy h (length (take (storageFor n) s))) head
+    ∙ is-ruled (headOf s) (length (take (storageFor n) s)) (record {
+      size = record { long = omega arith; marked = r .size .marked; some-node = r .size .some-node; few-nodes = r .size .few-nodes; enough = omega arith };
+      live = r .live;
+      low = r .low;
+      top = r .top;
+      bits = r .bits;
+      flags = r .flags;
+      maps = r .maps;
+    })
