@@ -9,7 +9,7 @@ use lib.ListN.{length, length-append}
 use Rattle.rules.specs.Round.{after, goingRound}
 use Rattle.rules.specs.Instance.{Instance, counterOf}
 use Rattle.rules.specs.Calls.{Call, rule}
-use Rattle.rules.specs.Trace.{NoRestore, Unrestored, afterAll, visitsOf, total, lastFound, Met, EveryRun, EveryLap}
+use Rattle.rules.specs.Trace.{NoRestore, Unrestored, afterAll, visitsOf, total, lastFound, Met, EveryRun, EveryLap, EveryRestart}
 use Rattle.rules.proofs.Tests.{le-or-lt}
 use Rattle.rules.proofs.Round.{round-append}
 use Rattle.rules.proofs.Turn.{turn, found-no-restore}
@@ -66,17 +66,33 @@ run-meets (c ∷ cs) i d j h u l e p =
     inr (run-meets cs (rule i c .after) (d - n) j (low i h c (u .0)) (u .1) (omega arith) (omega (arith, t .moved)) p))
     (λ (g : d < n). inl (rw e (t .sees d g (omega arith)))) (le-or-lt n d)
 
--- the theorem: after a call that handed k out, calls up to one that hands k out again
-pub laps : EveryLap
-laps i h c k first cs u last =
-    let j = rule i c .after in
+-- the theorem: after a call that handed k out, calls, and then calls on another instance with the counter carried over, up to one that hands k out again
+pub laps-over : EveryRestart
+laps-over i h c k first cs u j same ds w last =
+    let a = rule i c .after in
     let v = found-no-restore i c k first in
-    let here : counterOf j ≡ after k = turn i h c v .ended-at k first in
+    let here : counterOf a ≡ after k = turn i h c v .ended-at k first in
+    let there = goes-round cs a (low i h c v) u in
     let none-yet : none ≡ some k → ⊥ = λ e. let z : _≡_ {A = ℕ} 0 1 = cc in omega arith in
-    let again : (counterOf j + total j cs) % 256 ≡ after k = run-ends cs j k none (low i h c v) u (λ e. absurd (none-yet e)) last in
-    let positive : 0 < total j cs = run-counts cs j k none (low i h c v) u none-yet last in
+    let moved : counterOf j ≡ (counterOf a + total a cs) % 256 = omega (arith, there .moved, there .summed) in
+    let again : (counterOf j + total j ds) % 256 ≡ after k = run-ends ds j k none (omega arith) w (λ e. absurd (none-yet e)) last in
+    let more : 0 < total j ds = run-counts ds j k none (omega arith) w none-yet last in
     record {
-      positive = positive;
+      positive = omega arith;
       whole = omega arith;
-      fair = λ x p q. run-meets cs j ((x + 256 - counterOf j) % 256) x (low i h c v) u (omega arith) (omega (arith, low i h c v)) p;
+      fair = λ x p q.
+          let d = (x + 256 - counterOf a) % 256 in
+          ⊎-elim (λ (g : total a cs ≤ d). inr (run-meets ds j (d - total a cs) x (omega arith) w (omega arith) (omega (arith, low i h c v)) p))
+          (λ (g : d < total a cs). inl (run-meets cs a d x (low i h c v) u g (omega (arith, low i h c v)) p)) (le-or-lt (total a cs) d);
+    }
+
+-- the theorem: the same on one instance
+pub laps : EveryLap
+unfolding total afterAll Unrestored Met
+laps i h c k first cs u last =
+    let o = laps-over i h c k first [] tt (rule i c .after) refl cs u last in
+    record {
+      positive = omega (arith, o .positive);
+      whole = omega (arith, o .whole);
+      fair = λ x p q. ⊎-elim (λ (z : ⊥). absurd z) (λ m. m) (o .fair x p q);
     }

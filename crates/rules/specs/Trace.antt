@@ -92,3 +92,16 @@ EveryRun = (cs : List Call) (i : Instance) → counterOf i < 256 → Unrestored 
 abbrev pub EveryLap : Type 0
 EveryLap = (i : Instance) → counterOf i < 256 → (c : Call) (k : ℕ) → rule i c .found ≡ some k
     → (cs : List Call) → Unrestored (rule i c .after) cs → lastFound none (rule i c .after) cs ≡ some k → Laps (rule i c .after) cs
+
+-- of calls on an instance, and then of calls on another: the sum (R87), and every other index (R88)
+pub record LapsOver (i : Instance) (cs : List Call) (j : Instance) (ds : List Call) : Type 0 where
+  pub positive : 0 < total i cs + total j ds
+  pub whole : (total i cs + total j ds) % 256 ≡ 0
+  pub fair : (x : ℕ) → 0 < x → x < 256 → Met x i cs ⊎ Met x j ds
+
+-- a call handed k out; after more calls the counter is carried over to another instance, as a save and a restore do, and there the last of the calls hands k out
+-- again (R87, R88, R135)
+abbrev pub EveryRestart : Type 0
+EveryRestart = (i : Instance) → counterOf i < 256 → (c : Call) (k : ℕ) → rule i c .found ≡ some k → (cs : List Call) → Unrestored (rule i c .after) cs
+    → (j : Instance) → counterOf j ≡ counterOf (afterAll (rule i c .after) cs) → (ds : List Call) → Unrestored j ds → lastFound none j ds ≡ some k
+    → LapsOver (rule i c .after) cs j ds
