@@ -23,9 +23,6 @@ pub enum Planned {
     NoRoom,
 }
 
-// Node numbers are below this (R5).
-const NUMBERS: u64 = 0x0100_0000_0000_0000;
-
 // A number of a column: as an answer it is known to have 64 bits.
 fn word(x: u64) -> u64
     ensures { λ r. ⌜ r ≡ x ⌝ }
@@ -53,7 +50,7 @@ pub fn room(s: &[u8]) -> usize
     ensures { λ r. ⌜ r ≡ roomOf (now (s .entry)) ⌝ }
 {
     let nodes = tables::header::capacity(s) - 1 - tables::header::count(s);
-    let numbers = NUMBERS - tables::header::next(s);
+    let numbers = rules::NUMBERS - tables::header::next(s);
     if numbers < nodes as u64 {
         return numbers as usize;
     }

@@ -3,6 +3,8 @@ pub mod codes;
 
 pub const VFS_MAX_INO: u64 = 72057594037927935;
 
+pub const NUMBERS: u64 = VFS_MAX_INO + 1;
+
 pub const ROOT_ID: u64 = 1;
 
 pub const FIRST_NODE: u64 = 2;

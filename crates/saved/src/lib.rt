@@ -33,7 +33,7 @@ fn is_framed(b: &[u8]) -> bool
     if next < 2 {
         return false;
     }
-    next <= 72057594037927936
+    next <= rules::NUMBERS
 }
 
 // Whether a name has 1 to 255 bytes, no slash, is not `.` or `..`, and is UTF-8 (R129).

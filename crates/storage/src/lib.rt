@@ -56,12 +56,6 @@ const MARK: u64 = 5927113483044536647;
 // What every storage has before its node table: header, slots and free bytes (R20).
 const HEADER: usize = 8192;
 
-// The largest N (R9).
-const MAX_NODES: u64 = 1024;
-
-// The largest that the next number may become (R22, R67).
-const TOP: u64 = 0x0100_0000_0000_0000;
-
 // The flags are below this (R29, R122).
 const FLAGS: u8 = 64;
 
@@ -95,7 +89,7 @@ pub fn is_laid(s: &[u8]) -> bool
     if n < 1 {
         return false;
     }
-    if MAX_NODES < n {
+    if (rules::MAX_NODES as u64) < n {
         return false;
     }
     if (s.len() as u64) < 512 * n + 8192 {
@@ -108,7 +102,7 @@ pub fn is_laid(s: &[u8]) -> bool
     if next < 2 {
         return false;
     }
-    if TOP < next {
+    if rules::NUMBERS < next {
         return false;
     }
     let known = le::fields::get_u64(s, 32);

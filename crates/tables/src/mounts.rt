@@ -25,20 +25,17 @@ pub enum MountOn {
     Nothing,
 }
 
-// A mount cell is the index times this, and the root number (R5).
-const NUMBERS: u64 = 0x0100_0000_0000_0000;
-
-// The mount that a cell and its ids spell: index 0 is none.
+// The mount that a cell and its ids spell: the cell is the index times 2^56, and the root number; index 0 is none (R5).
 fn spelt(word: u64, uid: u32, gid: u32, mode: u32) -> MountOn
     ensures { λ r. ⌜ mountIn r ≡ mountFromWord word uid gid mode ⌝ }
 {
-    let index = word / NUMBERS;
+    let index = word / rules::NUMBERS;
     if index == 0 {
         return MountOn::Nothing;
     }
     MountOn::Point(MountPoint {
         fs_idx: index as u8,
-        ino: word % NUMBERS,
+        ino: word % rules::NUMBERS,
         uid,
         gid,
         mode,
@@ -126,7 +123,7 @@ fn put_root(s: &mut [u8], m: MountPoint)
     requires { ⌜ m .ino < 2 ^ 56 ⌝ }
     ensures { λ _. ⌜ now (s .exit) ≡ setRootMount (some (mountOfPoint m)) (now (s .entry)) ⌝ }
 {
-    let word = (m.fs_idx as u64) * NUMBERS + m.ino;
+    let word = (m.fs_idx as u64) * rules::NUMBERS + m.ino;
     le::fields::put_u64(s, 88, word);
     le::fields::put_u32(s, 96, m.uid);
     le::fields::put_u32(s, 100, m.gid);
@@ -141,7 +138,7 @@ fn put_row(s: &mut [u8], i: usize, m: MountPoint)
     ensures { λ _. ⌜ now (s .exit) ≡ setRowMount (some (mountOfPoint m)) i (now (s .entry)) ⌝ }
 {
     let n = crate::header::capacity(s);
-    let word = (m.fs_idx as u64) * NUMBERS + m.ino;
+    let word = (m.fs_idx as u64) * rules::NUMBERS + m.ino;
     le::fields::put_u64(s, crate::rows::TABLE + 16 * n + 8 * i, word);
     le::fields::put_u32(s, crate::rows::TABLE + 32 * n + 4 * i, m.uid);
     le::fields::put_u32(s, crate::rows::TABLE + 36 * n + 4 * i, m.gid);

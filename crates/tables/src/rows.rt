@@ -30,11 +30,8 @@ pub enum Row {
 // Where the node table begins (docs/LAYOUT.md).
 pub const TABLE: usize = 8192;
 
-// Node numbers are read modulo this (R5).
-const NUMBERS: u64 = 0x0100_0000_0000_0000;
-
 // The bits of a cell that a node number is read from (R5).
-const NUMBER_BITS: u64 = 0x00ff_ffff_ffff_ffff;
+const NUMBER_BITS: u64 = rules::VFS_MAX_INO;
 
 // The number of row i (R5).
 pub fn number(s: &[u8], i: usize) -> u64
@@ -42,7 +39,7 @@ pub fn number(s: &[u8], i: usize) -> u64
     requires { ⌜ i < countOf (now s) ⌝ }
     ensures { λ r. ⌜ r ≡ nodeAt (capacityOf (now (s .entry))) (now (s .entry)) i .number ⌝ }
 {
-    le::fields::get_u64(s, TABLE + 8 * i) % NUMBERS
+    le::fields::get_u64(s, TABLE + 8 * i) % rules::NUMBERS
 }
 
 // The parent's number of row i (R5).
@@ -52,7 +49,7 @@ pub fn parent(s: &[u8], i: usize) -> u64
     ensures { λ r. ⌜ r ≡ nodeAt (capacityOf (now (s .entry))) (now (s .entry)) i .above ⌝ }
 {
     let n = crate::header::capacity(s);
-    le::fields::get_u64(s, TABLE + 8 * n + 8 * i) % NUMBERS
+    le::fields::get_u64(s, TABLE + 8 * n + 8 * i) % rules::NUMBERS
 }
 
 // The first row from `from` on whose name's cell is that of the key; the count where there is none. Rows of that name are among them (R45).
