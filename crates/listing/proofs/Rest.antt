@@ -11,7 +11,7 @@ use Rattle.rules.specs.Listing.{dirent, direntsFrom}
 use Rattle.tables.specs.Layout.{capacityOf, countOf}
 use Rattle.tables.specs.View.{nodeAt, nodesOf}
 use Rattle.tables.proofs.Tab.{tab-next, tab-done}
-use Rattle.tables.proofs.Find.{nodes-of, left}
+use Rattle.tables.proofs.Find.{left, none-looked}
 use Rattle.dirent.specs.Lays.{Lays}
 use Rattle.dirent.proofs.Records.{entry-some}
 use Rattle.dirent.proofs.Fills.{back, Wrote, Going, going-start, going-done, went, stopped}
@@ -60,7 +60,7 @@ module _ (mem : List ℕ) (x c : ℕ) where
   children i = childrenIn (left mem c i) x
 
   all-left : c ≡ countOf mem → children 0 ≡ childrenIn (nodesOf mem) x
-  all-left e = sym (ap (λ (ns : List Node). childrenIn ns x) (nodes-of mem ∙ rw (sub-zero, e)))
+  all-left e = sym (ap (λ (ns : List Node). childrenIn ns x) (none-looked mem c e))
 
   child-next : (i : ℕ) → i < c → node i .above ≡ x → children i ≡ node i ∷ children (i + 1)
   unfolding childrenIn

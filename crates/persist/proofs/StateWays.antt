@@ -25,9 +25,8 @@ use Rattle.tables.specs.Layout.{capacityOf, countOf}
 use Rattle.tables.specs.View.{view}
 use Rattle.tables.specs.Rule.{laid, Laid}
 use Rattle.tables.specs.Call.{toldBy, Does}
-use Rattle.tables.proofs.Keeps.{laid-is}
+use Rattle.tables.proofs.Keeps.{laid-long, laid-is}
 use Rattle.tables.proofs.Places.{nodes-count}
-use Rattle.storage.proofs.Answers.{long}
 use Rattle.storage.proofs.Calls.{does-small, does-nothing, does}
 use Rattle.saved.proofs.Accepted.{accepted-long}
 use Rattle.restore_parts.specs.Parts.{loadNodes, stateMem}
@@ -79,7 +78,7 @@ module _ (mem b : List ℕ) (k : laid mem ≡ true) (f : fresh (view mem) ≡ tr
         let w = fits b bytes a in
         let root = bare-root mem f in
         let nodes = bare-nodes mem f in
-        view-state (s .next) (s .counter) (s .options) m′ (w .options) (next-top b a) (w .counter) (omega (arith, all .long, long mem k))
+        view-state (s .next) (s .counter) (s .options) m′ (w .options) (next-top b a) (w .counter) (omega (arith, all .long, laid-long mem k))
         ∙ ap (become (s .next) (s .counter) (s .options)) (all .stands 0)
         ∙ (λ t. become (s .next) (s .counter) (s .options) (record {
           fixed = view mem .fixed;
@@ -114,7 +113,7 @@ module _ (mem : List ℕ) (l : Bool) (le : l ≡ laid mem) (on : not l ≡ false
   rule-by = laid-is mem laid-by
 
   pub bytes-by : 8192 ≤ length mem
-  bytes-by = long mem laid-by
+  bytes-by = laid-long mem laid-by
 
 module _ (mem b : List ℕ) where
   abbrev F : Instance → Outcome

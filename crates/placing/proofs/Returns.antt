@@ -9,7 +9,8 @@ use borrow.Author.Tests.{not-true, not-false, eq-eqb, ne-eqb}
 use Rattle.rules.specs.Numbers.{rootNumber}
 use Rattle.rules.specs.Tree.{Mount, Node, mountAt, withMount}
 use Rattle.rules.specs.Instance.{Tree, Instance, tagIn as tagInSlot, tagOf, mountOf, setMount}
-use Rattle.rules.specs.Mount.{freed, tagAt}
+use Rattle.rules.specs.Mount.{tagAt}
+use Rattle.rules.proofs.Held.{freed-tree}
 use Rattle.tables.specs.View.{flag, headOf, slotAt, nodesOf, view}
 use Rattle.tables.specs.Rule.{laid}
 use Rattle.tables.specs.Write.{setSlot, removeRow}
@@ -24,8 +25,8 @@ use Rattle.placing.specs.Place.{freedMem, placeMem, outMem, takeOffMem, 
 use Rattle.tables.specs.Layout.{countOf}
 use Rattle.tables.specs.declared.rows.Row.{Row}
 use Rattle.tables.specs.declared.rows.Row.the-variants.{At, Nothing as RowNothing}
-use Rattle.tables.proofs.ByPlace.{row-below, row-else}
-use Rattle.tables.proofs.Places.{view-mount}
+use Rattle.tables.proofs.ByPlace.{row-else}
+use Rattle.tables.proofs.Places.{row-below, view-mount}
 use Rattle.tables.proofs.Keeps.{laid-is, keeps-mount}
 use Rattle.placing.proofs.Stands.{tag-of-is, view-freed, keeps-freed}
 
@@ -84,16 +85,11 @@ place-set t x m y = go (eqb x rootNumber)
     go true = refl
     go false = place-mounted m (t .nodes) x y
 
-freed-nodes : (m : Option Mount) (i : Instance) → freed m i .tree .nodes ≡ i .tree .nodes
-unfolding freed
-freed-nodes none i = refl
-freed-nodes (some m) i = refl
-
 pub row-freed : (mem m₁ : List ℕ) (old : MountOn) (r : Tag) → laid mem ≡ true → Frees mem old r m₁ → (x : ℕ) (w : Row) → RowOf mem x w → RowOf m₁ x w
 unfolding view rowFor
 row-freed mem m₁ old r e f x w p =
-    let v : nodesOf m₁ ≡ nodesOf mem = (λ i. (ap view (f .bytes) ∙ view-freed mem e (mountIn old) (f .within)) i .tree .nodes) ∙ freed-nodes (mountIn old) (view mem) in
-    p ∙ sym (ap (λ (ns : List Node). rowFor ns x) v)
+    let v : view m₁ .tree ≡ view mem .tree = (λ i. (ap view (f .bytes) ∙ view-freed mem e (mountIn old) (f .within)) i .tree) ∙ freed-tree (mountIn old) (view mem) in
+    p ∙ sym (ap (λ (t : Tree). rowFor (t .nodes) x) v)
 
 pub row-mounted : (mem m₁ : List ℕ) (x : ℕ) → laid mem ≡ true → m₁ ≡ mountMem (nodesOf mem) none x mem → (w : Row) → RowOf mem x w → RowOf m₁ x w
 unfolding view rowFor

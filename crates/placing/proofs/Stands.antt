@@ -3,10 +3,9 @@ use mathlib.Core.Path.{_≡_, refl, sym, ap, _∙_}
 use mathlib.Core.Bool.{Bool, true, false, cond, not, _&&_}
 use mathlib.Core.List.{List}
 use mathlib.Core.Option.{Option, none, some}
-use Prim.Native.Nat.{ℕ, _^_, _≤_, _<_}
+use Prim.Native.Nat.{ℕ, _^_, _<_}
 use native.Mathlib.Nat.{zero-add}
 use native.Mathlib.Omega.{arith}
-use lib.ListN.{length}
 use lib.Dec.{eqb}
 use Rattle.rules.specs.Numbers.{rootNumber}
 use Rattle.rules.specs.Tree.{Mount}
@@ -20,12 +19,8 @@ use Rattle.tables.proofs.Tab.{tab-at}
 use Rattle.tables.proofs.Spells.{MountFits}
 use Rattle.tables.proofs.Refine.{view-slot}
 use Rattle.tables.proofs.Places.{view-mount, view-gone}
-use Rattle.tables.proofs.Keeps.{ruled, laid-is, open-laid, keeps-slot, keeps-mount, keeps-gone}
+use Rattle.tables.proofs.Keeps.{laid-long, laid-is, keeps-slot, keeps-mount, keeps-gone}
 use Rattle.placing.specs.Place.{freedMem, placeMem, outMem, takeOffMem, InSlots}
-
--- the bytes of a laid memory are enough for the header and the slots
-pub long : (mem : List ℕ) → laid mem ≡ true → 8192 ≤ length mem
-long mem e = ruled (headOf mem) (length mem) (open-laid mem e) .size .long
 
 -- slot k of the view is slot k of the memory
 pub slot-of : (mem : List ℕ) (k : ℕ) → k < 256 → slotOf (view mem) k ≡ slotAt mem k
@@ -39,7 +34,7 @@ module _ (mem : List ℕ) (e : laid mem ≡ true) where
   pub view-freed : (m : Option Mount) → InSlots m → view (freedMem m mem) ≡ freed m (view mem)
   unfolding freedMem freed
   view-freed none h = refl
-  view-freed (some m) h = view-slot (m .index) h false 0 mem (omega arith) (long mem e)
+  view-freed (some m) h = view-slot (m .index) h false 0 mem (omega arith) (laid-long mem e)
 
   pub keeps-freed : (m : Option Mount) → InSlots m → laid (freedMem m mem) ≡ true
   unfolding freedMem
@@ -66,7 +61,7 @@ module _ (mem : List ℕ) (e : laid mem ≡ true) where
     pub view-placed : view (placeMem (mountOn k r) (r .tag) x mem) ≡ placed k r x (view mem)
     unfolding placeMem placed
     view-placed =
-        view-slot k (omega (arith, f .few)) true (r .tag) m₂ t (long m₂ keeps₂)
+        view-slot k (omega (arith, f .few)) true (r .tag) m₂ t (laid-long m₂ keeps₂)
         ∙ ap (withSlot k (heldBy (r .tag)))
         (view-mount m₁ (laid-is m₁ keeps₁) x (some (mountOn k r)) f ∙ ap (λ (i : Instance). withTree (setMount (i .tree) x (some (mountOn k r))) i) (view-freed old h))
 
@@ -106,7 +101,7 @@ module _ (x : ℕ) (m : Mount) (mem : List ℕ) (e : laid mem ≡ true) (h : m .
       let v : view c₁ ≡ withTree (setMount (view mem .tree) x none) (view mem) = view-mount mem (laid-is mem e) x none tt in
       let o : view (outMem x c₁) ≡ withTree (cond (view mem .removal && not (eqb x rootNumber)) (cut x (setMount (view mem .tree) x none)) (setMount (view mem .tree) x none)) (view mem) =
       view-out x c₁ cleared ∙ (ap (λ (i : Instance). cond (i .removal && not (eqb x rootNumber)) (withTree (cut x (i .tree)) i) i) v ∙ go (view mem .removal && not (eqb x rootNumber))) in
-      view-slot (m .index) h false 0 (outMem x c₁) (omega arith) (long (outMem x c₁) (keeps-out x c₁ cleared)) ∙ ap (withSlot (m .index) emptySlot) o
+      view-slot (m .index) h false 0 (outMem x c₁) (omega arith) (laid-long (outMem x c₁) (keeps-out x c₁ cleared)) ∙ ap (withSlot (m .index) emptySlot) o
     where
       t : Tree
       t = setMount (view mem .tree) x none

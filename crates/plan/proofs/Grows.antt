@@ -9,18 +9,16 @@ use lib.ListN.{length, getD}
 use Rattle.rules.specs.Tree.{Node}
 use Rattle.rules.specs.Instance.{Instance, withTree, grown}
 use Rattle.path.specs.Steps.{part}
-use Rattle.le.specs.Mem.{bytesOf, get}
-use Rattle.tables.specs.Table.{row, putRow, over}
-use Rattle.tables.specs.Layout.{nodeTable, header, capacityOf, countOf, nextOf}
-use Rattle.tables.specs.View.{field, headOf, view}
+use Rattle.le.specs.Mem.{get}
+use Rattle.tables.specs.Table.{row, over}
+use Rattle.tables.specs.Layout.{capacityOf, countOf, nextOf}
+use Rattle.tables.specs.View.{field, view}
 use Rattle.tables.specs.Rule.{Laid, laid}
-use Rattle.tables.specs.Write.{fromPlace, putHeader, setCount, setNext, nodeCells, appendNode}
+use Rattle.tables.specs.Write.{appendNode}
 use Rattle.tables.proofs.Tab.{tab-next, tab-done}
-use Rattle.tables.proofs.Table.{length-putRow, put-below}
 use Rattle.tables.proofs.Spells.{whole}
-use Rattle.tables.proofs.Heads.{nodes-above, head-low, two-fields, fields-fit}
-use Rattle.tables.proofs.Refine.{view-append}
-use Rattle.tables.proofs.Keeps.{laid-is, keeps-append}
+use Rattle.tables.proofs.Refine.{head-append, view-append}
+use Rattle.tables.proofs.Keeps.{laid-is, length-append, keeps-append}
 use Rattle.plan.specs.Plan.{Columns, plannedAt, plannedFrom}
 use Rattle.plan.specs.Apply.{appendAll}
 use Rattle.plan.proofs.Fresh.{Fresh}
@@ -31,37 +29,23 @@ module _ (mem : List ℕ) (d : Laid mem) (above : ℕ) (p : List ℕ) where
   abbrev after : List ℕ
   after = appendNode above p mem
 
-  append-head : headOf after ≡ over header (fromPlace 2 (bytesOf 8 (countOf mem + 1) ∷ bytesOf 8 (nextOf mem + 1) ∷ [])) mem 0
-  unfolding appendNode
-  append-head =
-      let n = capacityOf mem in
-      let cells = nodeCells (nextOf mem) above p in
-      let m′ = putRow (nodeTable n) cells mem (countOf mem) in
-      ap headOf (two-fields (countOf mem + 1) (nextOf mem + 1) m′)
-      ∙ head-low 2 _ m′ mem (fields-fit (countOf mem + 1) (nextOf mem + 1)) (λ q w h. put-below (nodeTable n) cells mem (countOf mem) 8192 q w (nodes-above n 8192 (omega arith)) h)
-      (omega (arith, length-putRow (nodeTable n) cells mem (countOf mem), d .long))
-
   append-capacity : capacityOf after ≡ capacityOf mem
   unfolding over row get
-  append-capacity = ap (λ (h : List (List ℕ)). field 1 h) append-head
+  append-capacity = ap (λ (h : List (List ℕ)). field 1 h) (head-append mem d above p)
 
   append-count : countOf after ≡ countOf mem + 1
   unfolding over row get
-  append-count = ap (λ (h : List (List ℕ)). field 2 h) append-head ∙ whole 8 (countOf mem + 1) mem _ (omega (arith, d .live, d .few-nodes))
+  append-count = ap (λ (h : List (List ℕ)). field 2 h) (head-append mem d above p) ∙ whole 8 (countOf mem + 1) mem _ (omega (arith, d .live, d .few-nodes))
 
   append-next : nextOf after ≡ nextOf mem + 1
   unfolding over row get
-  append-next = ap (λ (h : List (List ℕ)). field 3 h) append-head ∙ whole 8 (nextOf mem + 1) mem _ (omega (arith, d .top))
-
-  append-length : length after ≡ length mem
-  unfolding appendNode setNext setCount putHeader
-  append-length = simp length-putRow
+  append-next = ap (λ (h : List (List ℕ)). field 3 h) (head-append mem d above p) ∙ whole 8 (nextOf mem + 1) mem _ (omega (arith, d .top))
 
   append-laid : countOf mem + 1 < capacityOf mem → nextOf mem < 2 ^ 56 → Laid after
   append-laid room top = record {
     some-node = omega (arith, append-capacity, d .some-node);
     few-nodes = omega (arith, append-capacity, d .few-nodes);
-    long = omega (arith, append-capacity, append-length, d .long);
+    long = omega (arith, append-capacity, length-append above p mem, d .long);
     live = omega (arith, append-capacity, append-count);
     low = omega (arith, append-next, d .low);
     top = omega (arith, append-next);
@@ -120,7 +104,7 @@ module _ (s₀ path : List ℕ) (t : Columns) (count : ℕ) where
         rw e
         (record {
           so-far = omega arith;
-          long = append-length s (w .laid) a p ∙ w .long;
+          long = length-append a p s ∙ w .long;
           laid = append-laid s (w .laid) a p (omega (arith, w .live, w .capacity)) (omega (arith, w .numbers));
           capacity = append-capacity s (w .laid) a p ∙ w .capacity;
           live = omega (arith, append-count s (w .laid) a p, w .live);

@@ -18,7 +18,7 @@ use Rattle.tables.specs.Table.{row}
 use Rattle.tables.specs.Layout.{capacityOf, countOf, nextOf}
 use Rattle.tables.specs.View.{nodesOf, view}
 use Rattle.tables.specs.Rule.{Laid}
-use Rattle.tables.proofs.Places.{nodes-count}
+use Rattle.tables.proofs.Places.{view-nodes, nodes-count}
 use Rattle.plan.specs.Plan.{roomOf, fitting}
 
 -- ---- the instance's numbers
@@ -32,12 +32,8 @@ module _ (mem : List ℕ) where
   unfolding view row get
   view-capacity = refl
 
-  pub view-nodes : view mem .tree .nodes ≡ nodesOf mem
-  unfolding view
-  view-nodes = refl
-
   pub view-count : length (view mem .tree .nodes) ≡ countOf mem
-  view-count = ap length view-nodes ∙ nodes-count mem
+  view-count = ap length (view-nodes mem) ∙ nodes-count mem
 
   -- what the rules plan, over the rows
   pub planned-is : (path : List ℕ) → planned (view mem .tree) path ≡ makes (nodesOf mem) (nextOf mem) atRoot (components 0 path)

@@ -5,7 +5,6 @@ use mathlib.Core.List.{List}
 use mathlib.Core.Option.{none}
 use Prim.Native.Nat.{ℕ, _^_, _<_}
 use native.Mathlib.Omega.{arith}
-use lib.ListN.{length}
 use borrow.Author.Tests.{le-ltb}
 use Rattle.rules.specs.Numbers.{maxIno, convert, dirMode, blockSize}
 use Rattle.rules.specs.Utf8.{wellFormed}
@@ -19,7 +18,7 @@ use Rattle.rules.proofs.Ids.{wrapped-is-whole}
 use Rattle.tables.specs.View.{mappingFrom, headOf, nodesOf, view}
 use Rattle.tables.specs.Rule.{laid}
 use Rattle.tables.specs.Call.{Told, toldBy, answeredBy}
-use Rattle.tables.proofs.Keeps.{ruled}
+use Rattle.tables.proofs.Keeps.{laid-ruled}
 use Rattle.inode.specs.Converted.{fullOf, Converts}
 use Rattle.inode.specs.declared.NodeNumber.{NodeNumber}
 use Rattle.inode.specs.declared.VfsInode.{VfsInode}
@@ -144,8 +143,7 @@ pseudo-made m k x id v a b c = rw (c, b, a)
 module _ (mem : List ℕ) (e : laid mem ≡ true) where
   -- the mapping in force passes its test
   pub good-mapping : badMapping (mappingFrom 7 (headOf mem)) ≡ false
-  unfolding laid
-  good-mapping = ruled (headOf mem) (length mem) e .maps
+  good-mapping = laid-ruled mem e .maps
 
   -- the theorem: of a node's number it is the rules' entry
   pub pseudo-is : (y : ℕ) → y < 2 ^ 56 → says (pseudoAnswer (mappingFrom 7 (headOf mem)) y) (view mem) ≡ entryOf (view mem) y none

@@ -17,10 +17,10 @@ use Rattle.rules.specs.Outcome.{Outcome, firstOf}
 use Rattle.rules.specs.Lookup.{entryOf, entryAt, lookupBy}
 use Rattle.rules.proofs.Rows.{first-of}
 use Rattle.tables.specs.View.{nodesOf, view}
+use Rattle.tables.proofs.Numbers.{nodes-low, child-low, known-low, parent-low}
 use Rattle.pseudo_fs.specs.declared.inner.Finding.{Finding}
 use Rattle.pseudo_fs.specs.declared.inner.Finding.the-variants.{Node as FindingNode, NoEnt, Inval}
 use Rattle.pseudo_fs.specs.Finds.{outcomeOf, findingOf, Finds}
-use Rattle.pseudo_fs.proofs.Low.{nodes-low, child-low, known-low, parent-low}
 
 module _ (nodes : List Node) (x : ℕ) (p : List ℕ) where
   pub unknown-parent : isKnown nodes x ≡ false → Finds nodes x p NoEnt

@@ -1,5 +1,4 @@
 -- What is proved of the walk, the find and the calls, for the proofs of this crate and of its callers.
 pub mod Walks
-pub mod Low
 pub mod Finds
 pub mod Calls

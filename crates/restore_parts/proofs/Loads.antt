@@ -20,7 +20,7 @@ use Rattle.tables.proofs.Table.{length-putRow}
 use Rattle.tables.proofs.Spells.{cell-back}
 use Rattle.tables.proofs.Heads.{head-put, view-header}
 use Rattle.tables.proofs.Refine.{view-append}
-use Rattle.tables.proofs.Keeps.{ruled, is-ruled, laid-is, open-laid, length-append, keeps-append}
+use Rattle.tables.proofs.Keeps.{laid-ruled, is-ruled, laid-is, length-append, keeps-append}
 use Rattle.tables.proofs.Places.{nodes-count}
 use Rattle.restore_parts.specs.Parts.{Loads, loadNode, loadNodes}
 use Rattle.restore_parts.proofs.Records.{AllLoad}
@@ -80,7 +80,7 @@ module _ (mem : List ℕ) (d : Laid mem) (x : ℕ) (top : x ≤ 2 ^ 56) where
   pub next-keeps : 2 ≤ x → laid mem ≡ true → laid after ≡ true
   unfolding laid over row
   next-keeps low e =
-      let r = ruled (headOf mem) (length mem) (open-laid mem e) in
+      let r = laid-ruled mem e in
       ap₂ laidBy next-head next-length
       ∙ is-ruled H (length mem) (record {
         size = r .size;

@@ -19,7 +19,7 @@ use Rattle.tables.specs.Write.{fromPlace, putHeader, setNext, heldByte}
 use Rattle.tables.proofs.Table.{length-putRow}
 use Rattle.tables.proofs.Spells.{cell-back}
 use Rattle.tables.proofs.Heads.{head-put, view-header}
-use Rattle.tables.proofs.Keeps.{ruled, is-ruled, open-laid}
+use Rattle.tables.proofs.Keeps.{laid-ruled, is-ruled}
 use Rattle.restore_parts.specs.Parts.{hasBits, optionCells, setOptions, setState}
 
 -- ---- what the writes come to
@@ -137,7 +137,7 @@ module _ (next counter : ℕ) (o : Options) (mem : List ℕ) where
     pub state-keeps : laid mem ≡ true → 2 ≤ next → unknown (view mem .fixed .known) o ≡ false → laid (setState next counter o mem) ≡ true
     unfolding laid over row view
     state-keeps e low u =
-        let r = ruled (headOf mem) (length mem) (open-laid mem e) in
+        let r = laid-ruled mem e in
         ap₂ laidBy (ap headOf one-row ∙ head-put 3 cells mem cells-fit (let l = r .size .long in omega arith)) state-length
         ∙ is-ruled H (length mem) (record {
           size = r .size;

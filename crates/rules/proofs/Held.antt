@@ -142,7 +142,7 @@ held-freed (some m) i h q e =
     let b = held-before (i .indexes .slots) (m .index) q e in
     (h q (b .1), λ w. b .0 (sym w))
 
-freed-tree : (m : Option Mount) (i : Instance) → freed m i .tree ≡ i .tree
+pub freed-tree : (m : Option Mount) (i : Instance) → freed m i .tree ≡ i .tree
 unfolding freed
 freed-tree none i = refl
 freed-tree (some m) i = refl

@@ -2,7 +2,7 @@
 use mathlib.Core.Path.{_≡_, refl, sym, ap, _∙_}
 use mathlib.Core.List.{List, [], _++_, append-assoc}
 use Prim.Native.Nat.{ℕ, _+_, _-_, _*_, _≤_, _<_}
-use native.Mathlib.Nat.{zero-add, sub-zero}
+use native.Mathlib.Nat.{zero-add}
 use native.Mathlib.Omega.{arith}
 use lib.ListN.{length, take, drop, length-append, length-drop}
 use lib.Seq.{length-take-le}
@@ -21,7 +21,7 @@ use Rattle.tables.specs.Layout.{capacityOf, countOf}
 use Rattle.tables.specs.View.{optionsFrom, headOf, nodeAt, nodesOf}
 use Rattle.tables.specs.Rule.{Laid}
 use Rattle.tables.proofs.Tab.{tab-next, tab-done}
-use Rattle.tables.proofs.Find.{nodes-of, left}
+use Rattle.tables.proofs.Find.{left, none-looked}
 use Rattle.row_name.specs.Copied.{Copied}
 use Rattle.row_name.proofs.Names.{name-short}
 use Rattle.save_parts.specs.Parts.{Sizes, Puts, optionsBy}
@@ -91,7 +91,7 @@ module _ (mem : List ℕ) where
   later c i = nodesBytes (entriesFor (left mem c i))
 
   later-all : (c : ℕ) → c ≡ countOf mem → later c 0 ≡ records
-  later-all c e = sym (ap (λ (ns : List Node). nodesBytes (entriesFor ns)) (nodes-of mem ∙ rw (sub-zero, e)))
+  later-all c e = sym (ap (λ (ns : List Node). nodesBytes (entriesFor ns)) (none-looked mem c e))
 
   later-none : (c i : ℕ) → c ≤ i → later c i ≡ []
   unfolding nodesBytes entriesFor

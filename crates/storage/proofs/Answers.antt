@@ -2,9 +2,8 @@
 use mathlib.Core.Path.{_≡_, refl, sym, ap, _∙_}
 use mathlib.Core.Bool.{true, false, not, cond, true≢false}
 use mathlib.Core.List.{List}
-use Prim.Native.Nat.{ℕ, _≤_}
+use Prim.Native.Nat.{ℕ}
 use native.Mathlib.Omega.{arith}
-use lib.ListN.{length}
 use lib.Dec.{eqb}
 use Rattle.le.specs.Mem.{get}
 use Rattle.id_map.specs.Mapping.{mappingOf}
@@ -17,7 +16,7 @@ use Rattle.tables.specs.Rule.{laid}
 use Rattle.tables.specs.Write.{setRemoval}
 use Rattle.tables.specs.Call.{Told, answeredBy, Does}
 use Rattle.tables.proofs.Refine.{view-removal}
-use Rattle.tables.proofs.Keeps.{laid-is, keeps-removal}
+use Rattle.tables.proofs.Keeps.{laid-long, keeps-removal}
 use Rattle.storage.specs.Answers.{removalTold, removeCall, initializedTold, initializedCall, optionsIn, optionsTold, optionsCall}
 use Rattle.storage.specs.declared.Removal.{Removal}
 use Rattle.storage.specs.declared.Removal.the-variants.{Done, Small as RemovalSmall}
@@ -73,9 +72,6 @@ optionsTold-injective OptionsSmall OptionsSmall e = refl
 -- ---- tells what its rule says
 
 module _ (mem : List ℕ) where
-  pub long : laid mem ≡ true → 8192 ≤ length mem
-  long e = omega (arith, laid-is mem e .long)
-
   pub initialized-small : laid mem ≡ false → initializedTold InitializedSmall ≡ answeredBy mem initializedCall
   unfolding initializedTold
   initialized-small e = sym (told-small mem initializedCall e)
@@ -107,10 +103,9 @@ module _ (mem : List ℕ) where
   pub removal-done : (after : List ℕ) → laid mem ≡ true → after ≡ setRemoval mem → Does mem removeCall (removalTold Done) after (cond (laid mem) (setRemoval mem) mem)
   unfolding removalTold rule
   removal-done after e p =
-      let l : 8192 ≤ length mem = long e in
       record {
         answer = sym (told-by mem removeCall e);
         bytes = p ∙ rw e;
-        stands = λ t. ap view p ∙ view-removal mem (omega arith);
+        stands = λ t. ap view p ∙ view-removal mem (omega (arith, laid-long mem e));
         keeps = λ t. ap laid p ∙ keeps-removal mem e;
       }

@@ -3,7 +3,7 @@ use mathlib.Core.Path.{_≡_, refl, sym, ap, _∙_}
 use mathlib.Core.Bool.{true}
 use mathlib.Core.List.{List, [], _∷_, _++_, append-nil, append-assoc}
 use mathlib.Core.Option.{Option, none, some}
-use Prim.Native.Nat.{ℕ, _+_, _-_, _*_, _^_, _<_}
+use Prim.Native.Nat.{ℕ, _+_, _*_, _^_, _<_}
 use native.Mathlib.Nat.{zero-add}
 use native.Mathlib.Numerals.{add-one}
 use native.Mathlib.Omega.{arith}
@@ -23,10 +23,9 @@ use Rattle.tables.specs.Answer.{mountMem}
 use Rattle.tables.proofs.Tab.{length-tab}
 use Rattle.tables.proofs.Table.{length-putRow}
 use Rattle.tables.proofs.Refine.{view-slot, view-root-mount}
-use Rattle.tables.proofs.Keeps.{laid-is, keeps-slot, keeps-mount}
+use Rattle.tables.proofs.Keeps.{laid-long, laid-is, keeps-slot, keeps-mount}
 use Rattle.storage.specs.Header.{spell, headerOf}
 use Rattle.storage.specs.Limits.{SlotsFit, Onto}
-use Rattle.storage.proofs.Answers.{long}
 use Rattle.storage.proofs.Bytes.{AllBytes, zeros-bytes, number-bytes, row-bytes, spell-bytes, from-bytes}
 use Rattle.storage.proofs.Header.{view-headed, laid-headed}
 use Rattle.storage.proofs.Rows.{may-fit, putRows, length-rows, rows-bytes, rows-there}
@@ -69,7 +68,7 @@ slots-there (s ∷ ss) k mem e f h =
     let m′ = setSlot k (s .held) (s .tag) mem in
     let S = view mem .indexes .slots in
     let low : k < 256 = omega arith in
-    let v : view m′ ≡ withSlots (set S k s) (view mem) = view-slot k low (s .held) (s .tag) mem (f .0) (long mem e) in
+    let v : view m′ ≡ withSlots (set S k s) (view mem) = view-slot k low (s .held) (s .tag) mem (f .0) (laid-long mem e) in
     let r = slots-there ss (k + 1) m′ (keeps-slot mem e k (s .held) (s .tag) low (f .0)) (f .1) (omega arith) in
     let in′ : k < length S = omega (arith, slots-count mem) in
     let l : take (k + 1) (set S k s) ++ ss ≡ take k S ++ (s ∷ ss) = rw (add-one, take-suc-set S k s, append-assoc) in

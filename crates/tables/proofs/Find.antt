@@ -24,7 +24,8 @@ nodes-of mem = refl
 abbrev pub left : List ℕ → ℕ → ℕ → List Node
 left mem c i = tab (nodeAt (capacityOf mem) mem) i (c - i)
 
-none-looked : (mem : List ℕ) (c : ℕ) → c ≡ countOf mem → nodesOf mem ≡ left mem c 0
+-- none of them: all nodes are left
+pub none-looked : (mem : List ℕ) (c : ℕ) → c ≡ countOf mem → nodesOf mem ≡ left mem c 0
 none-looked mem c e = nodes-of mem ∙ rw (sub-zero, e)
 
 -- ---- the child of a name

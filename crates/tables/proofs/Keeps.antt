@@ -25,7 +25,7 @@ use Rattle.tables.proofs.Table.{length-putRow, length-closeUp}
 use Rattle.tables.proofs.Spells.{cell-back, root-fit}
 use Rattle.tables.proofs.Heads.{low-head, put-low, head-put}
 use Rattle.tables.proofs.Refine.{head-append, head-remove, slot-head}
-use Rattle.tables.proofs.Places.{place-first, nodes-count}
+use Rattle.tables.proofs.Places.{row-below}
 
 -- ---- the tests of the rule, one by one
 
@@ -46,7 +46,7 @@ pub record Ruled (h : List (List ℕ)) (bytes : ℕ) : Type 0 where
   pub flags : field 13 h < 64
   pub maps : badMapping (mappingFrom 7 h) ≡ false
 
-pub ruled : (h : List (List ℕ)) (bytes : ℕ) → laidBy h bytes ≡ true → Ruled h bytes
+ruled : (h : List (List ℕ)) (bytes : ℕ) → laidBy h bytes ≡ true → Ruled h bytes
 unfolding laidBy
 ruled h bytes e =
     let t = passed _ e in
@@ -95,11 +95,20 @@ is-ruled h bytes r =
       ),
     )
 
+-- of the bytes
+pub laid-ruled : (mem : List ℕ) → laid mem ≡ true → Ruled (headOf mem) (length mem)
+unfolding laid
+laid-ruled mem e = ruled (headOf mem) (length mem) e
+
+-- they are enough for the header and the slots
+pub laid-long : (mem : List ℕ) → laid mem ≡ true → 8192 ≤ length mem
+laid-long mem e = laid-ruled mem e .size .long
+
 -- what places of rows need
 pub laid-is : (mem : List ℕ) → laid mem ≡ true → Laid mem
-unfolding laid row get
+unfolding row get
 laid-is mem e =
-    let r = ruled (headOf mem) (length mem) e in
+    let r = laid-ruled mem e in
     record { some-node = r .size .some-node; few-nodes = r .size .few-nodes; long = r .size .enough; live = r .live; low = r .low; top = r .top }
 
 -- ---- writes that leave the tested fields
@@ -125,10 +134,6 @@ laid-header : (k : ℕ) (xs : List (List ℕ)) (mem : List ℕ) → Fit header (
 unfolding laid
 laid-header k xs mem f l = ap₂ laidBy (head-put k xs mem f l) (length-header k xs mem)
 
-pub open-laid : (mem : List ℕ) → laid mem ≡ true → laidBy (headOf mem) (length mem) ≡ true
-unfolding laid
-open-laid mem e = e
-
 one-byte : (c : ℕ) → Fit header (fromPlace 14 (bytesOf 1 c ∷ []))
 one-byte c = omega (arith, length-bytesOf 1 c)
 
@@ -137,25 +142,22 @@ unfolding setSlot
 slot-length k held tag mem = length-putRow slotTable (bytesOf 1 (heldByte held) ∷ bytesOf 4 tag ∷ []) mem k
 
 module _ (mem : List ℕ) (e : laid mem ≡ true) where
-  abbrev r : Ruled (headOf mem) (length mem)
-  r = ruled (headOf mem) (length mem) (open-laid mem e)
-
   pub keeps-slot : (k : ℕ) (held : Bool) (tag : ℕ) → k < 256 → tag < 2 ^ 32 → laid (setSlot k held tag mem) ≡ true
   keeps-slot k held tag h t =
-      same-laid (setSlot k held tag mem) mem (slot-head k h held tag mem t (r .size .long)) (slot-length k held tag mem) ∙ e
+      same-laid (setSlot k held tag mem) mem (slot-head k h held tag mem t (laid-long mem e)) (slot-length k held tag mem) ∙ e
 
   pub keeps-counter : (c : ℕ) → laid (setCounter c mem) ≡ true
   unfolding setCounter over row laidBy laid
-  keeps-counter c = laid-header 14 (bytesOf 1 c ∷ []) mem (one-byte c) (let l = r .size .long in omega arith) ∙ e
+  keeps-counter c = laid-header 14 (bytesOf 1 c ∷ []) mem (one-byte c) (omega (arith, laid-long mem e)) ∙ e
 
   pub keeps-removal : laid (setRemoval mem) ≡ true
   unfolding setRemoval over row laidBy laid
-  keeps-removal = laid-header 15 (bytesOf 1 1 ∷ []) mem (omega (arith, length-bytesOf 1 1)) (let l = r .size .long in omega arith) ∙ e
+  keeps-removal = laid-header 15 (bytesOf 1 1 ∷ []) mem (omega (arith, length-bytesOf 1 1)) (omega (arith, laid-long mem e)) ∙ e
 
   root-kept : (m : Option Mount) → laid (setRootMount m mem) ≡ true
   unfolding setRootMount over row laidBy laid
-  root-kept none = laid-header 17 (mountCells none) mem (root-fit none) (let l = r .size .long in omega arith) ∙ e
-  root-kept (some m) = laid-header 17 (mountCells (some m)) mem (root-fit (some m)) (let l = r .size .long in omega arith) ∙ e
+  root-kept none = laid-header 17 (mountCells none) mem (root-fit none) (omega (arith, laid-long mem e)) ∙ e
+  root-kept (some m) = laid-header 17 (mountCells (some m)) mem (root-fit (some m)) (omega (arith, laid-long mem e)) ∙ e
 
   rows-kept : (n : ℕ) (xs : List (List ℕ)) (i : ℕ) → laid (putRow (nodeTable n) xs mem i) ≡ true
   rows-kept n xs i =
@@ -180,7 +182,7 @@ module _ (mem : List ℕ) (e : laid mem ≡ true) where
   unfolding laid over row get
   keeps-append above p room top =
       let x = nextOf mem in
-      let d = r in
+      let d = laid-ruled mem e in
       let a = cell-back 8 (c + 1) mem 16 (omega (arith, d .size .few-nodes)) in
       let b = cell-back 8 (x + 1) mem 24 (omega arith) in
       ap₂ laidBy (head-append mem (laid-is mem e) above p) (length-append above p mem)
@@ -197,7 +199,7 @@ module _ (mem : List ℕ) (e : laid mem ≡ true) where
   removed : (i : ℕ) → i < c → laid (removeRow i mem) ≡ true
   unfolding laid over row get
   removed i h =
-      let d = r in
+      let d = laid-ruled mem e in
       let a = cell-back 8 (c - 1) mem 16 (omega (arith, d .size .few-nodes, d .live)) in
       ap₂ laidBy (head-remove mem (laid-is mem e) i) (length-remove i mem)
       ∙ is-ruled (over header (fromPlace 2 (bytesOf 8 (c - 1) ∷ [])) mem 0) (length mem) (record {
@@ -216,4 +218,4 @@ module _ (mem : List ℕ) (e : laid mem ≡ true) where
     where
       go : (o : Option ℕ) → placeIn (nodesOf mem) x ≡ o → laid (atPlace o (λ (i : ℕ). removeRow i mem) mem) ≡ true
       go none q = e
-      go (some i) q = removed i (omega (arith, place-first (nodesOf mem) x i q .within, nodes-count mem))
+      go (some i) q = removed i (row-below mem x i q)

@@ -3,6 +3,7 @@ pub mod Tab
 pub mod Table
 pub mod Cells
 pub mod Find
+pub mod Numbers
 pub mod ByPlace
 pub mod Alike
 pub mod Answers

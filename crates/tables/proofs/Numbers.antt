@@ -9,17 +9,17 @@ use lib.Dec.{eqb}
 use borrow.Author.Tests.{eqb-true}
 use Rattle.rules.specs.Numbers.{rootNumber}
 use Rattle.rules.specs.Tree.{Node, isNone, isChild, childIn, nodeIn, isKnown, aboveOf, parentIn}
 use Rattle.tables.specs.Table.{tab}
 use Rattle.tables.specs.Layout.{capacityOf, countOf}
 use Rattle.tables.specs.View.{nodeFrom, nodeAt, nodesOf}
 use Rattle.tables.proofs.Find.{nodes-of}
 
 -- every number and every parent
-abbrev pub Low : List Node → Type 0
-Low [] = Unit {0}
-Low (n ∷ ns) = (n .number < 2 ^ 56) × (n .above < 2 ^ 56) × Low ns
+abbrev pub LowNodes : List Node → Type 0
+LowNodes [] = Unit {0}
+LowNodes (n ∷ ns) = (n .number < 2 ^ 56) × (n .above < 2 ^ 56) × LowNodes ns
 
-tab-low : (f : ℕ → Node) → ((i : ℕ) → (f i .number < 2 ^ 56) × (f i .above < 2 ^ 56)) → (i k : ℕ) → Low (tab f i k)
+tab-low : (f : ℕ → Node) → ((i : ℕ) → (f i .number < 2 ^ 56) × (f i .above < 2 ^ 56)) → (i k : ℕ) → LowNodes (tab f i k)
 unfolding tab
 tab-low f h i zero = tt
 tab-low f h i (suc k) = (h i .0, h i .1, tab-low f h (i + 1) k)
@@ -28,12 +28,12 @@ node-low : (n : ℕ) (mem : List ℕ) (i : ℕ) → (nodeAt n mem i .number < 2 
 unfolding nodeAt nodeFrom
 node-low n mem i = (omega arith, omega arith)
 
-pub nodes-low : (mem : List ℕ) → Low (nodesOf mem)
-nodes-low mem = subst Low (sym (nodes-of mem)) (tab-low (nodeAt (capacityOf mem) mem) (node-low (capacityOf mem) mem) 0 (countOf mem))
+pub nodes-low : (mem : List ℕ) → LowNodes (nodesOf mem)
+nodes-low mem = subst LowNodes (sym (nodes-of mem)) (tab-low (nodeAt (capacityOf mem) mem) (node-low (capacityOf mem) mem) 0 (countOf mem))
 
 -- ---- what is found among them
 
-pub child-low : (ns : List Node) → Low ns → (here : ℕ) (p : List ℕ) (y : ℕ) → childIn ns here p ≡ some y → y < 2 ^ 56
+pub child-low : (ns : List Node) → LowNodes ns → (here : ℕ) (p : List ℕ) (y : ℕ) → childIn ns here p ≡ some y → y < 2 ^ 56
 unfolding childIn
 child-low [] l here p y e = let z : _≡_ {A = ℕ} 0 1 = cc in absurd (omega arith)
 child-low (n ∷ ns) l here p y e = go (isChild here p n) e (child-low ns (l .2) here p y)
@@ -43,7 +43,7 @@ child-low (n ∷ ns) l here p y e = go (isChild here p n) e (child-low ns (l .2)
     go false f k = k f
 
 -- the node of a number: its number is that one
-in-low : (ns : List Node) → Low ns → (x : ℕ) (n : Node) → nodeIn ns x ≡ some n → (x < 2 ^ 56) × (n .above < 2 ^ 56)
+in-low : (ns : List Node) → LowNodes ns → (x : ℕ) (n : Node) → nodeIn ns x ≡ some n → (x < 2 ^ 56) × (n .above < 2 ^ 56)
 unfolding nodeIn
 in-low [] l x n e = let z : _≡_ {A = ℕ} 0 1 = cc in absurd (omega arith)
 in-low (m ∷ ns) l x n e = go (eqb (m .number) x) refl e (in-low ns (l .2) x n)
@@ -54,7 +54,7 @@ in-low (m ∷ ns) l x n e = go (eqb (m .number) x) refl e (in-low ns (l .2) x n)
         (omega (arith, l .0, eqb-true (m .number) x t), subst (λ (q : Node). q .above < 2 ^ 56) z (l .1))
     go false t f k = k f
 
-module _ (ns : List Node) (l : Low ns) (x : ℕ) where
+module _ (ns : List Node) (l : LowNodes ns) (x : ℕ) where
   pub known-low : isKnown ns x ≡ true → x < 2 ^ 56
   unfolding isKnown
   known-low e = go (eqb x rootNumber) refl (nodeIn ns x) refl e

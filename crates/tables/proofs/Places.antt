@@ -11,14 +11,14 @@ use lib.Dec.{eqb}
 use Rattle.rules.specs.Numbers.{rootNumber}
 use Rattle.rules.specs.Tree.{Mount, Node, nodeIn, mountAt, without, withMount, bare}
 use Rattle.rules.specs.Instance.{setMount, withTree, cut}
-use Rattle.le.specs.Mem.{get}
-use Rattle.tables.specs.Table.{row, tab, removeAt}
+use Rattle.tables.specs.Table.{removeAt}
 use Rattle.tables.specs.Layout.{capacityOf, countOf}
-use Rattle.tables.specs.View.{nodeAt, nodesFrom, nodesOf, view}
+use Rattle.tables.specs.View.{nodeAt, nodesOf, view}
 use Rattle.tables.specs.Rule.{Laid}
 use Rattle.tables.specs.Write.{setRootMount, setRowMount, removeRow}
 use Rattle.tables.specs.Answer.{later, placeIn, atPlace, mountMem, removeMem}
 use Rattle.tables.proofs.Tab.{length-tab, tab-at}
+use Rattle.tables.proofs.Find.{nodes-of}
 use Rattle.tables.proofs.Spells.{MayFit}
 use Rattle.tables.proofs.Refine.{view-remove, view-row-mount, view-root-mount}
 
@@ -75,23 +75,22 @@ place-nowhere (n ∷ ns) x e = go (eqb (n .number) x) refl (placeIn ns x) refl e
 -- ---- of the memory
 
 module _ (mem : List ℕ) where
-  -- the rows, by the header's numbers
-  pub nodes-of : nodesOf mem ≡ tab (nodeAt (capacityOf mem) mem) 0 (countOf mem)
-  unfolding nodesOf nodesFrom row get
-  nodes-of = refl
+  pub view-nodes : view mem .tree .nodes ≡ nodesOf mem
+  unfolding view
+  view-nodes = refl
 
   pub nodes-count : length (nodesOf mem) ≡ countOf mem
-  nodes-count = ap length nodes-of ∙ length-tab (nodeAt (capacityOf mem) mem) 0 (countOf mem)
+  nodes-count = ap length (nodes-of mem) ∙ length-tab (nodeAt (capacityOf mem) mem) 0 (countOf mem)
 
   pub nodes-at : (i : ℕ) → i < countOf mem → getD (nodesOf mem) i nobody ≡ nodeAt (capacityOf mem) mem i
   nodes-at i h =
-      ap (λ (l : List Node). getD l i nobody) nodes-of
+      ap (λ (l : List Node). getD l i nobody) (nodes-of mem)
       ∙ (tab-at (nodeAt (capacityOf mem) mem) 0 (countOf mem) i nobody h ∙ ap (nodeAt (capacityOf mem) mem) (zero-add i))
 
-module _ (mem : List ℕ) (d : Laid mem) (x : ℕ) where
-  row-within : (i : ℕ) → placeIn (nodesOf mem) x ≡ some i → i < countOf mem
-  row-within i e = omega (arith, place-first (nodesOf mem) x i e .within, nodes-count mem)
+  pub row-below : (x i : ℕ) → placeIn (nodesOf mem) x ≡ some i → i < countOf mem
+  row-below x i e = omega (arith, place-first (nodesOf mem) x i e .within, nodes-count)
 
+module _ (mem : List ℕ) (d : Laid mem) (x : ℕ) where
   row-nowhere : (m : Option Mount) → placeIn (nodesOf mem) x ≡ none
       → view mem ≡ withTree (record { next = view mem .tree .next; root = view mem .tree .root; nodes = mountAt m (view mem .tree .nodes) x }) (view mem)
   unfolding view
@@ -101,7 +100,7 @@ module _ (mem : List ℕ) (d : Laid mem) (x : ℕ) where
       → view (setRowMount m i mem) ≡ withTree (record { next = view mem .tree .next; root = view mem .tree .root; nodes = mountAt m (view mem .tree .nodes) x }) (view mem)
   unfolding view
   row-somewhere m f i e =
-      let h = row-within i e in
+      let h = row-below mem x i e in
       let p : set (nodesOf mem) i (withMount m (nodeAt (capacityOf mem) mem i)) ≡ mountAt m (nodesOf mem) x =
       ap (λ (n : Node). set (nodesOf mem) i (withMount m n)) (sym (nodes-at mem i h)) ∙ sym (place-first (nodesOf mem) x i e .mounted m) in
       view-row-mount mem d m i f h ∙ (λ j. withTree (record { next = view mem .tree .next; root = view mem .tree .root; nodes = p j }) (view mem))
@@ -113,7 +112,7 @@ module _ (mem : List ℕ) (d : Laid mem) (x : ℕ) where
   gone-somewhere : (i : ℕ) → placeIn (nodesOf mem) x ≡ some i → view (removeRow i mem) ≡ withTree (cut x (view mem .tree)) (view mem)
   unfolding view
   gone-somewhere i e =
-      view-remove mem d i (row-within i e)
+      view-remove mem d i (row-below mem x i e)
       ∙ (λ j. withTree (record { next = view mem .tree .next; root = view mem .tree .root; nodes = sym (place-first (nodesOf mem) x i e .gone) j }) (view mem))
 
   -- a mount is set or taken off

@@ -29,10 +29,10 @@ use Rattle.tables.specs.Answer.{tagIn, heldAt, mountOfPoint}
 use Rattle.tables.proofs.Indexes.{allocate-same}
 use Rattle.tables.proofs.Spells.{MountFits}
 use Rattle.tables.proofs.Refine.{view-counter}
-use Rattle.tables.proofs.Keeps.{keeps-counter}
+use Rattle.tables.proofs.Keeps.{laid-long, keeps-counter}
 use Rattle.placing.specs.Place.{placeMem, Places}
 use Rattle.placing.specs.declared.Tags.{Tags}
-use Rattle.placing.proofs.Stands.{long, slot-of, view-placed, keeps-placed}
+use Rattle.placing.proofs.Stands.{slot-of, view-placed, keeps-placed}
 use Rattle.tables.specs.declared.mounts.MountPoint.{MountPoint}
 use Rattle.vfs.specs.Mounting.{requestOf, counted, mountedTold, allocMem, finishMem, Finishes, EndsAt, MountsAt, Allocates, byFound, Unrooted}
 use Rattle.vfs.specs.Restoring.{restoredTold, RestoresAt}
@@ -129,7 +129,7 @@ module _ (mem : List ℕ) (l : laid mem ≡ true) (bytes : Bytes mem) where
         least = λ k e. index-up k (sym found ∙ ap foundOf e);
         visited = ap (λ t. t .count) as-told;
         bytes = w ∙ ap (λ c. setCounter c mem) moved;
-        stands = ap view w ∙ view-counter (a .«next_super») mem low (omega (arith, long mem l)) ∙ ap (λ c. withCounter c (view mem)) moved;
+        stands = ap view w ∙ view-counter (a .«next_super») mem low (omega (arith, laid-long mem l)) ∙ ap (λ c. withCounter c (view mem)) moved;
         keeps = ap laid w ∙ keeps-counter mem l (a .«next_super»);
       }
 

@@ -14,6 +14,7 @@ use Rattle.rules.specs.Outcome.{Outcome, unmounted, refused, firstOf}
 use Rattle.rules.specs.Unmount.{badPath, reached, unmounts, unmountAt, unmountRule}
 use Rattle.tables.specs.View.{nodesOf, view}
 use Rattle.tables.specs.Rule.{laid, Laid}
+use Rattle.tables.proofs.Places.{view-nodes}
 use Rattle.tables.proofs.Keeps.{laid-is}
 use Rattle.tables.specs.Answer.{mountOfPoint, mountIn}
 use Rattle.tables.specs.Call.{toldBy, Does}
@@ -44,10 +45,6 @@ by-mount : (mem : List ℕ) (x : ℕ) (m : Option Mount) (r : Unmounted) (after 
 by-mount mem x m r after e u =
     let v : UnmountsBy mem x (mountOf (view mem .tree) x) r after = subst (λ (z : Option Mount). UnmountsBy mem x z r after) (sym e) u in
     record { told = v .told; bytes = v .bytes; stands = v .stands; keeps = v .keeps }
-
-view-nodes : (mem : List ℕ) → view mem .tree .nodes ≡ nodesOf mem
-unfolding view
-view-nodes mem = refl
 
 pub takes : (mem after : List ℕ) (x up : ℕ) (on : MountOn) (m : MountPoint) (t : Tag) → laid mem ≡ true → mountIn on ≡ mountOf (view mem .tree) x → on ≡ Point m → m .«fs_idx» < 256
     → up ≡ parentIn (nodesOf mem) x → TakesOff mem (mountOfPoint m) x t after → (a b : NodeNumber) → a .0 ≡ x → b .0 ≡ up → Unmounts mem x (Done a b t) after

@@ -1,8 +1,7 @@
 -- `placing::free_old` meets its contract: each way through it by its law.
 use borrow.Author.Needs.{needs}
 use Rattle.placing.proofs.Returns.{frees-point, frees-none}
-use Rattle.placing.proofs.Stands.{long}
-use Rattle.tables.proofs.Keeps.{laid-is}
+use Rattle.tables.proofs.Keeps.{laid-long, laid-is}
 use Rattle.placing.proofs.free_old.Statement.{statement}
 use Rattle.placing.proofs.free_old.Tie as tie
 
@@ -10,10 +9,10 @@ enum-known-old : tie.Need-enum-known-old
 enum-known-old c = search needs
 
 tag-of-requires : tie.Need-tag-of-requires
-tag-of-requires c κs = search (long, laid-is, needs)
+tag-of-requires c κs = search (laid-long, laid-is, needs)
 
 free-requires : tie.Need-free-requires
-free-requires c κs = search (long, laid-is, needs)
+free-requires c κs = search (laid-long, laid-is, needs)
 
 enum-told : tie.Need-enum-told
 enum-told c = search needs

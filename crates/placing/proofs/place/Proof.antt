@@ -1,8 +1,7 @@
 -- `placing::place` meets its contract: each way through it by its law.
 use borrow.Author.Needs.{needs}
 use native.Mathlib.Omega.{arith}
-use Rattle.tables.proofs.Keeps.{laid-is}
-use Rattle.placing.proofs.Stands.{long}
+use Rattle.tables.proofs.Keeps.{laid-long, laid-is}
 use Rattle.placing.proofs.Returns.{laid-freed, row-freed, places}
 use Rattle.placing.proofs.place.Statement.{statement}
 use Rattle.placing.proofs.place.Tie as tie
@@ -14,13 +13,13 @@ free-old-requires : tie.Need-free-old-requires
 free-old-requires c κs = search needs
 
 tag-of-requires : tie.Need-tag-of-requires
-tag-of-requires c κs = omega (arith, long _ (c .before .before .before .before .before .before .before .before .pre .0))
+tag-of-requires c κs = omega (arith, laid-long _ (c .before .before .before .before .before .before .before .before .pre .0))
 
 set-requires : tie.Need-set-requires
 set-requires c κs = (search (laid-freed, laid-is, needs), (search (row-freed, needs), search needs))
 
 hold-requires : tie.Need-hold-requires
-hold-requires c κs = omega (arith, long _ (c .before .before .before .before .before .before .before .before .before .before .before .before .before .before .pre .0))
+hold-requires c κs = omega (arith, laid-long _ (c .before .before .before .before .before .before .before .before .before .before .before .before .before .before .pre .0))
 
 same-length : tie.Need-same-length
 same-length c = search needs

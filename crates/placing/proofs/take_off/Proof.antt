@@ -2,13 +2,12 @@
 use borrow.Author.Needs.{needs}
 use Rattle.placing.proofs.Returns.{laid-mounted, row-mounted, takes-off}
 use native.Mathlib.Omega.{arith}
-use Rattle.placing.proofs.Stands.{long}
-use Rattle.tables.proofs.Keeps.{laid-is}
+use Rattle.tables.proofs.Keeps.{laid-long, laid-is}
 use Rattle.placing.proofs.take_off.Statement.{statement}
 use Rattle.placing.proofs.take_off.Tie as tie
 
 tag-of-requires : tie.Need-tag-of-requires
-tag-of-requires c κs = search (long, laid-is, needs)
+tag-of-requires c κs = search (laid-long, laid-is, needs)
 
 clear-requires : tie.Need-clear-requires
 clear-requires c κs = (search (laid-is, needs), search needs)
@@ -17,7 +16,7 @@ take-out-requires : tie.Need-take-out-requires
 take-out-requires c κs = (search (laid-mounted, needs), search (row-mounted, needs))
 
 free-requires : tie.Need-free-requires
-free-requires c κs = omega (arith, long _ (c .before .before .before .before .before .before .before .before .before .before .before .before .pre .0))
+free-requires c κs = omega (arith, laid-long _ (c .before .before .before .before .before .before .before .before .before .before .before .before .pre .0))
 
 same-length : tie.Need-same-length
 same-length c = search needs

@@ -1,13 +1,12 @@
 -- `placing::take_out` meets its contract: each way through it by its law.
 use borrow.Author.Needs.{needs}
 use Rattle.placing.proofs.Returns.{row-of, stays-unset, stays-root, goes, nothing-goes}
-use Rattle.placing.proofs.Stands.{long}
-use Rattle.tables.proofs.Keeps.{laid-is}
+use Rattle.tables.proofs.Keeps.{laid-long, laid-is}
 use Rattle.placing.proofs.take_out.Statement.{statement}
 use Rattle.placing.proofs.take_out.Tie as tie
 
 removes-requires : tie.Need-removes-requires
-removes-requires c κs = search (long, laid-is, needs)
+removes-requires c κs = search (laid-long, laid-is, needs)
 
 same-length : tie.Need-same-length
 same-length c = search needs

@@ -1,7 +1,7 @@
 -- The records first, then the header. Assumes nothing.
 use borrow.Author.Needs.{needs}
 use native.Mathlib.Omega.{arith}
-use Rattle.storage.proofs.Answers.{long}
+use Rattle.tables.proofs.Keeps.{laid-long}
 use Rattle.saved.proofs.Accepted.{accepted-long}
 use Rattle.restore_parts.proofs.StateTests.{saved-put}
 use Rattle.restore_parts.proofs.put_saved.Statement.{statement}
@@ -20,7 +20,7 @@ load-records-requires : tie.Need-load-records-requires
 load-records-requires c κs = search needs
 
 put-state-requires : tie.Need-put-state-requires
-put-state-requires c κs = omega (arith, long _ (c .before .before .before .before .before .before .before .before .before .before .pre .0))
+put-state-requires c κs = omega (arith, laid-long _ (c .before .before .before .before .before .before .before .before .before .before .pre .0))
 
 same-length : tie.Need-same-length
 same-length c = search needs

@@ -1,13 +1,13 @@
 -- What wraps is the formula in whole numbers.
 use native.Mathlib.Omega.{arith}
-use Rattle.placing.proofs.Stands.{long}
+use Rattle.tables.proofs.Keeps.{laid-long}
 use Rattle.vfs_query.proofs.Rules.{goes-out, goes-back}
 use borrow.Author.Needs.{needs}
 use Rattle.vfs_query.proofs.remap.Statement.{statement}
 use Rattle.vfs_query.proofs.remap.Tie as tie
 
 mapping-requires : tie.Need-mapping-requires
-mapping-requires c κs = search (long, needs)
+mapping-requires c κs = search (laid-long, needs)
 
 returns : tie.Need-returns
 returns c = goes-out _ (c .before .before .before .before .pre) _ (omega arith) _ _ (c .before .before .mapping .ensures) (c .map-out .ensures) _ (c .before .if1 .taken)

@@ -1,7 +1,7 @@
 -- The tag of the index, or none.
 use native.Mathlib.Omega.{arith}
 use Rattle.rules.specs.Unmount.{rootHeld}
-use Rattle.placing.proofs.Stands.{long}
+use Rattle.tables.proofs.Keeps.{laid-long}
 use Rattle.vfs_query.specs.Told.{rootfsTold}
 use Rattle.vfs_query.proofs.Rules.{tag-held, tag-empty}
 use borrow.Author.Needs.{needs}
@@ -9,7 +9,7 @@ use Rattle.vfs_query.proofs.root_held.Statement.{statement}
 use Rattle.vfs_query.proofs.root_held.Tie as tie
 
 tag-of-requires : tie.Need-tag-of-requires
-tag-of-requires c κs = search (long, needs)
+tag-of-requires c κs = search (laid-long, needs)
 
 returns : tie.Need-returns
 unfolding rootfsTold rootHeld

@@ -3,7 +3,8 @@ use mathlib.Core.Path.{sym, ap, _∙_}
 use Prim.Native.Nat.{_<_}
 use Rattle.tables.specs.Layout.{countOf}
 use Rattle.tables.specs.Answer.{rowIn}
-use Rattle.tables.proofs.ByPlace.{row-below, row-else, set-root, set-found, set-missing, clear-root, clear-row}
+use Rattle.tables.proofs.Places.{row-below}
+use Rattle.tables.proofs.ByPlace.{row-else, set-root, set-found, set-missing, clear-root, clear-row}
 use borrow.Author.Needs.{needs}
 use Rattle.tables.proofs.mounts.clear.Statement.{statement}
 use Rattle.tables.proofs.mounts.clear.Tie as tie

@@ -1,7 +1,8 @@
 -- The mount is written for the root, or in the row that has the number.
 use mathlib.Core.Path.{sym, ap, _∙_}
 use Rattle.tables.specs.Answer.{rowIn}
-use Rattle.tables.proofs.ByPlace.{row-below, row-else, set-root, set-found, set-missing}
+use Rattle.tables.proofs.Places.{row-below}
+use Rattle.tables.proofs.ByPlace.{row-else, set-root, set-found, set-missing}
 use borrow.Author.Needs.{needs}
 use Rattle.tables.proofs.mounts.set.Statement.{statement}
 use Rattle.tables.proofs.mounts.set.Tie as tie

@@ -1,16 +1,16 @@
 -- `vfs::mounting::allocate` meets its contract: the search, then its counter.
 use borrow.Author.Needs.{needs}
 use native.Mathlib.Omega.{arith}
-use Rattle.placing.proofs.Stands.{long}
+use Rattle.tables.proofs.Keeps.{laid-long}
 use Rattle.vfs.proofs.MountWays.{allocates}
 use Rattle.vfs.proofs.mounting.allocate.Statement.{statement}
 use Rattle.vfs.proofs.mounting.allocate.Tie as tie
 
 search-requires : tie.Need-search-requires
-search-requires c κs = omega (arith, long _ (c .before .before .pre))
+search-requires c κs = omega (arith, laid-long _ (c .before .before .pre))
 
 set-counter-requires : tie.Need-set-counter-requires
-set-counter-requires c κs = omega (arith, long _ (c .before .before .before .before .pre))
+set-counter-requires c κs = omega (arith, laid-long _ (c .before .before .before .before .pre))
 
 same-length : tie.Need-same-length
 same-length c = search needs
