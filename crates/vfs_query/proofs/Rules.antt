@@ -4,6 +4,7 @@ use mathlib.Core.Bool.{Bool, true, false, not}
 use mathlib.Core.List.{List}
 use mathlib.Core.Option.{Option, none, some}
 use Prim.Native.Nat.{ℕ, _^_, _<_}
+use lib.Dec.{eqb}
 use borrow.Author.Tests.{eq-eqb, ne-eqb, not-true, not-false}
 use Rattle.rules.specs.Numbers.{rootNumber, indexOf, numberOf, INVAL}
 use Rattle.rules.specs.Ids.{Mapping, badMapping, wrapped, unwrapped, mapped, unmapped}
@@ -49,30 +50,30 @@ module _ (mem : List ℕ) (k : ℕ) (h : k < 256) (r : Tag) (e : tagIn r ≡ tag
   unfolding tagIn
   tag-empty q = sym (tag-of-is mem k (tagIn r) h e) ∙ ap tagIn q
 
--- ---- routing: k and n are index and number of the full number
+-- ---- routing: n is the number of the full number, t whether it belongs to the tree
 
-module _ (i : Instance) (x k n : ℕ) (p : k ≡ indexOf x) (q : n ≡ numberOf x) where
-  pub by-index : (k ≡ 0 → ⊥) → routeRule i x ≡ routeTag i k n (tagOf i k)
+module _ (i : Instance) (x n : ℕ) (t : Bool) (q : n ≡ numberOf x) (p : t ≡ eqb (indexOf x) 0) where
+  pub by-index : not t ≡ true → (k : ℕ) → k ≡ indexOf x → routeRule i x ≡ routeTag i k n (tagOf i k)
   unfolding routeRule
-  by-index h = rw (sym p, sym q, ne-eqb k 0 h)
+  by-index h k e = rw (sym p, sym q, sym e, not-true t h)
 
-  in-tree : k ≡ 0 → routeRule i x ≡ routeTree i n (i .tree .root)
+  in-tree : not t ≡ false → routeRule i x ≡ routeTree i n (i .tree .root)
   unfolding routeRule
-  in-tree h = rw (sym p, sym q, eq-eqb k 0 h)
+  in-tree h = rw (sym p, sym q, not-false t h)
 
   other-number : (m : Option Mount) → (n ≡ rootNumber → ⊥) → routeTree i n m ≡ says (toTree n) i
   unfolding routeTree
   other-number none h = refl
   other-number (some m) h = rw (ne-eqb n 1 h)
 
-  pub by-number : k ≡ 0 → (n ≡ rootNumber → ⊥) → routeRule i x ≡ says (toTree n) i
+  pub by-number : not t ≡ false → (n ≡ rootNumber → ⊥) → routeRule i x ≡ says (toTree n) i
   by-number h g = in-tree h ∙ other-number (i .tree .root) g
 
-  pub by-root : k ≡ 0 → n ≡ rootNumber → (m : Mount) → some m ≡ i .tree .root → routeRule i x ≡ routeTag i (m .index) (m .root) (tagOf i (m .index))
+  pub by-root : not t ≡ false → n ≡ rootNumber → (m : Mount) → some m ≡ i .tree .root → routeRule i x ≡ routeTag i (m .index) (m .root) (tagOf i (m .index))
   unfolding routeTree
   by-root h g m e = in-tree h ∙ rw (sym e, eq-eqb n 1 g)
 
-  pub by-no-root : k ≡ 0 → none ≡ i .tree .root → routeRule i x ≡ says (toTree n) i
+  pub by-no-root : not t ≡ false → none ≡ i .tree .root → routeRule i x ≡ says (toTree n) i
   unfolding routeTree
   by-no-root h e = in-tree h ∙ rw (sym e)
 

@@ -81,10 +81,9 @@ pub fn route(s: &[u8], x: VfsInode) -> Routed
     if !is_laid(s) {
         return Routed::Small;
     }
-    let fs_idx = x.fs_idx();
     let ino = x.ino();
-    if fs_idx != 0 {
-        return route_tag(s, fs_idx, ino);
+    if !x.is_pseudo_fs() {
+        return route_tag(s, x.fs_idx(), ino);
     }
     if ino != rules::ROOT_ID {
         return Routed::Tree(NodeNumber(ino));

@@ -19,18 +19,19 @@ unfolding routedTold
 returns c = small _ _ (c .before .is-laid .ensures) _ (c .if1 .taken)
 
 route-tag-requires : tie.Need-route-tag-requires
-route-tag-requires c κs = laid-here (c .before .before .before)
+route-tag-requires c κs = laid-here (c .before .before .before .before)
 
 returns-2 : tie.Need-returns-2
 returns-2 c =
-    let n = c .before .before in
-    tells-by _ _ _ _ (laid-here (n .before .before)) (c .route-tag .ensures) (by-index _ _ _ _ (n .before .fs-idx .ensures) (n .ino .ensures) (c .before .if2 .taken))
+    let p = c .before .before .before in
+    tells-by _ _ _ _ (laid-here (p .before .before)) (c .route-tag .ensures)
+    (by-index _ _ _ _ (p .before .ino .ensures) (p .is-pseudo-fs .ensures) (c .before .before .if2 .taken) _ (c .before .fs-idx .ensures))
 
 returns-3 : tie.Need-returns-3
 unfolding routedTold
 returns-3 c =
-    let n = c .before .before in
-    tells-by _ _ _ _ (laid-here (n .before .before)) refl (by-number _ _ _ _ (n .before .fs-idx .ensures) (n .ino .ensures) (c .before .if2 .left) (c .if3 .taken))
+    let p = c .before .before in
+    tells-by _ _ _ _ (laid-here (p .before .before)) refl (by-number _ _ _ _ (p .before .ino .ensures) (p .is-pseudo-fs .ensures) (c .before .if2 .left) (c .if3 .taken))
 
 of-root-requires : tie.Need-of-root-requires
 of-root-requires c κs = laid-is _ (laid-here (c .before .before .before .before))
@@ -43,17 +44,17 @@ unfolding mountIn
 returns-4 c =
     let t = c .before .before in
     let o = t .before .before in
-    let n = o .before .before .before in
-    tells-by _ _ _ _ (laid-here (n .before .before)) (c .route-tag2 .ensures)
-    (by-root _ _ _ _ (n .before .fs-idx .ensures) (n .ino .ensures) (o .before .before .if2 .left) (o .before .if3 .left) _ (sym (ap mountIn (t .m .given .1)) ∙ o .of-root .ensures))
+    let p = o .before .before .before in
+    tells-by _ _ _ _ (laid-here (p .before .before)) (c .route-tag2 .ensures)
+    (by-root _ _ _ _ (p .before .ino .ensures) (p .is-pseudo-fs .ensures) (o .before .before .if2 .left) (o .before .if3 .left) _ (sym (ap mountIn (t .m .given .1)) ∙ o .of-root .ensures))
 
 returns-5 : tie.Need-returns-5
 unfolding routedTold mountIn
 returns-5 c =
     let o = c .before .before in
-    let n = o .before .before .before in
-    tells-by _ _ _ _ (laid-here (n .before .before)) refl
-    (by-no-root _ _ _ _ (n .before .fs-idx .ensures) (n .ino .ensures) (o .before .before .if2 .left) (sym (ap mountIn (c .enum-told .given .1)) ∙ o .of-root .ensures))
+    let p = o .before .before .before in
+    tells-by _ _ _ _ (laid-here (p .before .before)) refl
+    (by-no-root _ _ _ _ (p .before .ino .ensures) (p .is-pseudo-fs .ensures) (o .before .before .if2 .left) (sym (ap mountIn (c .enum-told .given .1)) ∙ o .of-root .ensures))
 
 pub route-spec : {M : Type 1} → statement M
 route-spec =
@@ -61,6 +62,7 @@ route-spec =
     (tie.spec
     (λ c κs. search needs)
     returns
+    (λ c κs. search needs)
     (λ c κs. search needs)
     (λ c κs. search needs)
     route-tag-requires
