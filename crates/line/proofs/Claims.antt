@@ -16,8 +16,7 @@ use Rattle.tables.specs.Rule.{laid}
 use Rattle.vfs.specs.Mounting.{mountMem}
 use Rattle.vfs.specs.Unmounting.{unmountMem}
 use Rattle.decimal.proofs.Texts.{small, large}
-use Rattle.line_calls.specs.Answered.{smallText, lineMem}
-use Rattle.line.specs.Reply.{replyText, replyMem}
+use Rattle.line_calls.specs.Answered.{smallText, lineText, lineMem}
 use Rattle.line.specs.Claims.{QuestionStill, QuestionStillBytes, NoFormQuestion, OneLine, SmallStill, OneReply}
 
 -- ---- bytes that stand in no text but `?`: no digit, no space, no `r`
@@ -114,7 +113,7 @@ end-in-small none = unfold smallText in in-question
 end-in-small (some l) = in-small 10 (λ n h e. omega arith) (λ e. omega arith) (λ e. omega arith) l
 
 pub one-line : OneLine
-unfolding replyText replyTo
+unfolding lineText
 one-line mem line = go (laid mem)
   where
     go : (t : Bool) → holds 10 (cond t (answers (view mem) (parsed line) .text) (smallText (parsed line))) ≡ false
@@ -144,7 +143,7 @@ unfolding replyTo
 question-still i line e = no-form i (parsed line) e
 
 pub question-still-bytes : QuestionStillBytes
-unfolding replyText replyTo replyMem lineMem
+unfolding lineText lineMem
 question-still-bytes mem line e =
     let n = go (laid mem) e in
     (n, ap (λ (l : Option Line). lineMem l mem) n)
@@ -154,7 +153,7 @@ question-still-bytes mem line e =
     go false f = no-form-small (parsed line) f
 
 pub no-form-question : NoFormQuestion
-unfolding replyText replyTo answers smallText
+unfolding lineText answers smallText
 no-form-question mem line e = rw e (go (laid mem))
   where
     go : (t : Bool) → cond t (ascii "?") (ascii "?") ≡ ascii "?"
@@ -172,11 +171,10 @@ small-line mem (some (walk path)) h = refl
 small-line mem (some (look x p)) h = refl
 
 pub small-still : SmallStill
-unfolding replyMem
 small-still mem line h = small-line mem (parsed line) h
 
 -- ---- one result
 
 pub one-reply : OneReply
-one-reply mem line was at r q left out after end f g =
+one-reply mem l was at r q left out after end f g =
     (f .text .end ∙ sym (g .text .end), (f .text .bytes ∙ sym (g .text .bytes), f .bytes ∙ sym (g .bytes)))

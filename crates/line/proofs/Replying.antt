@@ -12,7 +12,7 @@ use Rattle.rules.specs.Instance.{Instance}
 use Rattle.rules.specs.Outcome.{Answer, nothing, mounted, restored, unmounted, walked, rootfs, toTree, toBackend, entry, ids, wrote, settings, truth, Outcome}
 use Rattle.rules.specs.Lookup.{routeRule}
 use Rattle.rules.specs.Calls.{rule}
-use Rattle.rules.specs.Session.{Line, mount, umount, walk, look, number, routed, says, answers, parsed, replyTo}
+use Rattle.rules.specs.Session.{Line, mount, umount, walk, look, number, routed, says, answers}
 use Rattle.rules.proofs.Still.{walk-still, route-still, lookup-still}
 use Rattle.tables.specs.View.{view}
 use Rattle.tables.specs.Rule.{laid}
@@ -24,7 +24,6 @@ use Rattle.decimal.proofs.Texts.{wrote-wider}
 use Rattle.line.specs.declared.forms.Request.{Request}
 use Rattle.line.specs.declared.forms.Request.the-variants.{Numbers, Bad as BadRequest}
 use Rattle.line_calls.specs.Answered.{smallText, lineText, lineMem, Answered}
-use Rattle.line.specs.Reply.{replyText, replyMem, Replies}
 use Rattle.line.specs.Fields.{formed, requestFrom}
 use Rattle.line_text.proofs.Writes.{wrote-as}
 use Rattle.line.proofs.Verbs.{of-64}
@@ -45,7 +44,7 @@ module _ (mem was left : List ℕ) (at r : ℕ) where
   still : (l : Option Line) → lineMem l mem ≡ mem → answers (view mem) l .instance ≡ view mem → Wrote was at 45 (lineText mem l) r left → Answered mem l was at r left mem
   still l b e w = record { text = w; bytes = sym b; stands = λ (h : laid mem ≡ true). sym e; keeps = λ (h : laid mem ≡ true). h }
 
-  no-form : (l : Option Line) → l ≡ none → Wrote was at 1 (ascii "?") r left → Answered mem l was at r left mem
+  pub no-form : (l : Option Line) → l ≡ none → Wrote was at 1 (ascii "?") r left → Answered mem l was at r left mem
   unfolding lineMem answers
   no-form l e w = rw e (still none refl refl (wrote-wider (lit≤ tt) (wrote-as (question-text mem) w)))
 
@@ -88,7 +87,7 @@ abbrev mount-word : List ℕ
 mount-word = 109 ∷ 111 ∷ 117 ∷ 110 ∷ 116 ∷ []
 
 module _ (mem was left : List ℕ) (at r : ℕ) where
-  by-line : (l k : Option Line) (after : List ℕ) → k ≡ l → Answered mem l was at r left after → Answered mem k was at r left after
+  pub by-line : (l k : Option Line) (after : List ℕ) → k ≡ l → Answered mem l was at r left after → Answered mem k was at r left after
   by-line l k after e a = subst (λ (x : Option Line). Answered mem x was at r left after) (sym e) a
 
   module _ (v p : List ℕ) where
@@ -144,22 +143,3 @@ module _ (mem was left : List ℕ) (at r : ℕ) where
           → Answered mem (some (mount p x y z)) was at r left after → Answered mem (formed (v ∷ p ∷ t ∷ o ∷ m ∷ [])) was at r left after
       unfolding ascii
       mounts after b x y z h f g k a = by-line _ _ after (five-mount v p t o m h (sym f ∙ not-false b g) x y z (sym e ∙ k)) a
-
-  -- ---- the line
-
-  module _ (line : List ℕ) where
-    reply-text : (l : Option Line) → parsed line ≡ l → lineText mem l ≡ replyText mem line
-    unfolding lineText replyText replyTo
-    reply-text l e = rw e
-
-    pub replies : (l : Option Line) (after : List ℕ) → parsed line ≡ l → Answered mem l was at r left after → Replies mem line was at r left after
-    unfolding replyMem replyTo
-    replies l after e a = record {
-      text = wrote-as (reply-text l e) (a .text);
-      bytes = a .bytes ∙ ap (λ (x : Option Line). lineMem x mem) (sym e);
-      stands = λ (h : laid mem ≡ true). a .stands h ∙ ap (λ (x : Option Line). answers (view mem) x .instance) (sym e);
-      keeps = a .keeps;
-    }
-
-    pub replies-none : parsed line ≡ none → Wrote was at 1 (ascii "?") r left → Replies mem line was at r left mem
-    replies-none e w = replies none mem e (no-form mem was left at r none refl w)

@@ -2,14 +2,15 @@
 use Prim.Native.Nat.{ℕ}
 use mathlib.Core.Bool.{false}
 use mathlib.Core.List.{List}
-use mathlib.Core.Option.{none}
+use mathlib.Core.Option.{Option, none}
 use mathlib.Core.Path.{_≡_}
 use Rattle.rules.specs.Bytes.{holds, ascii}
 use Rattle.rules.specs.Instance.{Instance}
-use Rattle.rules.specs.Session.{parsed, replyTo}
+use Rattle.rules.specs.Session.{Line, parsed, replyTo}
 use Rattle.rules.specs.Whole.{lineEnd}
 use Rattle.tables.specs.Rule.{laid}
-use Rattle.line.specs.Reply.{replyText, replyMem, Replies}
+use Rattle.line_calls.specs.Answered.{Answered}
+use Rattle.line.specs.Reply.{replyText, replyMem}
 
 -- `?` is answered to lines of no form alone, and leaves the instance (R145)
 abbrev pub QuestionStill : Type 0
@@ -33,5 +34,5 @@ SmallStill = (mem line : List ℕ) → laid mem ≡ false → replyMem mem line 
 
 -- the place behind the text, the lent output and the bytes are those of one result (R164)
 abbrev pub OneReply : Type 0
-OneReply = (mem line was : List ℕ) (at r q : ℕ) (left out after end : List ℕ) → Replies mem line was at r left after → Replies mem line was at q out end
+OneReply = (mem : List ℕ) (l : Option Line) (was : List ℕ) (at r q : ℕ) (left out after end : List ℕ) → Answered mem l was at r left after → Answered mem l was at q out end
     → (r ≡ q) × ((left ≡ out) × (after ≡ end))

@@ -1,8 +1,8 @@
 // One line of a session, answered on an instance in lent bytes. The functions that lay a text ask for room in the lent output.
 ghost use Prim.Native.Nat.{_+_, _≤_, _<_};
 ghost use lib.ListN.{length};
+ghost use Rattle.rules.specs.Session.{parsed};
 ghost use Rattle.line_calls.specs.Answered.{Answered};
-ghost use Rattle.line.specs.Reply.{Replies};
 ghost use Rattle.line.specs.Fields.{Ends, Cuts, twoAt, threeAt, fiveAt};
 
 pub mod forms;
@@ -122,7 +122,7 @@ fn at_five(
 // Answers one line, given without its line end: the text is laid from the place `at` on, without a line end, and the answer is the place behind it (R137 to R152).
 pub fn answer(s: &mut [u8], line: &[u8], out: &mut [u8], at: usize) -> usize
     requires { ⌜ at + 64 ≤ length (now out) ⌝ }
-    ensures { λ r. ⌜ Replies (now (s .entry)) (now (line .entry)) (now (out .entry)) at r (now (out .exit)) (now (s .exit)) ⌝ }
+    ensures { λ r. ⌜ Answered (now (s .entry)) (parsed (now (line .entry))) (now (out .entry)) at r (now (out .exit)) (now (s .exit)) ⌝ }
 {
     match split(line) {
         Cut::Two { a } => at_two(s, line, a, out, at),

@@ -8,7 +8,8 @@ use borrow.Author.Tests.{lt-ltb, le-ltb, eq-eqb, ne-eqb}
 use Rattle.rules.specs.Bytes.{ascii}
 use Rattle.decimal.specs.Wrote.{Wrote}
 use Rattle.decimal.proofs.Texts.{wrote-more, wrote-wider}
-use Rattle.line.specs.Reply.{Replies}
+use Rattle.rules.specs.Session.{parsed, replyTo}
+use Rattle.line_calls.specs.Answered.{Answered}
 use Rattle.script.specs.Step.{endText, endNext, byteText, byteNext, byteCarry, byteKept, Ended, Took}
 
 -- nothing is written
@@ -32,9 +33,9 @@ module _ (mem carry : List ℕ) (kept : ℕ) (was : List ℕ) (at : ℕ) where
     keeps = λ l. l;
   }
 
-  pub ended-line : kept ≤ 8192 → (line : List ℕ) (r : ℕ) (mid after : List ℕ) → Replies mem line was at r mid after → line ≡ take kept carry
+  pub ended-line : kept ≤ 8192 → (line : List ℕ) (r : ℕ) (mid after : List ℕ) → Answered mem (parsed line) was at r mid after → line ≡ take kept carry
       → (q : ℕ) (left : List ℕ) → Wrote mid r 1 (10 ∷ []) q left → Ended mem carry kept was at q after left
-  unfolding endText endNext
+  unfolding endText endNext replyTo
   ended-line h line r mid after f e q left g = record {
     text = rw (le-ltb 8192 kept h, ← e) (wrote-wider (omega arith) (wrote-more (f .text) g));
     bytes = rw (le-ltb 8192 kept h, ← e) (f .bytes);

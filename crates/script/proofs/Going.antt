@@ -11,10 +11,11 @@ use lib.Seq.{sets, drop-cons, length-sets}
 use lib.Dec.{eqb, ltb}
 use borrow.Author.Tests.{lt-ltb, le-ltb, le-leb, lt-leb, eq-eqb, ne-eqb}
 use Rattle.rules.specs.Instance.{Instance}
+use Rattle.rules.specs.Session.{replyTo}
 use Rattle.tables.specs.View.{view}
 use Rattle.tables.specs.Rule.{laid}
 use Rattle.decimal.proofs.Texts.{sets-append}
-use Rattle.line.specs.Reply.{replyText}
+use Rattle.line_calls.specs.Answered.{lineText}
 use Rattle.script.specs.Step.{Answers, byBytes, byRules, endText, byteText, byteKept, Ended, Took}
 use Rattle.script.specs.Feed.{Going, start, step, fed, accepts, goes, went, viewed, Feeds, lastText, lastNext, finishes, Finishes}
 use Rattle.script.proofs.Carry.{length-carry, accepts-true, accepts-short, accepts-many}
@@ -29,7 +30,7 @@ here S s carry kept used text = record { state = s; carry = carry; kept = kept; 
 -- ---- on bytes that keep the layout rule the texts are those of the rules
 
 same-reply : (mem line : List ℕ) → laid mem ≡ true → byBytes .text mem line ≡ byRules .text (view mem) line
-unfolding replyText
+unfolding lineText replyTo
 same-reply mem line l = rw l
 
 pub same-end : (mem carry : List ℕ) (kept : ℕ) → laid mem ≡ true → endText (List ℕ) byBytes mem carry kept ≡ endText Instance byRules (view mem) carry kept

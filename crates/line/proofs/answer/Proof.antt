@@ -2,7 +2,7 @@
 use borrow.Author.Needs.{needs}
 use native.Mathlib.Omega.{arith}
 use Rattle.line.proofs.Cutting.{of-two, of-three, of-five, of-other}
-use Rattle.line.proofs.Replying.{replies, replies-none}
+use Rattle.line.proofs.Replying.{by-line, no-form}
 use Rattle.line.proofs.answer.Statement.{statement}
 use Rattle.line.proofs.answer.Tie as tie
 
@@ -48,7 +48,7 @@ same-length-2 c = search needs
 returns : tie.Need-returns
 returns c =
     let h = of-two _ _ (c .before .before .before .before .before .before .before .before .before .before .split .ensures) _ (c .before .before .before .before .before .before .before .before .a .given .1) in
-    replies _ _ _ _ _ _ _ _ (h .1) (c .before .before .before .before .at-two .ensures)
+    by-line _ _ _ _ _ _ _ _ (h .1) (c .before .before .before .before .at-two .ensures)
 
 same-length-3 : tie.Need-same-length-3
 same-length-3 c = search needs
@@ -59,7 +59,7 @@ same-length-4 c = search needs
 returns-2 : tie.Need-returns-2
 returns-2 c =
     let h = of-three _ _ (c .before .before .before .before .before .before .before .before .before .before .split .ensures) _ _ (c .before .before .before .before .before .before .before .before .a2 .given .1) in
-    replies _ _ _ _ _ _ _ _ (h .1 .1) (c .before .before .before .before .at-three .ensures)
+    by-line _ _ _ _ _ _ _ _ (h .1 .1) (c .before .before .before .before .at-three .ensures)
 
 same-length-5 : tie.Need-same-length-5
 same-length-5 c = search needs
@@ -70,7 +70,7 @@ same-length-6 c = search needs
 returns-3 : tie.Need-returns-3
 returns-3 c =
     let h = of-five _ _ (c .before .before .before .before .before .before .before .before .before .before .split .ensures) _ _ _ _ (c .before .before .before .before .before .before .before .before .a3 .given .1) in
-    replies _ _ _ _ _ _ _ _ (h .1 .1 .1 .1) (c .before .before .before .before .at-five .ensures)
+    by-line _ _ _ _ _ _ _ _ (h .1 .1 .1 .1) (c .before .before .before .before .at-five .ensures)
 
 same-length-7 : tie.Need-same-length-7
 same-length-7 c = search needs
@@ -78,7 +78,7 @@ same-length-7 c = search needs
 returns-4 : tie.Need-returns-4
 returns-4 c =
     let h = of-other _ _ (c .before .before .before .before .before .before .split .ensures) (c .before .before .before .before .enum-told .given .1) in
-    replies-none _ _ _ _ _ _ h (c .before .before .put-question .ensures)
+    no-form _ _ _ _ _ _ h (c .before .before .put-question .ensures)
 
 pub answer-spec : {M : Type 1} → statement M
 answer-spec =
