@@ -4,6 +4,7 @@ use mathlib.Core.Bool.{Bool, true, false}
 use mathlib.Core.List.{List, [], _∷_}
 use mathlib.Core.Option.{Option, none, some}
 use lib.ListN.{getD}
+use Rattle.rules.specs.Numbers.{orZero}
 use Rattle.rules.specs.Outcome.{Answer, nothing, mounted, restored, unmounted, walked, rootfs, toTree, toBackend, entry, ids, wrote, settings, truth}
 use Rattle.tables.specs.Call.{Told}
 use Rattle.flat.specs.declared.CodeAnswer.{CodeAnswer}
@@ -26,11 +27,6 @@ use Rattle.flat.specs.declared.InodeAnswer.{InodeAnswer}
 abbrev pub has : Option ℕ → ℕ
 has none = 0
 has (some x) = 1
-
--- the value, or 0 (R16)
-abbrev pub orZero : Option ℕ → ℕ
-orZero none = 0
-orZero (some x) = x
 
 -- 1 or 0
 abbrev pub truthNumber : Bool → ℕ

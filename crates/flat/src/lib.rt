@@ -1,5 +1,6 @@
 // The answers of the calls as structs of plain numbers, for C: an enum does not cross, its numbers do. A refusal has zeros in every field but the count (R16).
 ghost use mathlib.Core.Path.{_≡_};
+ghost use Rattle.rules.specs.Numbers.{orZero};
 ghost use Rattle.inode.specs.Converted.{codeOf, fullOf};
 ghost use Rattle.path.specs.Checks.{code};
 ghost use Rattle.tables.specs.Answer.{tagIn};
@@ -13,7 +14,7 @@ ghost use Rattle.vfs.specs.Restoring.{restoredTold};
 ghost use Rattle.vfs.specs.Unmounting.{unmountedTold};
 ghost use Rattle.persist.specs.Saving.{savedTold};
 ghost use Rattle.persist.specs.Restoring.{stateTold};
-ghost use Rattle.flat.specs.Flat.{has, orZero, truthNumber, refusal, codeNumber, codeNumbers, initializedNumbers, optionsNumbers, mountNumbers, restoreMountNumbers, umountNumbers, rootfsNumbers, walkNumbers, routeNumbers, lookupNumbers, wroteNumbers, idsNumbers, inodeNumbers};
+ghost use Rattle.flat.specs.Flat.{has, truthNumber, refusal, codeNumber, codeNumbers, initializedNumbers, optionsNumbers, mountNumbers, restoreMountNumbers, umountNumbers, rootfsNumbers, walkNumbers, routeNumbers, lookupNumbers, wroteNumbers, idsNumbers, inodeNumbers};
 use inode::Converted;
 use listing::Listed;
 use path::names::Checked;

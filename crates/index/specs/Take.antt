@@ -4,6 +4,7 @@ use mathlib.Core.Path.{_≡_}
 use mathlib.Core.Option.{Option, none, some}
 use mathlib.Core.List.{List}
 use lib.ListN.{set}
+use Rattle.rules.specs.Numbers.{orZero}
 use Rattle.rules.specs.Round.{allocate}
 use Rattle.index.specs.Slots.{heldIn}
 use Rattle.index.specs.Search.{Told, told}
@@ -19,20 +20,15 @@ pub record Taken : Type 0 where
   pub step : Step
   pub table : FsIndexes
 
--- the index that is answered: 0 where none is found
-abbrev pub indexFor : Option ℕ → ℕ
-indexFor (some i) = i
-indexFor none = 0
-
 -- a column of the slots with a value at the index found; where none is found it is as it was
 abbrev pub putAt : Option ℕ → List ℕ → ℕ → List ℕ
 putAt (some i) column v = set column i v
 putAt none column v = column
 
--- the slot found is held, with the tag (R90)
+-- the slot found is held, with the tag; the index answered is 0 where none is found (R90)
 abbrev pub takenOf : FsIndexes → ℕ → Told → Taken
 takenOf t tag a = record {
-  step = record { code = a .code; index = indexFor (a .found); count = a .count };
+  step = record { code = a .code; index = orZero (a .found); count = a .count };
   table = tableOf (putAt (a .found) (t .used) 1) (putAt (a .found) (t .tags) tag) (a .counter);
 }
 

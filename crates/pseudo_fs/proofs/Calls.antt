@@ -6,7 +6,7 @@ use mathlib.Core.Option.{none}
 use Prim.Native.Nat.{ℕ, _^_, _<_}
 use native.Mathlib.Omega.{arith}
 use borrow.Author.Tests.{le-ltb}
-use Rattle.rules.specs.Numbers.{maxIno, convert, dirMode, blockSize}
+use Rattle.rules.specs.Numbers.{maxIno, orZero, convert, dirMode, blockSize}
 use Rattle.rules.specs.Utf8.{wellFormed}
 use Rattle.rules.specs.Path.{components, rooted}
 use Rattle.rules.specs.Ids.{Mapping, badMapping, wrapped}
@@ -38,7 +38,7 @@ use Rattle.pseudo_fs.specs.declared.inner.Finding.{Finding}
 use Rattle.pseudo_fs.specs.declared.inner.Finding.the-variants.{Node as FindingNode, NoEnt, Inval}
 use Rattle.pseudo_fs.specs.Walks.{walkedOf, Walks}
 use Rattle.pseudo_fs.specs.Finds.{outcomeOf, Finds}
-use Rattle.pseudo_fs.specs.Told.{faultOf, tells, pathWalkTold, entryAnswer, lookedTold, orZero, pseudoAnswer}
+use Rattle.pseudo_fs.specs.Told.{faultOf, tells, pathWalkTold, entryAnswer, lookedTold, pseudoAnswer}
 use Rattle.pseudo_fs.proofs.Finds.{found-low}
 
 -- ---- the first fault of a path

@@ -2,8 +2,8 @@
 use Prim.Native.Nat.{ℕ}
 use mathlib.Core.Bool.{not}
 use mathlib.Core.List.{List, [], _∷_}
-use mathlib.Core.Option.{Option, none, some}
-use Rattle.rules.specs.Numbers.{dirMode, blockSize, convert, DONE, NOENT, INVAL}
+use mathlib.Core.Option.{none, some}
+use Rattle.rules.specs.Numbers.{dirMode, blockSize, orZero, convert, DONE, NOENT, INVAL}
 use Rattle.rules.specs.Utf8.{wellFormed}
 use Rattle.rules.specs.Path.{rooted}
 use Rattle.rules.specs.Ids.{Mapping, wrapped}
@@ -50,11 +50,6 @@ lookedTold LookedInval = refuses INVAL
 lookedTold LookedSmall = toldSmall
 
 -- ---- the pseudo entry
-
--- a number, or 0
-abbrev pub orZero : Option ℕ → ℕ
-orZero none = 0
-orZero (some x) = x
 
 -- of any number and any mapping (R7, R13, R117)
 unfoldable pub pseudoAnswer : Mapping → ℕ → Answer

@@ -20,14 +20,14 @@ use tables::rows::parent_of;
 use utf8::is_plain;
 use utf8::is_utf8;
 ghost use mathlib.Core.Path.{_≡_};
-ghost use Rattle.rules.specs.Numbers.{convert};
+ghost use Rattle.rules.specs.Numbers.{orZero, convert};
 ghost use Rattle.rules.specs.Path.{components};
 ghost use Rattle.rules.specs.Tree.{childIn};
 ghost use Rattle.tables.specs.View.{mappingFrom, headOf, nodesOf};
 ghost use Rattle.tables.specs.Rule.{Laid};
 ghost use Rattle.pseudo_fs.specs.Walks.{Walks};
 ghost use Rattle.pseudo_fs.specs.Finds.{findingOf, Finds};
-ghost use Rattle.pseudo_fs.specs.Told.{orZero, entryAnswer, pseudoAnswer};
+ghost use Rattle.pseudo_fs.specs.Told.{entryAnswer, pseudoAnswer};
 
 // The node where a walk ends, or the place in the path of the first name that is missing.
 pub enum Walked {

@@ -40,6 +40,11 @@ blockSize = 4096
 abbrev pub storageFor : ℕ → ℕ
 storageFor n = 512 * n + 8192
 
+-- a number, or 0 where there is none (R16)
+abbrev pub orZero : Option ℕ → ℕ
+orZero none = 0
+orZero (some x) = x
+
 -- ---- full inode numbers
 
 -- index × 2^56 + number (R6); number 0 gives 0 for every index (R7, R14)

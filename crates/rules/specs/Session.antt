@@ -5,7 +5,7 @@ use mathlib.Core.List.{List, [], _∷_, _++_}
 use mathlib.Core.Option.{Option, none, some}
 use lib.ListN.{length}
 use lib.Dec.{leb, ltb}
-use Rattle.rules.specs.Numbers.{dirMode}
+use Rattle.rules.specs.Numbers.{dirMode, orZero}
 use Rattle.rules.specs.Bytes.{same, ascii}
 use Rattle.rules.specs.Path.{partsBy}
 use Rattle.rules.specs.Tree.{onward}
@@ -106,12 +106,7 @@ pub record Reply : Type 0 where
   pub text : List ℕ
   pub instance : Instance
 
--- a missing name is 0 (R140)
-abbrev pub orZero : Option ℕ → ℕ
-orZero none = 0
-orZero (some x) = x
-
--- the values of an answer that a line shows, the first at place 0; a refusal has none (R138 to R141)
+-- the values of an answer that a line shows, the first at place 0; a missing name is 0, and a refusal has none (R138 to R141)
 unfoldable pub values : Answer → List ℕ
 values nothing = []
 values (mounted k t) = k ∷ []

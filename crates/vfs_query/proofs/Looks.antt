@@ -6,7 +6,7 @@ use mathlib.Core.Option.{none, some}
 use Prim.Native.Nat.{ℕ, _^_, _<_}
 use native.Mathlib.Omega.{arith}
 use borrow.Author.Tests.{le-ltb}
-use Rattle.rules.specs.Numbers.{maxIno, convert}
+use Rattle.rules.specs.Numbers.{maxIno, orZero, convert}
 use Rattle.rules.specs.Tree.{Mount}
 use Rattle.rules.specs.Instance.{Instance, mountOf}
 use Rattle.rules.specs.Outcome.{Answer, Outcome, says}
@@ -23,7 +23,7 @@ use Rattle.pseudo_fs.specs.declared.Looked.the-variants.{Entry as LookedEntry, 
 use Rattle.pseudo_fs.specs.declared.inner.Finding.{Finding}
 use Rattle.pseudo_fs.specs.declared.inner.Finding.the-variants.{Node as FindingNode, NoEnt, Inval}
 use Rattle.pseudo_fs.specs.Finds.{outcomeOf, Finds}
-use Rattle.pseudo_fs.specs.Told.{tells, entryAnswer, lookedTold, orZero, pseudoAnswer}
+use Rattle.pseudo_fs.specs.Told.{tells, entryAnswer, lookedTold, pseudoAnswer}
 use Rattle.pseudo_fs.proofs.Finds.{found-low}
 use Rattle.pseudo_fs.proofs.Calls.{pseudo-is}
 use Rattle.vfs_query.specs.Told.{rootAnswer}

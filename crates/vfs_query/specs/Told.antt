@@ -1,12 +1,12 @@
 -- What the answers of the calls tell, by number and values; and the root entry as the code makes it.
 use mathlib.Core.Option.{none, some}
-use Rattle.rules.specs.Numbers.{convert, NOENT, INVAL, NOTFOUND}
+use Rattle.rules.specs.Numbers.{orZero, convert, NOENT, INVAL, NOTFOUND}
 use Rattle.rules.specs.Tree.{Mount}
 use Rattle.rules.specs.Instance.{Instance}
 use Rattle.rules.specs.Lookup.{twice}
 use Rattle.rules.specs.Outcome.{Answer, rootfs, toTree, toBackend, entry, ids}
 use Rattle.tables.specs.Call.{Told, toldSmall}
-use Rattle.pseudo_fs.specs.Told.{tells, refuses, orZero}
+use Rattle.pseudo_fs.specs.Told.{tells, refuses}
 use Rattle.vfs_query.specs.declared.Routed.{Routed}
 use Rattle.vfs_query.specs.declared.Routed.the-variants.{Tree, Backend as RoutedBackend, NoEnt as RoutedNoEnt, Small as RoutedSmall}
 use Rattle.vfs_query.specs.declared.Rootfs.{Rootfs}

@@ -21,7 +21,7 @@ use tables::slots::tag_of;
 use utf8::is_utf8;
 ghost use mathlib.Core.Path.{_≡_};
 ghost use mathlib.Core.Bool.{true};
-ghost use Rattle.rules.specs.Numbers.{convert};
+ghost use Rattle.rules.specs.Numbers.{orZero, convert};
 ghost use Rattle.rules.specs.Instance.{Instance, tagOf};
 ghost use Rattle.rules.specs.Lookup.{routeTag, routeRule, lookupRule, remapped, remapRule};
 ghost use Rattle.rules.specs.Unmount.{rootHeld, rootRule};
@@ -29,7 +29,7 @@ ghost use Rattle.tables.specs.View.{view};
 ghost use Rattle.tables.specs.Rule.{laid};
 ghost use Rattle.tables.specs.Call.{toldBy, answeredBy};
 ghost use Rattle.tables.specs.Answer.{mountOfPoint};
-ghost use Rattle.pseudo_fs.specs.Told.{entryAnswer, lookedTold, orZero};
+ghost use Rattle.pseudo_fs.specs.Told.{entryAnswer, lookedTold};
 ghost use Rattle.vfs_query.specs.Told.{routedTold, rootfsTold, remappedTold, rootAnswer};
 
 // Where a full number goes: to the tree, or to a backend.

@@ -1,7 +1,7 @@
 -- A conversion's full number, or 0.
 use mathlib.Core.Path.{sym, ap, _∙_}
 use Rattle.inode.specs.Converted.{fullOf}
-use Rattle.pseudo_fs.specs.Told.{orZero}
+use Rattle.rules.specs.Numbers.{orZero}
 use borrow.Author.Needs.{needs}
 use Rattle.vfs_query.proofs.full_number.Statement.{statement}
 use Rattle.vfs_query.proofs.full_number.Tie as tie
