@@ -13,13 +13,12 @@ use Rattle.rules.specs.Mount.{Request}
 use Rattle.tables.specs.Call.{Told, answeredBy, writtenBy, Does}
 use Rattle.inode.specs.Converted.{codeOf, fullOf, Converts}
 use Rattle.inode.specs.declared.Converted.{Converted}
-use Rattle.storage.specs.Creation.{createdCode, Creates}
-use Rattle.storage.specs.declared.Created.{Created}
+use Rattle.storage.specs.Creation.{Creates}
 use Rattle.flat.specs.Flat.{codeNumber, wroteNumbers, inodeNumbers}
 use Rattle.flat.specs.declared.CodeAnswer.{CodeAnswer}
 use Rattle.flat.specs.declared.WroteAnswer.{WroteAnswer}
 use Rattle.flat.specs.declared.InodeAnswer.{InodeAnswer}
-use Rattle.gateway.specs.Calls.{CreatesBy, DoesBy, WritesBy}
+use Rattle.gateway.specs.Calls.{DoesBy, WritesBy}
 
 -- the numbers of what is told are the numbers of what the rule tells
 pub by-told : {A B : Type 0} (numbers : B → A) (r : A) (t u : B) → r ≡ numbers t → t ≡ u → r ≡ numbers u
@@ -40,19 +39,8 @@ pub writes-by : (mem : List ℕ) (f : Instance → Outcome) (d : List ℕ) (t : 
     → r ≡ wroteNumbers t → t ≡ answeredBy mem f → e ≡ write d 0 (writtenBy mem f) → WritesBy mem f d r e
 writes-by mem f d t r e h told bytes = record { answer = by-told wroteNumbers r t (answeredBy mem f) h told; bytes = bytes }
 
-pub creates-by : (mem : List ℕ) (q : Creation) (a : Created) (r : CodeAnswer) (after : List ℕ) → r ≡ codeNumber (createdCode a) → Creates mem q a after → CreatesBy mem q r after
-creates-by mem q a r after e d =
-    record {
-      answer = by-told codeNumber r (createdCode a) _ e (d .answer);
-      bytes = d .bytes;
-      keeps = λ h. d .keeps (done h);
-      stands = λ h. d .stands (done h);
-      slots = λ h. d .slots (done h);
-      counter = λ h. d .counter (done h);
-    }
-  where
-    done : r .code ≡ DONE → createdCode a ≡ DONE
-    done h = rw e at h
+pub creates-by : (mem : List ℕ) (q : Creation) (code : ℕ) (r : CodeAnswer) (after : List ℕ) → r ≡ codeNumber code → Creates mem q code after → Creates mem q (r .code) after
+creates-by mem q code r after e d = rw e d
 
 pub converts-by : (index number : ℕ) (a : Converted) (r : InodeAnswer) → r ≡ inodeNumbers (codeOf a) (fullOf a) → Converts index number a
     → r ≡ inodeNumbers (cond (ltb maxIno number) INODE DONE) (convert index number)

@@ -1,23 +1,18 @@
 -- What an export answers and leaves: the contract of the call that it wraps, with the answer by its plain numbers.
-use Prim.Native.Nat.{ℕ, _<_}
+use Prim.Native.Nat.{ℕ}
 use mathlib.Core.Path.{_≡_}
-use mathlib.Core.Bool.{true, cond}
+use mathlib.Core.Bool.{true}
 use mathlib.Core.List.{List}
-use lib.ListN.{length, getD}
-use lib.Dec.{eqb}
 use Rattle.le.specs.Mem.{write}
-use Rattle.rules.specs.Numbers.{DONE}
 use Rattle.rules.specs.Ids.{Mapping}
-use Rattle.rules.specs.Instance.{Instance, heldBy, emptySlot, counterOf}
+use Rattle.rules.specs.Instance.{Instance}
 use Rattle.rules.specs.Outcome.{Outcome}
-use Rattle.rules.specs.Create.{Creation, newInstance, createRule}
+use Rattle.rules.specs.Create.{Creation}
 use Rattle.rules.specs.Mount.{Request}
 use Rattle.tables.specs.View.{view}
 use Rattle.tables.specs.Rule.{laid}
 use Rattle.tables.specs.Call.{Told, answeredBy, writtenBy}
-use Rattle.storage.specs.Creation.{createMem}
-use Rattle.flat.specs.Flat.{codeNumber, wroteNumbers}
-use Rattle.flat.specs.declared.CodeAnswer.{CodeAnswer}
+use Rattle.flat.specs.Flat.{wroteNumbers}
 use Rattle.flat.specs.declared.WroteAnswer.{WroteAnswer}
 
 -- ---- what the numbers ask for
@@ -37,16 +32,6 @@ requestBy path tag root largest uid gid mode =
     record { path = path; tag = tag; root = root; largest = largest; uid = uid; gid = gid; mode = mode }
 
 -- ---- contracts
-
--- of creation: the number by the rule; the bytes exactly, as they were where it is refused; where it is done they keep the layout rule and stand for the
--- new instance, with each of the 256 slots empty and counter 1
-pub record CreatesBy (mem : List ℕ) (q : Creation) (r : CodeAnswer) (after : List ℕ) : Type 0 where
-  pub answer : r ≡ codeNumber (createRule (length mem) q .code)
-  pub bytes : after ≡ cond (eqb (createRule (length mem) q .code) DONE) (createMem q mem) mem
-  pub keeps : r .code ≡ DONE → laid after ≡ true
-  pub stands : r .code ≡ DONE → view after ≡ newInstance q
-  pub slots : r .code ≡ DONE → (k : ℕ) → k < 256 → getD (view after .indexes .slots) k (heldBy 0) ≡ emptySlot
-  pub counter : r .code ≡ DONE → counterOf (view after) ≡ 1
 
 -- of a call that changes the instance: the numbers of the rule's answer; the bytes exactly; they stand for what the rule leaves, and keep the layout rule
 pub record DoesBy {A : Type 0} (numbers : Told → A) (mem : List ℕ) (f : Instance → Outcome) (r : A) (after exact : List ℕ) : Type 0 where

@@ -8,8 +8,9 @@ ghost use Rattle.tables.specs.Rule.{laid};
 ghost use Rattle.tables.specs.Write.{setRemoval};
 ghost use Rattle.tables.specs.Call.{answeredBy};
 ghost use Rattle.storage.specs.Answers.{removeCall, initializedCall, optionsCall};
+ghost use Rattle.storage.specs.Creation.{Creates};
 ghost use Rattle.flat.specs.Flat.{codeNumbers, initializedNumbers, optionsNumbers, idsNumbers};
-ghost use Rattle.gateway.specs.Calls.{creationBy, CreatesBy, DoesBy};
+ghost use Rattle.gateway.specs.Calls.{creationBy, DoesBy};
 use flat::CodeAnswer;
 use flat::IdsAnswer;
 use flat::InitializedAnswer;
@@ -29,7 +30,7 @@ pub extern "C" fn galdovar_create(
     external: u32,
     range: u32,
 ) -> CodeAnswer
-    ensures { λ r. ⌜ CreatesBy (now (storage .entry)) (creationBy n known «in_opts» «out_opts» flags internal external range) r (now (storage .exit)) ⌝ }
+    ensures { λ r. ⌜ Creates (now (storage .entry)) (creationBy n known «in_opts» «out_opts» flags internal external range) (r .code) (now (storage .exit)) ⌝ }
 {
     let mapping = IdMapping {
         internal,

@@ -6,7 +6,6 @@ use Rattle.rules.specs.Ids.{badMapping}
 use Rattle.rules.specs.Outcome.{firstOf}
 use Rattle.rules.specs.Create.{tooSmall, outside, unknown, badOptions, createRule}
 use Rattle.rules.specs.Whole.{session}
-use Rattle.storage.specs.Creation.{createdCode}
 use Rattle.script.specs.Runs.{WholeOf}
 use Rattle.script.specs.Fresh.{fresh, EverySession}
 use Rattle.script.proofs.Runs.{every-cutting}
@@ -16,7 +15,7 @@ unfolding createRule firstOf tooSmall badOptions unknown outside badMapping
 created bytes e = rw e
 
 pub every-session : EverySession
-every-session input before mem carry r ss f e c run =
-    let done : createdCode r ≡ 0 = c .answer ∙ created (length before) e in
+every-session input before mem carry code ss f e c run =
+    let done : code ≡ 0 = c .answer ∙ created (length before) e in
     let w : WholeOf input mem ss f = every-cutting input mem carry ss f (c .keeps done) run in
     w .text ∙ (λ j. session (c .stands done j) input .text)

@@ -20,9 +20,7 @@ use Rattle.tables.specs.Rule.{laid}
 use Rattle.tables.specs.Write.{putHeader}
 use Rattle.storage.specs.Header.{spell, headerOf}
 use Rattle.storage.specs.Limits.{MappingFits, SlotsFit, Limits}
-use Rattle.storage.specs.Creation.{creationOf, createdCode, emptySlots, createMem, Creates}
-use Rattle.storage.specs.declared.Created.{Created}
-use Rattle.storage.specs.declared.Created.the-variants.{Done}
+use Rattle.storage.specs.Creation.{creationOf, emptySlots, createMem, Creates}
 use Rattle.storage.proofs.Header.{view-headed, laid-headed}
 use Rattle.storage.proofs.Refusals.{large-enough}
 use Rattle.storage.proofs.Slots.{length-slots, slots-empty}
@@ -112,8 +110,8 @@ module _ (q : Creation) (mem : List ℕ) where
 
   -- ---- the contract
 
-  pub refused : (r : Created) (n : ℕ) → createdCode r ≡ suc n → createRule (length mem) q .code ≡ suc n → Creates mem q r mem
-  refused r n a e = record {
+  pub refused : (code n : ℕ) → code ≡ suc n → createRule (length mem) q .code ≡ suc n → Creates mem q code mem
+  refused code n a e = record {
     answer = a ∙ sym e;
     bytes = rw (e, ne-eqb (suc n) DONE (λ z. omega arith));
     keeps = λ z. absurd (omega arith);
@@ -122,8 +120,8 @@ module _ (q : Creation) (mem : List ℕ) where
     counter = λ z. absurd (omega arith);
   }
 
-  pub done : (after : List ℕ) → createRule (length mem) q .code ≡ DONE → after ≡ createMem q mem → Limits (newInstance q) → storageFor (q .capacity) ≤ length mem → Creates mem q Done after
-  unfolding createdCode newInstance
+  pub done : (after : List ℕ) → createRule (length mem) q .code ≡ DONE → after ≡ createMem q mem → Limits (newInstance q) → storageFor (q .capacity) ≤ length mem → Creates mem q DONE after
+  unfolding newInstance
   done after e p l b =
       let v : view after ≡ newInstance q = ap view p ∙ view-created l b in
       record {

@@ -45,10 +45,10 @@ createMem q mem = putHeader 0 (spell header (headerOf (newInstance q))) (emptySl
 
 -- the answer's number by the rule; the bytes exactly, as they were where it is refused; where it is done they keep the layout rule and stand for the new
 -- instance, whatever they held, and in particular each of the 256 slots is there and empty (past the end a held one would be read) and the counter is 1
-pub record Creates (mem : List ℕ) (q : Creation) (r : Created) (after : List ℕ) : Type 0 where
-  pub answer : createdCode r ≡ createRule (length mem) q .code
+pub record Creates (mem : List ℕ) (q : Creation) (code : ℕ) (after : List ℕ) : Type 0 where
+  pub answer : code ≡ createRule (length mem) q .code
   pub bytes : after ≡ cond (eqb (createRule (length mem) q .code) DONE) (createMem q mem) mem
-  pub keeps : createdCode r ≡ DONE → laid after ≡ true
-  pub stands : createdCode r ≡ DONE → view after ≡ newInstance q
-  pub slots : createdCode r ≡ DONE → (k : ℕ) → k < 256 → getD (view after .indexes .slots) k (heldBy 0) ≡ emptySlot
-  pub counter : createdCode r ≡ DONE → counterOf (view after) ≡ 1
+  pub keeps : code ≡ DONE → laid after ≡ true
+  pub stands : code ≡ DONE → view after ≡ newInstance q
+  pub slots : code ≡ DONE → (k : ℕ) → k < 256 → getD (view after .indexes .slots) k (heldBy 0) ≡ emptySlot
+  pub counter : code ≡ DONE → counterOf (view after) ≡ 1

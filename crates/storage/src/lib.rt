@@ -11,7 +11,7 @@ ghost use Rattle.tables.specs.Rule.{laid};
 ghost use Rattle.tables.specs.Write.{putHeader, setRemoval};
 ghost use Rattle.tables.specs.Call.{answeredBy, Does};
 ghost use Rattle.storage.specs.Laid.{settingsFit};
-ghost use Rattle.storage.specs.Creation.{creationOf, tagBytes, emptySlots, createMem, Creates};
+ghost use Rattle.storage.specs.Creation.{creationOf, createdCode, tagBytes, emptySlots, createMem, Creates};
 ghost use Rattle.storage.specs.Answers.{removalTold, removeCall, initializedTold, initializedCall, optionsTold, optionsCall};
 
 pub mod inner;
@@ -206,7 +206,7 @@ pub fn create(
     flags: u8,
     mapping: id_map::IdMapping,
 ) -> Created
-    ensures { λ r. ⌜ Creates (now (s .entry)) (creationOf n known «in_opts» «out_opts» flags mapping) r (now (s .exit)) ⌝ }
+    ensures { λ r. ⌜ Creates (now (s .entry)) (creationOf n known «in_opts» «out_opts» flags mapping) (createdCode r) (now (s .exit)) ⌝ }
 {
     if is_small(s.len(), n) {
         return Created::Small;

@@ -28,6 +28,7 @@ put-new-requires : tie.Need-put-new-requires
 put-new-requires c κs = let l = large-enough _ _ (sym (c .before .before .before .before .before .before .before .is-small .ensures) ∙ c .before .before .before .before .before .before .if1 .left) in search needs
 
 returns-5 : tie.Need-returns-5
+unfolding createdCode
 returns-5 c =
     let s = c .before .before .before .before .before .before .before .before .before .before .before .before .args .s .now in
     let e = sym (c .before .before .before .before .before .before .before .before .before .before .is-small .ensures) ∙ c .before .before .before .before .before .before .before .before .before .if1 .left in
