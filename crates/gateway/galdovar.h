@@ -15,7 +15,7 @@
  * root counted, N from 1 to 1024 (R9, R20). They need no alignment and hold no address: they may be copied, kept, and lent
  * again from another place. Bytes behind that size are never read and never written (R23).
  *
- * Answers. Every answer has `code`, a number of the table below. Where it is not 0 the call is refused: every other field is
+ * Answers. Every answer that is a struct has `code`, a number of the table below. Where it is not 0 the call is refused: every other field is
  * 0 but `count`, and lent output is as it was (R16, R17). "None" is told from 0 by a field of its own, named has_.. or
  * to_backend, which is 1 or 0. No call needs anything of the numbers or bytes that it is given: each gets an answer (R4).
  */
@@ -181,8 +181,10 @@ GaldovarCodeAnswer galdovar_create(uint8_t *storage, size_t storage_len, size_t 
 /* From now on an unmount takes its node out of the tree; nothing unsets it (R32). */
 GaldovarCodeAnswer galdovar_set_remove_pseudo_root(uint8_t *storage, size_t storage_len);
 
+/* Whether the instance is initialized: not before a restore, and then if its in_opts is not 0 (R33, R134). */
 GaldovarInitializedAnswer galdovar_initialized(const uint8_t *storage, size_t storage_len);
 
+/* The options of creation, or of the last restore (R27, R34). */
 GaldovarOptionsAnswer galdovar_options(const uint8_t *storage, size_t storage_len);
 
 /* uid and gid by the mapping in force: outwards where outward is not 0, back where it is 0 (R113, R114, R118). */
@@ -196,15 +198,18 @@ GaldovarMountAnswer galdovar_mount(uint8_t *storage, size_t storage_len, const u
 /* The same at an index that is given; the counter stays (R91 to R95). */
 GaldovarRestoreMountAnswer galdovar_restore_mount(uint8_t *storage, size_t storage_len, uint8_t fs_idx, const uint8_t *path, size_t path_len, uint32_t tag, uint64_t root, uint64_t max, uint32_t uid, uint32_t gid, uint32_t mode);
 
+/* Takes the mount off the node that the path leads to, and frees its index: INVAL, NOTFOUND or done (R96 to R100). */
 GaldovarUmountAnswer galdovar_umount(uint8_t *storage, size_t storage_len, const uint8_t *path, size_t path_len);
 
+/* The backend mounted where the path leads, or none: INVAL, NOTFOUND where its slot is empty, or done (R103, R104). */
 GaldovarRootfsAnswer galdovar_get_rootfs(const uint8_t *storage, size_t storage_len, const uint8_t *path, size_t path_len);
 
-/* inode: a full inode number. */
+/* Where a full inode number goes: to the tree, to a backend, or NOENT (R105 to R107). */
 GaldovarRouteAnswer galdovar_route(const uint8_t *storage, size_t storage_len, uint64_t inode);
 
 /* ---- the tree */
 
+/* The node that the path leads to, from the root, or none; INVAL for a bad path (R36, R46, R47). */
 GaldovarWalkAnswer galdovar_path_walk(const uint8_t *storage, size_t storage_len, const uint8_t *path, size_t path_len);
 
 /* By a name in a directory, across mounts. parent: a node's number, not a full number (R60). */
