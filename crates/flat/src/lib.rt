@@ -190,7 +190,7 @@ fn number_of(b: bool) -> u32
     if b { 1 } else { 0 }
 }
 
-// Of a creation (R26).
+// What a creation answers, as its number (R26).
 pub fn created(a: Created) -> CodeAnswer
     ensures { λ r. ⌜ r ≡ codeNumber (createdCode a) ⌝ }
 {
@@ -202,7 +202,7 @@ pub fn created(a: Created) -> CodeAnswer
     }
 }
 
-// Of the setting of `remove_pseudo_root` (R32).
+// What the setting of `remove_pseudo_root` answers, as its number (R32).
 pub fn removal(a: Removal) -> CodeAnswer
     ensures { λ r. ⌜ r ≡ codeNumbers (removalTold a) ⌝ }
 {
@@ -212,7 +212,7 @@ pub fn removal(a: Removal) -> CodeAnswer
     }
 }
 
-// Of the query of `initialized` (R33).
+// What the query of `initialized` answers, as numbers (R33).
 pub fn initialized(a: IsInitialized) -> InitializedAnswer
     ensures { λ r. ⌜ r ≡ initializedNumbers (initializedTold a) ⌝ }
 {
@@ -228,7 +228,7 @@ pub fn initialized(a: IsInitialized) -> InitializedAnswer
     }
 }
 
-// Of the query of the options (R27, R34).
+// What the query of the options answers, as numbers (R27, R34).
 pub fn options(a: OptionsOf) -> OptionsAnswer
     ensures { λ r. ⌜ r ≡ optionsNumbers (optionsTold a) ⌝ }
 {
@@ -270,7 +270,7 @@ fn no_mount(code: u32, count: u32) -> MountAnswer
     }
 }
 
-// Of a mount (R68 to R79).
+// What a mount answers, as numbers (R68 to R79).
 pub fn mounted(a: Mounted) -> MountAnswer
     ensures { λ r. ⌜ r ≡ mountNumbers (mountedTold a) ⌝ }
 {
@@ -308,7 +308,7 @@ fn no_restored_mount(code: u32) -> RestoreMountAnswer
     }
 }
 
-// Of a restored mount (R91 to R95).
+// What a restored mount answers, as numbers (R91 to R95).
 pub fn restored_mount(a: Restored) -> RestoreMountAnswer
     ensures { λ r. ⌜ r ≡ restoreMountNumbers (restoredTold a) ⌝ }
 {
@@ -345,7 +345,7 @@ fn no_umount(code: u32) -> UmountAnswer
     }
 }
 
-// Of an unmount (R96, R97).
+// What an unmount answers, as numbers (R96, R97).
 pub fn unmounted(a: Unmounted) -> UmountAnswer
     ensures { λ r. ⌜ r ≡ umountNumbers (unmountedTold a) ⌝ }
 {
@@ -379,7 +379,7 @@ fn no_rootfs(code: u32) -> RootfsAnswer
     }
 }
 
-// Of a root query (R103, R104).
+// What a root query answers, as numbers (R103, R104).
 pub fn rootfs(a: Rootfs) -> RootfsAnswer
     ensures { λ r. ⌜ r ≡ rootfsNumbers (rootfsTold a) ⌝ }
 {
@@ -408,7 +408,7 @@ fn no_walk(code: u32) -> WalkAnswer
     }
 }
 
-// Of a walk (R46, R47).
+// What a walk answers, as numbers (R46, R47).
 pub fn walked(a: PathWalk) -> WalkAnswer
     ensures { λ r. ⌜ r ≡ walkNumbers (pathWalkTold a) ⌝ }
 {
@@ -437,7 +437,7 @@ fn no_route(code: u32) -> RouteAnswer
     }
 }
 
-// Of routing (R105, R106).
+// What routing answers, as numbers (R105, R106).
 pub fn routed(a: Routed) -> RouteAnswer
     ensures { λ r. ⌜ r ≡ routeNumbers (routedTold a) ⌝ }
 {
@@ -475,7 +475,7 @@ fn no_entry(code: u32) -> LookupAnswer
     }
 }
 
-// Of a lookup (R57 to R59, R108 to R111).
+// What a lookup answers, as numbers (R57 to R59, R108 to R111).
 pub fn looked(a: Looked) -> LookupAnswer
     ensures { λ r. ⌜ r ≡ lookupNumbers (lookedTold a) ⌝ }
 {
@@ -501,7 +501,7 @@ fn no_bytes(code: u32) -> WroteAnswer
     WroteAnswer { code, written: 0 }
 }
 
-// Of a listing (R63, R66).
+// What a listing answers, as numbers (R63, R66).
 pub fn listed(a: Listed) -> WroteAnswer
     ensures { λ r. ⌜ r ≡ wroteNumbers (listedTold a) ⌝ }
 {
@@ -515,7 +515,7 @@ pub fn listed(a: Listed) -> WroteAnswer
     }
 }
 
-// Of a save (R125).
+// What a save answers, as numbers (R125).
 pub fn saved(a: Saved) -> WroteAnswer
     ensures { λ r. ⌜ r ≡ wroteNumbers (savedTold a) ⌝ }
 {
@@ -528,7 +528,7 @@ pub fn saved(a: Saved) -> WroteAnswer
     }
 }
 
-// Of a state restore (R128).
+// What a state restore answers, as its number (R128).
 pub fn state_restored(a: StateRestored) -> CodeAnswer
     ensures { λ r. ⌜ r ≡ codeNumbers (stateTold a) ⌝ }
 {
@@ -542,7 +542,7 @@ pub fn state_restored(a: StateRestored) -> CodeAnswer
     }
 }
 
-// Of ids by the mapping in force (R118).
+// What the mapping of ids by the mapping in force answers, as numbers (R118).
 pub fn remapped(a: Remapped) -> IdsAnswer
     ensures { λ r. ⌜ r ≡ idsNumbers (remappedTold a) ⌝ }
 {
@@ -560,7 +560,7 @@ pub fn remapped(a: Remapped) -> IdsAnswer
     }
 }
 
-// Of a conversion (R7).
+// What a conversion answers, as numbers (R7).
 pub fn converted(a: Converted) -> InodeAnswer
     ensures { λ r. ⌜ r ≡ inodeNumbers (codeOf a) (fullOf a) ⌝ }
 {
@@ -576,7 +576,7 @@ pub fn converted(a: Converted) -> InodeAnswer
     }
 }
 
-// Of the component check (R61).
+// What the component check answers, as its number (R61).
 pub fn checked(a: Checked) -> CodeAnswer
     ensures { λ r. ⌜ r ≡ codeNumber (code a) ⌝ }
 {

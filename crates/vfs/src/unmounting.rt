@@ -1,4 +1,4 @@
-// Unmount.
+// Unmount: the tests in their order, then the mount taken off its node.
 ghost use mathlib.Core.Path.{_≡_};
 ghost use mathlib.Core.Bool.{true};
 ghost use Rattle.rules.specs.Instance.{Instance};
