@@ -16,8 +16,8 @@ use Rattle.rules.specs.Calls.{rule}
 use Rattle.rules.specs.Session.{mount, umount, walk, look, textOf, values, shown, requestOf, routed, says, answers}
 use Rattle.tables.specs.View.{view}
 use Rattle.tables.specs.Rule.{laid}
-use Rattle.tables.specs.Call.{Told, toldBy, toldSmall, answeredBy, Does}
-use Rattle.pseudo_fs.specs.Told.{tells, refuses, pathWalkTold, lookedTold}
+use Rattle.tables.specs.Call.{Told, toldBy, tells, refuses, toldSmall, answeredBy, Does}
+use Rattle.pseudo_fs.specs.Told.{pathWalkTold, lookedTold}
 use Rattle.pseudo_fs.specs.declared.PathWalk.{PathWalk}
 use Rattle.pseudo_fs.specs.declared.Looked.{Looked}
 use Rattle.inode.specs.declared.NodeNumber.{NodeNumber}

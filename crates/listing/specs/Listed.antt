@@ -3,19 +3,19 @@ use Prim.Native.Nat.{ℕ}
 use mathlib.Core.Path.{_≡_}
 use mathlib.Core.List.{List}
 use lib.ListN.{length}
-use Rattle.rules.specs.Numbers.{DONE, NOENT}
+use Rattle.rules.specs.Numbers.{NOENT}
 use Rattle.rules.specs.Instance.{Instance}
-use Rattle.rules.specs.Outcome.{nothing, wrote, Outcome}
+use Rattle.rules.specs.Outcome.{wrote, Outcome}
 use Rattle.rules.specs.Listing.{listRule}
 use Rattle.le.specs.Mem.{write}
-use Rattle.tables.specs.Call.{Told, toldSmall, answeredBy, writtenBy}
+use Rattle.tables.specs.Call.{Told, tells, refuses, toldSmall, answeredBy, writtenBy}
 use Rattle.listing.specs.declared.Listed.{Listed}
 use Rattle.listing.specs.declared.Listed.the-variants.{Wrote, NoEnt, Small}
 
 -- the number of each answer and its values (R15, R16)
 unfoldable pub listedTold : Listed → Told
-listedTold (Wrote n) = record { code = DONE; answer = wrote n; count = 0 }
-listedTold NoEnt = record { code = NOENT; answer = nothing; count = 0 }
+listedTold (Wrote n) = tells (wrote n)
+listedTold NoEnt = refuses NOENT
 listedTold Small = toldSmall
 
 -- the rule for a request on the lent output d (R63 to R66)

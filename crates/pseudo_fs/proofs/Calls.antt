@@ -17,7 +17,7 @@ use Rattle.rules.specs.Lookup.{entryOf, pseudoLookupRule}
 use Rattle.rules.proofs.Ids.{wrapped-is-whole}
 use Rattle.tables.specs.View.{mappingFrom, headOf, nodesOf, view}
 use Rattle.tables.specs.Rule.{laid}
-use Rattle.tables.specs.Call.{Told, toldBy, answeredBy}
+use Rattle.tables.specs.Call.{Told, toldBy, tells, answeredBy}
 use Rattle.tables.proofs.Keeps.{laid-ruled}
 use Rattle.inode.specs.Converted.{fullOf, Converts}
 use Rattle.inode.specs.declared.NodeNumber.{NodeNumber}
@@ -38,7 +38,7 @@ use Rattle.pseudo_fs.specs.declared.inner.Finding.{Finding}
 use Rattle.pseudo_fs.specs.declared.inner.Finding.the-variants.{Node as FindingNode, NoEnt, Inval}
 use Rattle.pseudo_fs.specs.Walks.{walkedOf, Walks}
 use Rattle.pseudo_fs.specs.Finds.{outcomeOf, Finds}
-use Rattle.pseudo_fs.specs.Told.{faultOf, tells, pathWalkTold, entryAnswer, lookedTold, pseudoAnswer}
+use Rattle.pseudo_fs.specs.Told.{faultOf, pathWalkTold, entryAnswer, lookedTold, pseudoAnswer}
 use Rattle.pseudo_fs.proofs.Finds.{found-low}
 
 -- ---- the first fault of a path

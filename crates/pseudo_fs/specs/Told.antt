@@ -3,12 +3,12 @@ use Prim.Native.Nat.{ℕ}
 use mathlib.Core.Bool.{not}
 use mathlib.Core.List.{List, [], _∷_}
 use mathlib.Core.Option.{none, some}
-use Rattle.rules.specs.Numbers.{dirMode, blockSize, orZero, convert, DONE, NOENT, INVAL}
+use Rattle.rules.specs.Numbers.{dirMode, blockSize, orZero, convert, NOENT, INVAL}
 use Rattle.rules.specs.Utf8.{wellFormed}
 use Rattle.rules.specs.Path.{rooted}
 use Rattle.rules.specs.Ids.{Mapping, wrapped}
-use Rattle.rules.specs.Outcome.{Answer, nothing, walked, entry, _⇒_, firstOf}
-use Rattle.tables.specs.Call.{Told, toldSmall}
+use Rattle.rules.specs.Outcome.{Answer, walked, entry, _⇒_, firstOf}
+use Rattle.tables.specs.Call.{Told, tells, refuses, toldSmall}
 use Rattle.pseudo_fs.specs.declared.PathFault.{PathFault}
 use Rattle.pseudo_fs.specs.declared.PathFault.the-variants.{Utf8, Slash, Sound}
 use Rattle.pseudo_fs.specs.declared.PathWalk.{PathWalk}
@@ -22,14 +22,6 @@ unfoldable pub faultOf : List ℕ → PathFault
 faultOf path = firstOf ((not (wellFormed path) ⇒ Utf8) ∷ (not (rooted path) ⇒ Slash) ∷ []) Sound
 
 -- ---- numbers and values
-
--- done, with these values
-abbrev pub tells : Answer → Told
-tells a = record { code = DONE; answer = a; count = 0 }
-
--- refused, with none (R16)
-abbrev pub refuses : ℕ → Told
-refuses code = record { code = code; answer = nothing; count = 0 }
 
 -- of a walk (R47)
 unfoldable pub pathWalkTold : PathWalk → Told

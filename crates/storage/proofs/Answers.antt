@@ -1,6 +1,6 @@
 -- The answers of the calls on the header: each is known by what it tells, and tells what its rule says. Assumes nothing.
 use mathlib.Core.Path.{_≡_, refl, sym, ap, _∙_}
-use mathlib.Core.Bool.{true, false, not, cond, true≢false}
+use mathlib.Core.Bool.{true, false, not, cond}
 use mathlib.Core.List.{List}
 use Prim.Native.Nat.{ℕ}
 use native.Mathlib.Omega.{arith}
@@ -14,7 +14,7 @@ use Rattle.tables.specs.Table.{row}
 use Rattle.tables.specs.View.{view}
 use Rattle.tables.specs.Rule.{laid}
 use Rattle.tables.specs.Write.{setRemoval}
-use Rattle.tables.specs.Call.{Told, answeredBy, Does}
+use Rattle.tables.specs.Call.{Told, tells, answeredBy, Does}
 use Rattle.tables.proofs.Refine.{view-removal}
 use Rattle.tables.proofs.Keeps.{laid-long, keeps-removal}
 use Rattle.storage.specs.Answers.{removalTold, removeCall, initializedTold, initializedCall, optionsIn, optionsTold, optionsCall}
@@ -26,6 +26,7 @@ use Rattle.storage.specs.declared.VfsOptions.{VfsOptions}
 use Rattle.storage.specs.declared.OptionsOf.{OptionsOf}
 use Rattle.storage.specs.declared.OptionsOf.the-variants.{Options as OptionsAre, Small as OptionsSmall}
 use Rattle.storage.proofs.Laid.{told-small, told-by}
+use Rattle.storage.proofs.Calls.{does-small, does}
 
 -- ---- known by what it tells
 
@@ -89,23 +90,13 @@ module _ (mem : List ℕ) where
   unfolding optionsTold rule view row get
   options-are e o a b c d f g =
       let same : optionsIn o ≡ view mem .options = λ t. record { inOpts = a t; outOpts = b t; mapping = record { internal = c t; external = d t; range = f t }; flags = g t } in
-      (λ t. record { code = 0; answer = settings (same t); count = 0 }) ∙ sym (told-by mem optionsCall e)
+      (λ t. tells (settings (same t))) ∙ sym (told-by mem optionsCall e)
 
   pub removal-small : laid mem ≡ false → Does mem removeCall (removalTold RemovalSmall) mem (cond (laid mem) (setRemoval mem) mem)
   unfolding removalTold
-  removal-small e = record {
-    answer = sym (told-small mem removeCall e);
-    bytes = rw e;
-    stands = λ t. absurd (true≢false (sym t ∙ e));
-    keeps = λ t. absurd (true≢false (sym t ∙ e));
-  }
+  removal-small e = does-small mem removeCall (removalTold RemovalSmall) _ e refl (rw e)
 
   pub removal-done : (after : List ℕ) → laid mem ≡ true → after ≡ setRemoval mem → Does mem removeCall (removalTold Done) after (cond (laid mem) (setRemoval mem) mem)
   unfolding removalTold rule
   removal-done after e p =
-      record {
-        answer = sym (told-by mem removeCall e);
-        bytes = p ∙ rw e;
-        stands = λ t. ap view p ∙ view-removal mem (omega (arith, laid-long mem e));
-        keeps = λ t. ap laid p ∙ keeps-removal mem e;
-      }
+      does mem removeCall (removalTold Done) after _ (removeCall (view mem)) e refl refl (p ∙ rw e) (ap view p ∙ view-removal mem (omega (arith, laid-long mem e))) (ap laid p ∙ keeps-removal mem e)

@@ -3,7 +3,7 @@ use Rattle.id_map.specs.Mapping.{mappingOf}
 use Rattle.rules.specs.Instance.{Options, Instance}
 use Rattle.rules.specs.Outcome.{nothing, settings, truth, Outcome}
 use Rattle.rules.specs.Calls.{set-remove-pseudo-root, options, initialized, rule}
-use Rattle.tables.specs.Call.{Told, toldSmall}
+use Rattle.tables.specs.Call.{Told, tells, toldSmall}
 use Rattle.storage.specs.declared.Removal.{Removal}
 use Rattle.storage.specs.declared.Removal.the-variants.{Done, Small as RemovalSmall}
 use Rattle.storage.specs.declared.IsInitialized.{IsInitialized}
@@ -30,12 +30,12 @@ optionsCall i = rule i options
 
 -- of the setting (R32)
 unfoldable pub removalTold : Removal → Told
-removalTold Done = record { code = 0; answer = nothing; count = 0 }
+removalTold Done = tells nothing
 removalTold RemovalSmall = toldSmall
 
 -- of the query of `initialized` (R33, R134)
 unfoldable pub initializedTold : IsInitialized → Told
-initializedTold (Is b) = record { code = 0; answer = truth b; count = 0 }
+initializedTold (Is b) = tells (truth b)
 initializedTold InitializedSmall = toldSmall
 
 -- the options that the struct stands for (R27)
@@ -44,5 +44,5 @@ optionsIn o = record { inOpts = o .«in_opts»; outOpts = o .«out_opts»; mappi
 
 -- of the query of the options (R27, R34)
 unfoldable pub optionsTold : OptionsOf → Told
-optionsTold (OptionsAre o) = record { code = 0; answer = settings (optionsIn o); count = 0 }
+optionsTold (OptionsAre o) = tells (settings (optionsIn o))
 optionsTold OptionsSmall = toldSmall

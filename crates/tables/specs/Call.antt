@@ -3,7 +3,7 @@ use Prim.Native.Nat.{ℕ}
 use mathlib.Core.Bool.{cond, true}
 use mathlib.Core.List.{List, []}
 use mathlib.Core.Path.{_≡_}
-use Rattle.rules.specs.Numbers.{SMALL}
+use Rattle.rules.specs.Numbers.{DONE, SMALL}
 use Rattle.rules.specs.Instance.{Instance}
 use Rattle.rules.specs.Outcome.{Answer, nothing, Outcome, count}
 use Rattle.tables.specs.View.{view}
@@ -19,9 +19,21 @@ pub record Told : Type 0 where
 abbrev pub toldBy : Outcome → Told
 toldBy o = record { code = o .code; answer = o .answer; count = count o }
 
--- of SMALL (R16, R19)
+-- done, with these values
+abbrev pub tells : Answer → Told
+tells a = record { code = DONE; answer = a; count = 0 }
+
+-- refused, with none, and with the count (R16)
+abbrev pub counted : ℕ → ℕ → Told
+counted code n = record { code = code; answer = nothing; count = n }
+
+-- refused, where nothing was visited
+abbrev pub refuses : ℕ → Told
+refuses code = counted code 0
+
+-- refused SMALL (R19)
 abbrev pub toldSmall : Told
-toldSmall = record { code = SMALL; answer = nothing; count = 0 }
+toldSmall = refuses SMALL
 
 -- by a rule on the instance that the bytes stand for; SMALL where they break the layout rule (R19, R21)
 unfoldable pub answeredBy : List ℕ → (Instance → Outcome) → Told

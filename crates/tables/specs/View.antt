@@ -55,8 +55,7 @@ mappingFrom k h = record { internal = field k h; external = field (k + 1) h; ran
 abbrev pub optionsFrom : List (List ℕ) → Options
 optionsFrom h = record { inOpts = field 5 h; outOpts = field 6 h; mapping = mappingFrom 10 h; flags = field 13 h }
 
--- by the header's cells, the slots and the nodes
--- the instance of a header, slots and nodes
+-- the instance, by the header's cells, the slots and the nodes
 abbrev pub instanceFrom : List (List ℕ) → List Slot → List Node → Instance
 instanceFrom h slots nodes = record {
   fixed = record { capacity = field 1 h; known = field 4 h; mapping = mappingFrom 7 h };

@@ -4,7 +4,7 @@ use mathlib.Core.Bool.{true, cond}
 use mathlib.Core.List.{List}
 use mathlib.Core.Option.{Option, none, some}
 use mathlib.Core.Path.{_≡_}
-use Rattle.rules.specs.Numbers.{DONE, NOTFOUND, INVAL}
+use Rattle.rules.specs.Numbers.{NOTFOUND, INVAL}
 use Rattle.rules.specs.Tree.{Mount}
 use Rattle.rules.specs.Instance.{mountOf}
 use Rattle.rules.specs.Outcome.{unmounted}
@@ -12,15 +12,14 @@ use Rattle.rules.specs.Unmount.{badPath, reached, mountUnder, unmountAt}
 use Rattle.tables.specs.View.{view}
 use Rattle.tables.specs.Rule.{laid}
 use Rattle.tables.specs.Answer.{tagIn}
-use Rattle.tables.specs.Call.{Told, toldBy, toldSmall}
+use Rattle.tables.specs.Call.{Told, toldBy, tells, refuses, toldSmall}
 use Rattle.placing.specs.Place.{takeOffMem}
-use Rattle.pseudo_fs.specs.Told.{refuses}
 use Rattle.vfs.specs.declared.unmounting.Unmounted.{Unmounted}
 use Rattle.vfs.specs.declared.unmounting.Unmounted.the-variants.{Done, NotFound, Inval, Small}
 
 -- the number and the values of each answer (R97)
 unfoldable pub unmountedTold : Unmounted → Told
-unmountedTold (Done n p t) = record { code = DONE; answer = unmounted (n .0) (p .0) (tagIn t); count = 0 }
+unmountedTold (Done n p t) = tells (unmounted (n .0) (p .0) (tagIn t))
 unmountedTold NotFound = refuses NOTFOUND
 unmountedTold Inval = refuses INVAL
 unmountedTold Small = toldSmall

@@ -13,7 +13,7 @@ use Rattle.rules.specs.Outcome.{Answer, Outcome, says}
 use Rattle.rules.specs.Lookup.{entryOf, lookupRule, outward}
 use Rattle.tables.specs.View.{mappingFrom, headOf, nodesOf, view}
 use Rattle.tables.specs.Rule.{laid}
-use Rattle.tables.specs.Call.{toldBy, answeredBy}
+use Rattle.tables.specs.Call.{toldBy, tells, answeredBy}
 use Rattle.tables.specs.Answer.{mountOfPoint}
 use Rattle.tables.specs.declared.mounts.MountPoint.{MountPoint}
 use Rattle.inode.specs.declared.VfsInode.{VfsInode}
@@ -23,7 +23,7 @@ use Rattle.pseudo_fs.specs.declared.Looked.the-variants.{Entry as LookedEntry, 
 use Rattle.pseudo_fs.specs.declared.inner.Finding.{Finding}
 use Rattle.pseudo_fs.specs.declared.inner.Finding.the-variants.{Node as FindingNode, NoEnt, Inval}
 use Rattle.pseudo_fs.specs.Finds.{outcomeOf, Finds}
-use Rattle.pseudo_fs.specs.Told.{tells, entryAnswer, lookedTold, pseudoAnswer}
+use Rattle.pseudo_fs.specs.Told.{entryAnswer, lookedTold, pseudoAnswer}
 use Rattle.pseudo_fs.proofs.Finds.{found-low}
 use Rattle.pseudo_fs.proofs.Calls.{pseudo-is}
 use Rattle.vfs_query.specs.Told.{rootAnswer}

@@ -5,8 +5,7 @@ use Rattle.rules.specs.Tree.{Mount}
 use Rattle.rules.specs.Instance.{Instance}
 use Rattle.rules.specs.Lookup.{twice}
 use Rattle.rules.specs.Outcome.{Answer, rootfs, toTree, toBackend, entry, ids}
-use Rattle.tables.specs.Call.{Told, toldSmall}
-use Rattle.pseudo_fs.specs.Told.{tells, refuses}
+use Rattle.tables.specs.Call.{Told, tells, refuses, toldSmall}
 use Rattle.vfs_query.specs.declared.Routed.{Routed}
 use Rattle.vfs_query.specs.declared.Routed.the-variants.{Tree, Backend as RoutedBackend, NoEnt as RoutedNoEnt, Small as RoutedSmall}
 use Rattle.vfs_query.specs.declared.Rootfs.{Rootfs}
