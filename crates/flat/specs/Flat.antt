@@ -54,10 +54,6 @@ values (truth b) = truthNumber b ∷ []
 abbrev pub value : Told → ℕ → ℕ
 value t k = getD (values (t .answer)) k 0
 
--- a refusal, with its count
-abbrev pub refusal : ℕ → ℕ → Told
-refusal code n = record { code = code; answer = nothing; count = n }
-
 -- ---- answers
 
 -- the number of the answer alone (R15)

@@ -4,6 +4,7 @@ ghost use Rattle.rules.specs.Numbers.{orZero};
 ghost use Rattle.inode.specs.Converted.{codeOf, fullOf};
 ghost use Rattle.path.specs.Checks.{code};
 ghost use Rattle.tables.specs.Answer.{tagIn};
+ghost use Rattle.tables.specs.Call.{counted, refuses};
 ghost use Rattle.storage.specs.Creation.{createdCode};
 ghost use Rattle.storage.specs.Answers.{removalTold, initializedTold, optionsTold};
 ghost use Rattle.pseudo_fs.specs.Told.{pathWalkTold, lookedTold};
@@ -14,7 +15,7 @@ ghost use Rattle.vfs.specs.Restoring.{restoredTold};
 ghost use Rattle.vfs.specs.Unmounting.{unmountedTold};
 ghost use Rattle.persist.specs.Saving.{savedTold};
 ghost use Rattle.persist.specs.Restoring.{stateTold};
-ghost use Rattle.flat.specs.Flat.{has, truthNumber, refusal, codeNumber, codeNumbers, initializedNumbers, optionsNumbers, mountNumbers, restoreMountNumbers, umountNumbers, rootfsNumbers, walkNumbers, routeNumbers, lookupNumbers, wroteNumbers, idsNumbers, inodeNumbers};
+ghost use Rattle.flat.specs.Flat.{has, truthNumber, codeNumber, codeNumbers, initializedNumbers, optionsNumbers, mountNumbers, restoreMountNumbers, umountNumbers, rootfsNumbers, walkNumbers, routeNumbers, lookupNumbers, wroteNumbers, idsNumbers, inodeNumbers};
 use inode::Converted;
 use listing::Listed;
 use path::names::Checked;
@@ -259,7 +260,7 @@ pub fn options(a: OptionsOf) -> OptionsAnswer
 
 // A refused mount: zeros but for the count (R16, R79).
 fn no_mount(code: u32, count: u32) -> MountAnswer
-    ensures { λ r. ⌜ r ≡ mountNumbers (refusal code count) ⌝ }
+    ensures { λ r. ⌜ r ≡ mountNumbers (counted code count) ⌝ }
 {
     MountAnswer {
         code,
@@ -297,7 +298,7 @@ pub fn mounted(a: Mounted) -> MountAnswer
 
 // A refused restored mount: zeros (R16).
 fn no_restored_mount(code: u32) -> RestoreMountAnswer
-    ensures { λ r. ⌜ r ≡ restoreMountNumbers (refusal code 0) ⌝ }
+    ensures { λ r. ⌜ r ≡ restoreMountNumbers (refuses code) ⌝ }
 {
     RestoreMountAnswer {
         code,
@@ -334,7 +335,7 @@ pub fn restored_mount(a: Restored) -> RestoreMountAnswer
 
 // A refused unmount: zeros (R16).
 fn no_umount(code: u32) -> UmountAnswer
-    ensures { λ r. ⌜ r ≡ umountNumbers (refusal code 0) ⌝ }
+    ensures { λ r. ⌜ r ≡ umountNumbers (refuses code) ⌝ }
 {
     UmountAnswer {
         code,
@@ -369,7 +370,7 @@ pub fn unmounted(a: Unmounted) -> UmountAnswer
 
 // A root query without a backend: zeros (R16, R104).
 fn no_rootfs(code: u32) -> RootfsAnswer
-    ensures { λ r. ⌜ r ≡ rootfsNumbers (refusal code 0) ⌝ }
+    ensures { λ r. ⌜ r ≡ rootfsNumbers (refuses code) ⌝ }
 {
     RootfsAnswer {
         code,
@@ -399,7 +400,7 @@ pub fn rootfs(a: Rootfs) -> RootfsAnswer
 
 // A walk without a node: zeros (R16, R47).
 fn no_walk(code: u32) -> WalkAnswer
-    ensures { λ r. ⌜ r ≡ walkNumbers (refusal code 0) ⌝ }
+    ensures { λ r. ⌜ r ≡ walkNumbers (refuses code) ⌝ }
 {
     WalkAnswer {
         code,
@@ -426,7 +427,7 @@ pub fn walked(a: PathWalk) -> WalkAnswer
 
 // A refused routing: zeros (R16).
 fn no_route(code: u32) -> RouteAnswer
-    ensures { λ r. ⌜ r ≡ routeNumbers (refusal code 0) ⌝ }
+    ensures { λ r. ⌜ r ≡ routeNumbers (refuses code) ⌝ }
 {
     RouteAnswer {
         code,
@@ -463,7 +464,7 @@ pub fn routed(a: Routed) -> RouteAnswer
 
 // A refused lookup: zeros (R16).
 fn no_entry(code: u32) -> LookupAnswer
-    ensures { λ r. ⌜ r ≡ lookupNumbers (refusal code 0) ⌝ }
+    ensures { λ r. ⌜ r ≡ lookupNumbers (refuses code) ⌝ }
 {
     LookupAnswer {
         code,
@@ -496,7 +497,7 @@ pub fn looked(a: Looked) -> LookupAnswer
 
 // Refused, with nothing written: zeros (R16, R17).
 fn no_bytes(code: u32) -> WroteAnswer
-    ensures { λ r. ⌜ r ≡ wroteNumbers (refusal code 0) ⌝ }
+    ensures { λ r. ⌜ r ≡ wroteNumbers (refuses code) ⌝ }
 {
     WroteAnswer { code, written: 0 }
 }

@@ -9,22 +9,18 @@ use Rattle.rules.specs.Saved.{stateOf}
 use Rattle.rules.specs.Restore.{restoreRule}
 use Rattle.tables.specs.View.{view}
 use Rattle.tables.specs.Rule.{laid}
-use Rattle.tables.specs.Call.{Told, toldSmall}
+use Rattle.tables.specs.Call.{Told, tells, refuses, toldSmall}
 use Rattle.restore_parts.specs.Parts.{stateMem}
 use Rattle.persist.specs.declared.restoring.StateRestored.{StateRestored}
 use Rattle.persist.specs.declared.restoring.StateRestored.the-variants.{Done, NotFresh, BadSave, BadOpt, NoRoom, Small}
 
--- an answer without values
-abbrev told : ℕ → Told
-told code = record { code = code; answer = nothing; count = 0 }
-
 -- the number of each answer (R15, R128)
 unfoldable pub stateTold : StateRestored → Told
-stateTold Done = told DONE
-stateTold NotFresh = told NOTFRESH
-stateTold BadSave = told BADSAVE
-stateTold BadOpt = told BADOPT
-stateTold NoRoom = told NOROOM
+stateTold Done = tells nothing
+stateTold NotFresh = refuses NOTFRESH
+stateTold BadSave = refuses BADSAVE
+stateTold BadOpt = refuses BADOPT
+stateTold NoRoom = refuses NOROOM
 stateTold Small = toldSmall
 
 -- the bytes after a state restore: every refusal leaves every one

@@ -4,7 +4,6 @@ use mathlib.Core.Path.{_≡_}
 use mathlib.Core.Bool.{true}
 use mathlib.Core.List.{List, _++_}
 use lib.ListN.{length, drop}
-use Rattle.rules.specs.Numbers.{DONE}
 use Rattle.rules.specs.Instance.{Instance}
 use Rattle.rules.specs.Outcome.{wrote, Outcome}
 use Rattle.rules.specs.Saved.{encode}
@@ -12,13 +11,13 @@ use Rattle.rules.specs.Restore.{saved, saveRule}
 use Rattle.le.specs.Mem.{write}
 use Rattle.tables.specs.View.{view}
 use Rattle.tables.specs.Rule.{laid}
-use Rattle.tables.specs.Call.{Told, toldSmall, answeredBy, writtenBy}
+use Rattle.tables.specs.Call.{Told, tells, toldSmall, answeredBy, writtenBy}
 use Rattle.persist.specs.declared.saving.Saved.{Saved}
 use Rattle.persist.specs.declared.saving.Saved.the-variants.{Wrote, Small}
 
 -- the number of each answer and its values (R15, R16, R125)
 unfoldable pub savedTold : Saved → Told
-savedTold (Wrote n) = record { code = DONE; answer = wrote n; count = 0 }
+savedTold (Wrote n) = tells (wrote n)
 savedTold Small = toldSmall
 
 -- the rule for the lent output d (R125)

@@ -11,8 +11,7 @@ use Rattle.rules.specs.Instance.{Instance}
 use Rattle.rules.specs.Outcome.{Outcome, Row, refused, firstOf, _⇒_}
 use Rattle.tables.specs.View.{view}
 use Rattle.tables.specs.Rule.{laid as laidIn}
-use Rattle.tables.specs.Call.{Told, toldSmall, Does}
-use Rattle.vfs.specs.Mounting.{counted}
+use Rattle.tables.specs.Call.{Told, refuses, toldSmall, Does}
 use Rattle.storage.proofs.Calls.{does-small, does-nothing}
 
 -- a call with these rows first, which leaves every byte where one of them applies; what it then tells
@@ -26,8 +25,8 @@ pub record Begins (mem path : List ℕ) (f : Instance → Outcome) (exact : List
   pub stops-long : tooLong path ≡ true → stop ≡ true
   pub stops-bad : tooLong path ≡ false → wellFormed path ≡ false → stop ≡ true
   pub is-small : small ≡ toldSmall
-  pub is-long : long ≡ counted TOOLONG 0
-  pub is-bad : bad ≡ counted INVAL 0
+  pub is-long : long ≡ refuses TOOLONG
+  pub is-bad : bad ≡ refuses INVAL
 
 -- none of them applies
 pub record Passed (mem path : List ℕ) : Type 0 where

@@ -13,8 +13,8 @@ use Rattle.rules.specs.Instance.{Instance}
 use Rattle.rules.specs.Outcome.{Outcome, nothing, refused, firstOf}
 use Rattle.rules.specs.Mount.{Request, allocation, stepped, allocated, mountAs, mountRule}
 use Rattle.tables.specs.View.{view}
-use Rattle.tables.specs.Call.{Does}
-use Rattle.vfs.specs.Mounting.{requestOf, counted, mountedTold, rootedMem, rootedRule, early, mountMem, byFound, Unrooted, Follows}
+use Rattle.tables.specs.Call.{counted, Does}
+use Rattle.vfs.specs.Mounting.{requestOf, mountedTold, rootedMem, rootedRule, early, mountMem, byFound, Unrooted, Follows}
 use Rattle.vfs.specs.declared.backend.Backend.{Backend}
 use Rattle.vfs.specs.declared.mounting.Mounted.{Mounted}
 use Rattle.vfs.specs.declared.mounting.Mounted.the-variants.{TooLong, Inval, Inode, Small}

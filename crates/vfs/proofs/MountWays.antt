@@ -26,6 +26,7 @@ use Rattle.tables.specs.View.{view}
 use Rattle.tables.specs.Rule.{laid}
 use Rattle.tables.specs.Write.{setCounter}
 use Rattle.tables.specs.Answer.{tagIn, heldAt, mountOfPoint}
+use Rattle.tables.specs.Call.{counted}
 use Rattle.tables.proofs.Indexes.{allocate-same}
 use Rattle.tables.proofs.Spells.{MountFits}
 use Rattle.tables.proofs.Refine.{view-counter}
@@ -34,7 +35,7 @@ use Rattle.placing.specs.Place.{placeMem, Places}
 use Rattle.placing.specs.declared.Tags.{Tags}
 use Rattle.placing.proofs.Stands.{slot-of, view-placed, keeps-placed}
 use Rattle.tables.specs.declared.mounts.MountPoint.{MountPoint}
-use Rattle.vfs.specs.Mounting.{requestOf, counted, mountedTold, allocMem, finishMem, Finishes, EndsAt, MountsAt, Allocates, byFound, Unrooted}
+use Rattle.vfs.specs.Mounting.{requestOf, mountedTold, allocMem, finishMem, Finishes, EndsAt, MountsAt, Allocates, byFound, Unrooted}
 use Rattle.vfs.specs.Restoring.{restoredTold, RestoresAt}
 use Rattle.vfs.specs.declared.backend.Backend.{Backend}
 use Rattle.vfs.specs.declared.mounting.Mounted.{Mounted}

@@ -18,14 +18,14 @@ use Rattle.index.specs.declared.Allocated.{Allocated}
 use Rattle.tables.specs.Layout.{nextOf, countOf, capacityOf}
 use Rattle.tables.specs.View.{view}
 use Rattle.tables.specs.Rule.{laid, Laid}
-use Rattle.tables.specs.Call.{Told, toldBy}
+use Rattle.tables.specs.Call.{Told, toldBy, counted}
 use Rattle.tables.proofs.Keeps.{laid-is}
 use Rattle.plan.specs.Plan.{Columns, plannedFrom, Within, Plans}
 use Rattle.plan.specs.Apply.{appendAll}
 use Rattle.plan.specs.declared.Planned.{Planned}
 use Rattle.plan.specs.declared.Planned.the-variants.{Fits, NoRoom as PlanNoRoom}
 use Rattle.plan.proofs.Walked.{Fitted, fitted, refused as refused-plan, planned-none, room-none, fitted-over, view-walked, keeps-walked}
-use Rattle.vfs.specs.Mounting.{requestOf, counted, mountedTold, finishMem, walkMem, plannedMem, foundMem, rootedMem, rootedRule, EndsAt, MountsAt, Allocates, Follows}
+use Rattle.vfs.specs.Mounting.{requestOf, mountedTold, finishMem, walkMem, plannedMem, foundMem, rootedMem, rootedRule, EndsAt, MountsAt, Allocates, Follows}
 use Rattle.vfs.specs.Restoring.{restoredTold, restoredRule, restoredMem, RestoresAt}
 use Rattle.vfs.specs.declared.backend.Backend.{Backend}
 use Rattle.vfs.specs.declared.mounting.Mounted.{Mounted}

@@ -10,7 +10,7 @@ use Rattle.rules.specs.Numbers.{maxIno, DONE, INVAL, TOOLONG, INODE, FULL, NORO
 use Rattle.rules.specs.Utf8.{wellFormed}
 use Rattle.rules.specs.Path.{rooted, tooLong}
 use Rattle.rules.specs.Instance.{Instance, mountOf, tagOf}
-use Rattle.rules.specs.Outcome.{Answer, nothing, mounted, Outcome, refused}
+use Rattle.rules.specs.Outcome.{Answer, mounted, Outcome, refused}
 use Rattle.rules.specs.Mount.{Request, planned, noRoom, ended, freed, mountOn, tagAt, placed, allocation, stepped, mountAs}
 use Rattle.index.specs.Search.{foundOf}
 use Rattle.index.specs.declared.FsIndex.the-variants.{Index}
@@ -19,7 +19,7 @@ use Rattle.tables.specs.View.{view}
 use Rattle.tables.specs.Rule.{laid}
 use Rattle.tables.specs.Write.{setCounter}
 use Rattle.tables.specs.Answer.{tagIn}
-use Rattle.tables.specs.Call.{Told, toldBy, toldSmall}
+use Rattle.tables.specs.Call.{Told, toldBy, counted, refuses, toldSmall}
 use Rattle.placing.specs.Place.{placeMem}
 use Rattle.placing.specs.declared.Tags.{Tags}
 use Rattle.plan.specs.Apply.{appendAll}
@@ -31,17 +31,13 @@ use Rattle.vfs.specs.declared.mounting.Mounted.the-variants.{Done, TooLo
 abbrev pub requestOf : List ℕ → Backend → Request
 requestOf path b = record { path = path; tag = b .tag; root = b .root .0; largest = b .max; uid = b .uid; gid = b .gid; mode = b .mode }
 
--- a refusal with its count (R16, R79)
-abbrev pub counted : ℕ → ℕ → Told
-counted code n = record { code = code; answer = nothing; count = n }
-
 -- the number and the values of each answer (R75, R79)
 unfoldable pub mountedTold : Mounted → Told
 mountedTold (Done k n t) = record { code = DONE; answer = mounted k (tagIn t); count = n }
-mountedTold TooLong = counted TOOLONG 0
+mountedTold TooLong = refuses TOOLONG
 mountedTold (Inval n) = counted INVAL n
 mountedTold (Inode n) = counted INODE n
-mountedTold NoRoom = counted NOROOM 0
+mountedTold NoRoom = refuses NOROOM
 mountedTold (Full n) = counted FULL n
 mountedTold Small = toldSmall
 

@@ -3,7 +3,7 @@ use Prim.Native.Nat.{ℕ}
 use mathlib.Core.Bool.{Bool, cond, not, _||_}
 use mathlib.Core.List.{List}
 use lib.Dec.{eqb, ltb}
-use Rattle.rules.specs.Numbers.{maxIno, DONE, INVAL, TOOLONG, INODE, NOROOM, BADINDEX}
+use Rattle.rules.specs.Numbers.{maxIno, INVAL, TOOLONG, INODE, NOROOM, BADINDEX}
 use Rattle.rules.specs.Utf8.{wellFormed}
 use Rattle.rules.specs.Path.{rooted, tooLong}
 use Rattle.rules.specs.Instance.{Instance, mountOf, tagOf}
@@ -12,20 +12,20 @@ use Rattle.rules.specs.Mount.{Request, noRoom, ended, walkedTo, mountThere, fre
 use Rattle.tables.specs.View.{view}
 use Rattle.tables.specs.Rule.{laid}
 use Rattle.tables.specs.Answer.{tagIn}
-use Rattle.tables.specs.Call.{Told, toldSmall}
-use Rattle.vfs.specs.Mounting.{counted, plannedMem, EndsAt}
+use Rattle.tables.specs.Call.{Told, tells, refuses, toldSmall}
+use Rattle.vfs.specs.Mounting.{plannedMem, EndsAt}
 use Rattle.vfs.specs.declared.backend.Backend.{Backend}
 use Rattle.vfs.specs.declared.restoring.Restored.{Restored}
 use Rattle.vfs.specs.declared.restoring.Restored.the-variants.{Done, TooLong, Inval, BadIndex, Inode, NoRoom, Small}
 
 -- the number and the values of each answer (R91 to R95)
 unfoldable pub restoredTold : Restored → Told
-restoredTold (Done a d) = record { code = DONE; answer = restored (tagIn a) (tagIn d); count = 0 }
-restoredTold TooLong = counted TOOLONG 0
-restoredTold Inval = counted INVAL 0
-restoredTold BadIndex = counted BADINDEX 0
-restoredTold Inode = counted INODE 0
-restoredTold NoRoom = counted NOROOM 0
+restoredTold (Done a d) = tells (restored (tagIn a) (tagIn d))
+restoredTold TooLong = refuses TOOLONG
+restoredTold Inval = refuses INVAL
+restoredTold BadIndex = refuses BADINDEX
+restoredTold Inode = refuses INODE
+restoredTold NoRoom = refuses NOROOM
 restoredTold Small = toldSmall
 
 -- rows 7 and 8 on the node x: the tag replaced, and the tag displaced (R93)
