@@ -15,6 +15,7 @@ use Rattle.rules.specs.Create.{Creation, tooSmall, outside, unknown, newInstanc
 use Rattle.rules.proofs.Tests.{or-neither}
 use Rattle.id_map.specs.declared.IdMapping.{IdMapping}
 use Rattle.tables.specs.Table.{putRow, tab}
+use Rattle.tables.specs.Layout.{mark}
 use Rattle.tables.specs.View.{nodesFrom, view}
 use Rattle.tables.specs.Rule.{laid}
 use Rattle.tables.specs.Write.{putHeader}
@@ -28,8 +29,8 @@ use Rattle.storage.proofs.Slots.{length-slots, slots-empty}
 -- ---- what the writes come to
 
 pub words-put : (mem : List ℕ) (n known ins outs : ℕ) →
-    put 8 (put 8 (put 8 (put 8 (put 8 (put 8 (put 8 mem 0 5927113483044536647) 8 n) 16 0) 24 2) 32 known) 40 ins) 48 outs
-    ≡ putHeader 0 (bytesOf 8 5927113483044536647 ∷ bytesOf 8 n ∷ bytesOf 8 0 ∷ bytesOf 8 2 ∷ bytesOf 8 known ∷ bytesOf 8 ins ∷ bytesOf 8 outs ∷ []) mem
+    put 8 (put 8 (put 8 (put 8 (put 8 (put 8 (put 8 mem 0 mark) 8 n) 16 0) 24 2) 32 known) 40 ins) 48 outs
+    ≡ putHeader 0 (bytesOf 8 mark ∷ bytesOf 8 n ∷ bytesOf 8 0 ∷ bytesOf 8 2 ∷ bytesOf 8 known ∷ bytesOf 8 ins ∷ bytesOf 8 outs ∷ []) mem
 unfolding put write putHeader putRow
 words-put mem n known ins outs = refl
 
@@ -41,7 +42,7 @@ bytes-put mem flags = refl
 pub all-put : (mem : List ℕ) (n known ins outs flags : ℕ) (m : IdMapping) →
     putHeader 13 (bytesOf 1 flags ∷ bytesOf 1 1 ∷ bytesOf 1 0 ∷ bytesOf 1 0 ∷ bytesOf 8 0 ∷ [])
     (put 4 (put 4 (put 4 (put 4 (put 4 (put 4
-    (putHeader 0 (bytesOf 8 5927113483044536647 ∷ bytesOf 8 n ∷ bytesOf 8 0 ∷ bytesOf 8 2 ∷ bytesOf 8 known ∷ bytesOf 8 ins ∷ bytesOf 8 outs ∷ []) (emptySlots mem))
+    (putHeader 0 (bytesOf 8 mark ∷ bytesOf 8 n ∷ bytesOf 8 0 ∷ bytesOf 8 2 ∷ bytesOf 8 known ∷ bytesOf 8 ins ∷ bytesOf 8 outs ∷ []) (emptySlots mem))
     56 (m .internal)) 60 (m .external)) 64 (m .range)) 68 (m .internal)) 72 (m .external)) 76 (m .range))
     ≡ createMem (creationOf n known ins outs flags m) mem
 unfolding put write putHeader putRow createMem spell headerOf newInstance
@@ -88,7 +89,7 @@ module _ (q : Creation) (mem : List ℕ) where
       }
 
   module _ (l : Limits (newInstance q)) (b : storageFor (q .capacity) ≤ length mem) where
-    pub view-created : view (createMem q mem) ≡ newInstance q
+    view-created : view (createMem q mem) ≡ newInstance q
     unfolding createMem newInstance nodesFrom tab
     view-created =
         let size : length (emptySlots mem) ≡ length mem = length-slots mem in
@@ -102,7 +103,7 @@ module _ (q : Creation) (mem : List ℕ) where
           tree = newInstance q .tree;
         })
 
-    pub laid-created : laid (createMem q mem) ≡ true
+    laid-created : laid (createMem q mem) ≡ true
     unfolding createMem newInstance
     laid-created =
         let size : length (emptySlots mem) ≡ length mem = length-slots mem in

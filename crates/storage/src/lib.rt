@@ -7,6 +7,7 @@ ghost use lib.ListN.{length};
 ghost use Rattle.le.specs.Mem.{write, bytesOf, put};
 ghost use Rattle.id_map.specs.Mapping.{mappingOf};
 ghost use Rattle.rules.specs.Create.{tooSmall};
+ghost use Rattle.tables.specs.Layout.{mark};
 ghost use Rattle.tables.specs.Rule.{laid};
 ghost use Rattle.tables.specs.Write.{putHeader, setRemoval};
 ghost use Rattle.tables.specs.Call.{answeredBy, Does};
@@ -99,7 +100,7 @@ pub fn is_laid(s: &[u8]) -> bool
         return false;
     }
     let next = le::fields::get_u64(s, 24);
-    if next < 2 {
+    if next < rules::FIRST_NODE {
         return false;
     }
     if rules::NUMBERS < next {
@@ -150,7 +151,7 @@ fn put_slots(s: &mut [u8])
 // The mark, N, no node, the first number, and the option bits.
 fn put_words(s: &mut [u8], n: u64, known: u64, in_opts: u64, out_opts: u64)
     requires { ⌜ 8192 ≤ length (now s) ⌝ }
-    ensures { λ _. ⌜ now (s .exit) ≡ putHeader 0 (bytesOf 8 5927113483044536647 ∷ bytesOf 8 n ∷ bytesOf 8 0 ∷ bytesOf 8 2 ∷ bytesOf 8 known ∷ bytesOf 8 «in_opts» ∷ bytesOf 8 «out_opts» ∷ []) (now (s .entry)) ⌝ }
+    ensures { λ _. ⌜ now (s .exit) ≡ putHeader 0 (bytesOf 8 mark ∷ bytesOf 8 n ∷ bytesOf 8 0 ∷ bytesOf 8 2 ∷ bytesOf 8 known ∷ bytesOf 8 «in_opts» ∷ bytesOf 8 «out_opts» ∷ []) (now (s .entry)) ⌝ }
 {
     le::fields::put_u64(s, 0, MARK);
     le::fields::put_u64(s, 8, n);

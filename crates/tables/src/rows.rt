@@ -86,7 +86,7 @@ pub fn child_alike(s: &[u8], i: usize, here: u64, name: &[u8]) -> bool
     requires { ⌜ cellIs (now s) (tableAt + 24 * capacityOf (now s)) (maskOf (now name)) (wordOf (now name)) i ≡ true ⌝ }
     ensures { λ r. ⌜ r ≡ isChild here (now (name .entry)) (nodeAt (capacityOf (now (s .entry))) (now (s .entry)) i) ⌝ }
 {
-    if 255 < name.len() {
+    if rules::MAX_NAME < name.len() {
         return false;
     }
     if parent(s, i) != here {
@@ -134,10 +134,10 @@ fn is_in_place(s: &[u8], x: u64) -> bool
     requires { ⌜ Laid (now s) ⌝ }
     ensures { λ r. ⌜ r ≡ inPlace (now (s .entry)) x ⌝ }
 {
-    if x < 2 {
+    if x < rules::FIRST_NODE {
         return false;
     }
-    let i = (x - 2) as usize;
+    let i = (x - rules::FIRST_NODE) as usize;
     if crate::header::count(s) <= i {
         return false;
     }

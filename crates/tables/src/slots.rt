@@ -54,6 +54,6 @@ pub fn search(s: &[u8]) -> index::Allocated
     requires { ⌜ 8192 ≤ length (now s) ⌝ }
     ensures { λ r. ⌜ readOf r ≡ told (allocate (heldAt (now (s .entry))) (counterAt (now (s .entry)))) ⌝ }
 {
-    let c = le::fields::get_u8(s, 81);
+    let c = crate::header::counter(s);
     index::allocate_fs_idx(&s[256..512], c)
 }

@@ -11,7 +11,7 @@ use Rattle.tables.proofs.slots.search.Tie as tie
 returns : tie.Need-returns
 returns c = c .allocate-fs-idx .ensures ∙
     let s = c .before .before .before .before .args .s .now in
-    let e = allocate-same (heldIn (take 256 (drop 256 s))) (heldAt s) (held-lent s) (c .before .before .get-u8 .result) (search needs) in
+    let e = allocate-same (heldIn (take 256 (drop 256 s))) (heldAt s) (held-lent s) (c .before .before .counter .result) (search needs) in
     cc
 
 pub search-spec : {M : Type 1} → statement M
