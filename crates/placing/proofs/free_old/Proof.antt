@@ -1,4 +1,4 @@
--- `placing::free_old` meets its contract: each way through it by its law.
+-- The slot of the index is read, then emptied; without a mount all stays. Assumes nothing.
 use borrow.Author.Needs.{needs}
 use Rattle.placing.proofs.Returns.{frees-point, frees-none}
 use Rattle.tables.proofs.Keeps.{laid-long, laid-is}

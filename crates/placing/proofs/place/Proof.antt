@@ -1,4 +1,4 @@
--- `placing::place` meets its contract: each way through it by its law.
+-- The old index is freed and the new slot read; then mount and slot are written. Assumes nothing.
 use borrow.Author.Needs.{needs}
 use native.Mathlib.Omega.{arith}
 use Rattle.tables.proofs.Keeps.{laid-long, laid-is}

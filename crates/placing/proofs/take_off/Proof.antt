@@ -1,4 +1,4 @@
--- `placing::take_off` meets its contract: each way through it by its law.
+-- The slot is read; then the mount is taken off, the node taken out or not, and the slot emptied. Assumes nothing.
 use borrow.Author.Needs.{needs}
 use Rattle.placing.proofs.Returns.{laid-mounted, row-mounted, takes-off}
 use native.Mathlib.Omega.{arith}

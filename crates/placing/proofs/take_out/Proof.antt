@@ -1,4 +1,4 @@
--- `placing::take_out` meets its contract: each way through it by its law.
+-- The node is taken out where removal is set and it is not the root. Assumes nothing.
 use borrow.Author.Needs.{needs}
 use Rattle.placing.proofs.Returns.{row-of, stays-unset, stays-root, goes, nothing-goes}
 use Rattle.tables.proofs.Keeps.{laid-long, laid-is}
