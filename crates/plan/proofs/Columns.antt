@@ -25,7 +25,7 @@ use Rattle.tables.specs.Layout.{capacityOf, nextOf}
 use Rattle.tables.specs.View.{nodeAt, nodesOf}
 use Rattle.tables.specs.Answer.{placeIn}
 use Rattle.tables.proofs.Tab.{length-tab, tab-next, tab-done, tab-append}
-use Rattle.tables.proofs.Places.{place-first, place-nowhere, nodes-count, nodes-at}
+use Rattle.tables.proofs.Places.{place-nowhere, node-found}
 use Rattle.plan.specs.Plan.{Columns, columns, noted, plannedAt, plannedFrom}
 use Rattle.plan.proofs.Nodes.{node-second}
 
@@ -100,10 +100,6 @@ module _ (path : List ℕ) (next : ℕ) (t : Columns) (x : ℕ) where
 
 -- ---- the parent of a node, live or planned
 
-pub up-root : (ns : List Node) (x : ℕ) → x ≡ rootNumber → rootNumber ≡ parentIn ns x
-unfolding parentIn
-up-root ns x e = rw (eq-eqb x 1 e)
-
 module _ (mem path : List ℕ) (t : Columns) (count x : ℕ) (d : x ≡ rootNumber → ⊥) where
   abbrev all : List Node
   all = nodesOf mem ++ plannedFrom path (nextOf mem) t 0 count
@@ -111,9 +107,7 @@ module _ (mem path : List ℕ) (t : Columns) (count x : ℕ) (d : x ≡ rootNumb
   pub up-live : (i : ℕ) → placeIn (nodesOf mem) x ≡ some i → nodeAt (capacityOf mem) mem i .above ≡ parentIn all x
   unfolding parentIn
   up-live i e =
-      let f = place-first (nodesOf mem) x i e in
-      let n : nodeIn all x ≡ some (nodeAt (capacityOf mem) mem i) = node-append (nodesOf mem) (plannedFrom path (nextOf mem) t 0 count) x _ (f .node ∙ ap some (nodes-at mem i (omega (arith, f .within, nodes-count mem)))) in
-      rw (ne-eqb x 1 d, n)
+      rw (ne-eqb x 1 d, node-append (nodesOf mem) (plannedFrom path (nextOf mem) t 0 count) x (nodeAt (capacityOf mem) mem i) (node-found mem x i e))
 
   module _ (e : placeIn (nodesOf mem) x ≡ none) where
     -- among the planned nodes alone

@@ -65,7 +65,7 @@ module _ (nodes : List Node) (x : ℕ) (p : List ℕ) where
 -- ---- the number found
 
 -- index 0 leaves a number as it is
-pub full-zero : (y : ℕ) → full 0 y ≡ y
+full-zero : (y : ℕ) → full 0 y ≡ y
 unfolding full
 full-zero y = go (eqb y 0) refl
   where
@@ -86,8 +86,12 @@ refused-not : (i : Instance) (y : ℕ) (o : Outcome) → (o .code ≡ 0 → ⊥)
 unfolding entryOf
 refused-not i y o h e = h (sym (ap (λ (o : Outcome). o .code) e))
 
+-- no mounts are asked
+abbrev noMounts : ℕ → Option Mount
+noMounts y = none
+
 -- an outcome tells its find
-outcome-apart : (i : Instance) (a b : Finding) → outcomeOf (λ (y : ℕ). none) i a ≡ outcomeOf (λ (y : ℕ). none) i b → a ≡ b
+outcome-apart : (i : Instance) (a b : Finding) → outcomeOf noMounts i a ≡ outcomeOf noMounts i b → a ≡ b
 unfolding outcomeOf entryOf
 outcome-apart i (FindingNode y) (FindingNode z) e = ap FindingNode (entry-number i y z e)
 outcome-apart i (FindingNode y) NoEnt e = absurd (refused-not i y _ (λ z. omega arith) e)
@@ -98,10 +102,6 @@ outcome-apart i NoEnt Inval e = absurd (omega (arith, ap (λ (o : Outcome). o .c
 outcome-apart i Inval (FindingNode z) e = absurd (refused-not i z _ (λ y. omega arith) (sym e))
 outcome-apart i Inval NoEnt e = absurd (omega (arith, ap (λ (o : Outcome). o .code) e))
 outcome-apart i Inval Inval e = refl
-
--- no mounts are asked
-abbrev noMounts : ℕ → Option Mount
-noMounts y = none
 
 module _ (mem : List ℕ) (x : ℕ) (p : List ℕ) where
   abbrev nodes : List Node

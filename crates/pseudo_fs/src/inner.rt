@@ -23,7 +23,6 @@ ghost use mathlib.Core.Path.{_≡_};
 ghost use Rattle.rules.specs.Numbers.{orZero, convert};
 ghost use Rattle.rules.specs.Path.{components};
 ghost use Rattle.rules.specs.Tree.{childIn};
-ghost use Rattle.rules.specs.Outcome.{orZero};
 ghost use Rattle.tables.specs.View.{mappingFrom, headOf, nodesOf};
 ghost use Rattle.tables.specs.Rule.{Laid};
 ghost use Rattle.pseudo_fs.specs.Walks.{Walks};

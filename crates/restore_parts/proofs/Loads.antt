@@ -15,12 +15,11 @@ use Rattle.tables.specs.Table.{row, over, Fit}
 use Rattle.tables.specs.Layout.{header, capacityOf, countOf, nextOf}
 use Rattle.tables.specs.View.{field, headOf, nodesOf, view}
 use Rattle.tables.specs.Rule.{laidBy, laid, Laid}
-use Rattle.tables.specs.Write.{fromPlace, putHeader, setNext}
-use Rattle.tables.proofs.Table.{length-putRow}
+use Rattle.tables.specs.Write.{fromPlace, setNext}
 use Rattle.tables.proofs.Spells.{cell-back}
 use Rattle.tables.proofs.Heads.{head-put, view-header}
 use Rattle.tables.proofs.Refine.{view-append}
-use Rattle.tables.proofs.Keeps.{laid-ruled, is-ruled, laid-is, length-append, keeps-append}
+use Rattle.tables.proofs.Keeps.{laid-ruled, is-ruled, laid-is, length-header, length-append, keeps-append}
 use Rattle.tables.proofs.Places.{nodes-count}
 use Rattle.restore_parts.specs.Parts.{Loads, loadNode, loadNodes}
 use Rattle.restore_parts.proofs.Records.{AllLoad}
@@ -60,8 +59,8 @@ module _ (mem : List ℕ) (d : Laid mem) (x : ℕ) (top : x ≤ 2 ^ 56) where
   next-next = ap (λ (h : List (List ℕ)). field 3 h) next-head ∙ next-is
 
   pub next-length : length after ≡ length mem
-  unfolding setNext putHeader
-  next-length = length-putRow header (fromPlace 3 xs) mem 0
+  unfolding setNext
+  next-length = length-header 3 xs mem
 
   pub next-laid : 2 ≤ x → Laid after
   next-laid low = record {

@@ -16,10 +16,9 @@ use Rattle.tables.specs.Layout.{header}
 use Rattle.tables.specs.View.{field, headOf, nodesOf, view}
 use Rattle.tables.specs.Rule.{laidBy, laid}
 use Rattle.tables.specs.Write.{fromPlace, putHeader, setNext, heldByte}
-use Rattle.tables.proofs.Table.{length-putRow}
 use Rattle.tables.proofs.Spells.{cell-back}
 use Rattle.tables.proofs.Heads.{head-put, view-header}
-use Rattle.tables.proofs.Keeps.{laid-ruled, is-ruled}
+use Rattle.tables.proofs.Keeps.{laid-ruled, is-ruled, length-header}
 use Rattle.restore_parts.specs.Parts.{hasBits, optionCells, setOptions, setState}
 
 -- ---- what the writes come to
@@ -131,8 +130,7 @@ module _ (next counter : ℕ) (o : Options) (mem : List ℕ) where
     -- ---- the layout rule
 
     state-length : length (setState next counter o mem) ≡ length mem
-    unfolding putHeader
-    state-length = ap length one-row ∙ length-putRow header (fromPlace 3 cells) mem 0
+    state-length = ap length one-row ∙ length-header 3 cells mem
 
     pub state-keeps : laid mem ≡ true → 2 ≤ next → unknown (view mem .fixed .known) o ≡ false → laid (setState next counter o mem) ≡ true
     unfolding laid over row view

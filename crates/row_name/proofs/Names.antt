@@ -77,7 +77,7 @@ module _ (n : ℕ) (mem : List ℕ) (i : ℕ) where
         (omega arith, ap (bytesOf 7) high ∙ bytes-back 7 mem (lastAt n i + 1) b)
 
     -- the lowest is the length
-    pub cell-size : v % 256 ≡ length name
+    cell-size : v % 256 ≡ length name
     cell-size = name-size (v % 256) (apart .0) (omega arith)
 
     -- a name of up to seven bytes is the number above it

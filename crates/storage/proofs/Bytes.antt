@@ -15,7 +15,7 @@ abbrev pub AllBytes : List (List ℕ) → Type 0
 AllBytes [] = 0 ≤ 0
 AllBytes (x ∷ xs) = Bytes x × AllBytes xs
 
-pub nil-bytes : Bytes []
+nil-bytes : Bytes []
 nil-bytes at = omega arith
 
 pub zeros-bytes : (n : ℕ) → Bytes (replicate n 0)

@@ -16,23 +16,22 @@ use Rattle.tables.specs.Layout.{header}
 use Rattle.tables.specs.View.{field, mountFrom, slotsOf, nodesFrom, view}
 use Rattle.tables.specs.Rule.{laidBy, laid}
 use Rattle.tables.specs.Write.{putHeader, heldByte}
-use Rattle.tables.proofs.Table.{length-putRow}
 use Rattle.tables.proofs.Spells.{whole}
 use Rattle.tables.proofs.Heads.{head-put, view-header}
-use Rattle.tables.proofs.Keeps.{is-ruled}
+use Rattle.tables.proofs.Keeps.{is-ruled, length-header}
 use Rattle.storage.specs.Header.{spell, headerOf}
 use Rattle.storage.specs.Limits.{Limits, Widths}
 
 -- ---- numbers as cells
 
-pub spell-fits : (cs : List Col) (vs : List ℕ) → Fit cs (spell cs vs)
+spell-fits : (cs : List Col) (vs : List ℕ) → Fit cs (spell cs vs)
 unfolding spell
 spell-fits [] vs = omega arith
 spell-fits (c ∷ cs) [] = omega arith
 spell-fits (c ∷ cs) (v ∷ vs) = (omega (arith, length-bytesOf (c .width) v), spell-fits cs vs)
 
 -- number k is read again
-pub spelt : (cs : List Col) (vs : List ℕ) (mem : List ℕ) (i k : ℕ) → Widths cs vs → k < length vs → k < length cs → field k (over cs (spell cs vs) mem i) ≡ getD vs k 0
+spelt : (cs : List Col) (vs : List ℕ) (mem : List ℕ) (i k : ℕ) → Widths cs vs → k < length vs → k < length cs → field k (over cs (spell cs vs) mem i) ≡ getD vs k 0
 unfolding spell over
 spelt [] vs mem i k w h g = absurd (omega arith)
 spelt (c ∷ cs) [] mem i k w h g = absurd (omega arith)
@@ -103,14 +102,14 @@ module _ (i : Instance) (mem : List ℕ) (l : Limits i) (b : 256 ≤ length mem)
       })
 
   pub laid-headed : 512 * i .fixed .capacity + 8192 ≤ length mem → laid after ≡ true
-  unfolding laid headerOf putHeader
+  unfolding laid headerOf
   laid-headed long =
       let f : (k : ℕ) → k < 18 → field k H ≡ getD vs k 0 = reads in
       let n : field 1 H ≡ i .fixed .capacity = f 1 (omega arith) in
       let c : field 2 H ≡ length (i .tree .nodes) = f 2 (omega arith) in
       let x : field 3 H ≡ i .tree .next = f 3 (omega arith) in
       let g : field 13 H ≡ i .options .flags = f 13 (omega arith) in
-      let size : length after ≡ length mem = length-putRow header (spell header vs) mem 0 in
+      let size : length after ≡ length mem = length-header 0 (spell header vs) mem in
       ap₂ laidBy (head-put 0 (spell header vs) mem (spell-fits header vs) b) size
       ∙ is-ruled H (length mem) (record {
         size = record {

@@ -11,7 +11,7 @@ use lib.ListN.{length, take, set, replicate, length-replicate}
 use lib.Seq.{take-all, take-suc-set}
 use Rattle.le.specs.Mem.{bytesOf}
 use Rattle.rules.specs.Bytes.{Bytes}
-use Rattle.rules.specs.Numbers.{rootNumber, storageFor}
+use Rattle.rules.specs.Numbers.{storageFor}
 use Rattle.rules.specs.Tree.{Mount}
 use Rattle.rules.specs.Instance.{Slot, Instance, withIndexes, withTree}
 use Rattle.tables.specs.Table.{tab}
@@ -19,11 +19,9 @@ use Rattle.tables.specs.Layout.{header, slotTable}
 use Rattle.tables.specs.View.{slotsOf, nodesFrom, view}
 use Rattle.tables.specs.Rule.{laid}
 use Rattle.tables.specs.Write.{fromPlace, putHeader, heldByte, setSlot, mountCells, setRootMount}
-use Rattle.tables.specs.Answer.{mountMem}
 use Rattle.tables.proofs.Tab.{length-tab}
-use Rattle.tables.proofs.Table.{length-putRow}
 use Rattle.tables.proofs.Refine.{view-slot, view-root-mount}
-use Rattle.tables.proofs.Keeps.{laid-long, laid-is, keeps-slot, keeps-mount}
+use Rattle.tables.proofs.Keeps.{laid-long, laid-is, length-header, length-slot, keeps-slot, keeps-root}
 use Rattle.storage.specs.Header.{spell, headerOf}
 use Rattle.storage.specs.Limits.{SlotsFit, Onto}
 use Rattle.storage.proofs.Bytes.{AllBytes, zeros-bytes, number-bytes, row-bytes, spell-bytes, from-bytes}
@@ -35,10 +33,6 @@ use Rattle.storage.proofs.Rows.{may-fit, putRows, length-rows, rows-byt
 unfoldable putSlots : List Slot → ℕ → List ℕ → List ℕ
 putSlots [] k mem = mem
 putSlots (s ∷ ss) k mem = putSlots ss (k + 1) (setSlot k (s .held) (s .tag) mem)
-
-length-slot : (k : ℕ) (s : Slot) (mem : List ℕ) → length (setSlot k (s .held) (s .tag) mem) ≡ length mem
-unfolding setSlot
-length-slot k s mem = length-putRow slotTable (bytesOf 1 (heldByte (s .held)) ∷ bytesOf 4 (s .tag) ∷ []) mem k
 
 slot-bytes : (k : ℕ) (s : Slot) (mem : List ℕ) → Bytes mem → Bytes (setSlot k (s .held) (s .tag) mem)
 unfolding setSlot
@@ -73,7 +67,7 @@ slots-there (s ∷ ss) k mem e f h =
     let in′ : k < length S = omega (arith, slots-count mem) in
     let l : take (k + 1) (set S k s) ++ ss ≡ take k S ++ (s ∷ ss) = rw (add-one, take-suc-set S k s, append-assoc) in
     record {
-      size = r .size ∙ length-slot k s mem;
+      size = r .size ∙ length-slot k (s .held) (s .tag) mem;
       bytes = λ b. r .bytes (slot-bytes k s mem b);
       keeps = r .keeps;
       stands = r .stands ∙ (ap (λ (i : Instance). withSlots (take (k + 1) (i .indexes .slots) ++ ss) i) v ∙ ap (λ (ys : List Slot). withSlots ys (view mem)) l);
@@ -82,8 +76,8 @@ slots-there (s ∷ ss) k mem e f h =
 -- ---- all of it
 
 root-length : (m : Option Mount) (mem : List ℕ) → length (setRootMount m mem) ≡ length mem
-unfolding setRootMount putHeader
-root-length m mem = length-putRow header (fromPlace 17 (mountCells m)) mem 0
+unfolding setRootMount
+root-length m mem = length-header 17 (mountCells m) mem
 
 root-bytes : (m : Option Mount) (mem : List ℕ) → Bytes mem → Bytes (setRootMount m mem)
 unfolding setRootMount putHeader
@@ -93,17 +87,9 @@ root-bytes m mem h = row-bytes header (fromPlace 17 (mountCells m)) mem 0 h (fro
     cells none = (number-bytes 8 0, omega arith)
     cells (some o) = (number-bytes 8 (o .index * 2 ^ 56 + o .root), (number-bytes 4 (o .uid), (number-bytes 4 (o .gid), (number-bytes 4 (o .mode), omega arith))))
 
-root-keeps : (m : Option Mount) (mem : List ℕ) → laid mem ≡ true → laid (setRootMount m mem) ≡ true
-unfolding mountMem
-root-keeps m mem e = keeps-mount mem e m rootNumber
-
 head-bytes : (i : Instance) (mem : List ℕ) → Bytes mem → Bytes (putHeader 0 (spell header (headerOf i)) mem)
 unfolding putHeader
 head-bytes i mem h = row-bytes header (spell header (headerOf i)) mem 0 h (spell-bytes header (headerOf i))
-
-head-length : (i : Instance) (mem : List ℕ) → length (putHeader 0 (spell header (headerOf i)) mem) ≡ length mem
-unfolding putHeader
-head-length i mem = length-putRow header (spell header (headerOf i)) mem 0
 
 pub onto : Onto
 unfolding nodesFrom tab
@@ -126,9 +112,9 @@ onto i l =
     let v₄ = view-root-mount m₃ (laid-is m₃ (slotted .keeps)) (i .tree .root) (may-fit (i .tree .root) (l .root)) in (
       m₄,
       record {
-        long = root-length (i .tree .root) m₃ ∙ (slotted .size ∙ (head-length i m₁ ∙ size₁));
+        long = root-length (i .tree .root) m₃ ∙ (slotted .size ∙ (length-header 0 (spell header (headerOf i)) m₁ ∙ size₁));
         bytes = root-bytes (i .tree .root) m₃ (slotted .bytes (head-bytes i m₁ (rows-bytes n ns 0 m₀ (l .nodes) (zeros-bytes (storageFor n)))));
-        keeps = root-keeps (i .tree .root) m₃ (slotted .keeps);
+        keeps = keeps-root m₃ (slotted .keeps) (i .tree .root);
         stands =
             v₄
             ∙ (ap (λ (j : Instance). withTree (record { next = j .tree .next; root = i .tree .root; nodes = j .tree .nodes }) j) v₃

@@ -1,5 +1,5 @@
 -- What the rules say of a number, and what is written for it, by the place of its row. Assumes nothing.
-use mathlib.Core.Path.{_≡_, refl, sym, ap, _∙_}
+use mathlib.Core.Path.{_≡_, refl, ap}
 use mathlib.Core.Bool.{Bool, true, false, cond, not, _&&_}
 use mathlib.Core.List.{List, [], _∷_}
 use mathlib.Core.Option.{Option, none, some}
@@ -18,7 +18,7 @@ use Rattle.tables.specs.Layout.{mountCellAt, capacityOf, countOf}
 use Rattle.tables.specs.View.{nodeAt, nodesOf, view}
 use Rattle.tables.specs.Write.{putHeader, setRootMount, setRowMount}
 use Rattle.tables.specs.Answer.{placeIn, inPlace, mountMem, rowFor}
-use Rattle.tables.proofs.Places.{nobody, place-first, place-nowhere, nodes-count, nodes-at, row-below}
+use Rattle.tables.proofs.Places.{nobody, place-nowhere, nodes-count, nodes-at, node-found}
 
 
 -- a number that a row has is a node's
@@ -32,6 +32,11 @@ some-node (n ∷ ns) x j h e = go (eqb (n .number) x) refl j h e (some-node ns x
     go true q j h e k = refl
     go false q zero h e k = absurd (eqb-false (n .number) x q e)
     go false q (suc j) h e k = k j (omega arith) e
+
+-- the root is its own parent, whatever the nodes are
+pub parent-root : (ns : List Node) (x : ℕ) → x ≡ rootNumber → parentIn ns x ≡ rootNumber
+unfolding parentIn
+parent-root ns x r = rw (eq-eqb x 1 r)
 
 -- the three tests of a node in its place
 module _ (mem : List ℕ) (x : ℕ) where
@@ -47,14 +52,7 @@ module _ (mem : List ℕ) (x : ℕ) where
   unfolding inPlace
   placed-by-number l h v e = rw (e, le-ltb x 2 l, lt-ltb (x - 2) (countOf mem) h)
 
--- the row that a search for a number found, or did not
 module _ (mem : List ℕ) (x : ℕ) where
-  missing : placeIn (nodesOf mem) x ≡ none → nodeIn (nodesOf mem) x ≡ none
-  missing e = place-nowhere (nodesOf mem) x e .node
-
-  row-at : (i : ℕ) → placeIn (nodesOf mem) x ≡ some i → nodeIn (nodesOf mem) x ≡ some (nodeAt (capacityOf mem) mem i)
-  row-at i e = place-first (nodesOf mem) x i e .node ∙ ap some (nodes-at mem i (row-below mem x i e))
-
   -- ---- what the rules say of the number, by its place
 
   pub known-root : x ≡ rootNumber → isKnown (nodesOf mem) x ≡ true
@@ -63,7 +61,7 @@ module _ (mem : List ℕ) (x : ℕ) where
 
   pub known-found : (x ≡ rootNumber → ⊥) → (i : ℕ) → placeIn (nodesOf mem) x ≡ some i → isKnown (nodesOf mem) x ≡ true
   unfolding isKnown
-  known-found r i e = rw (ne-eqb x 1 r, row-at i e)
+  known-found r i e = rw (ne-eqb x 1 r, node-found mem x i e)
 
   pub known-in-place : (x ≡ rootNumber → ⊥) → inPlace mem x ≡ true → isKnown (nodesOf mem) x ≡ true
   unfolding inPlace isKnown
@@ -76,19 +74,15 @@ module _ (mem : List ℕ) (x : ℕ) where
 
   pub known-missing : (x ≡ rootNumber → ⊥) → placeIn (nodesOf mem) x ≡ none → isKnown (nodesOf mem) x ≡ false
   unfolding isKnown
-  known-missing r e = rw (ne-eqb x 1 r, missing e)
-
-  pub parent-root : x ≡ rootNumber → parentIn (nodesOf mem) x ≡ rootNumber
-  unfolding parentIn
-  parent-root r = rw (eq-eqb x 1 r)
+  known-missing r e = rw (ne-eqb x 1 r, place-nowhere (nodesOf mem) x e .node)
 
   pub parent-found : (x ≡ rootNumber → ⊥) → (i : ℕ) → placeIn (nodesOf mem) x ≡ some i → parentIn (nodesOf mem) x ≡ nodeAt (capacityOf mem) mem i .above
   unfolding parentIn
-  parent-found r i e = rw (ne-eqb x 1 r, row-at i e)
+  parent-found r i e = rw (ne-eqb x 1 r, node-found mem x i e)
 
   pub parent-missing : (x ≡ rootNumber → ⊥) → placeIn (nodesOf mem) x ≡ none → parentIn (nodesOf mem) x ≡ rootNumber
   unfolding parentIn
-  parent-missing r e = rw (ne-eqb x 1 r, missing e)
+  parent-missing r e = rw (ne-eqb x 1 r, place-nowhere (nodesOf mem) x e .node)
 
   pub mount-root : x ≡ rootNumber → mountOf (view mem .tree) x ≡ view mem .tree .root
   unfolding mountOf
@@ -96,11 +90,11 @@ module _ (mem : List ℕ) (x : ℕ) where
 
   pub mount-found : (x ≡ rootNumber → ⊥) → (i : ℕ) → placeIn (nodesOf mem) x ≡ some i → mountOf (view mem .tree) x ≡ nodeAt (capacityOf mem) mem i .mount
   unfolding mountOf view
-  mount-found r i e = rw (ne-eqb x 1 r, row-at i e)
+  mount-found r i e = rw (ne-eqb x 1 r, node-found mem x i e)
 
   pub mount-missing : (x ≡ rootNumber → ⊥) → placeIn (nodesOf mem) x ≡ none → mountOf (view mem .tree) x ≡ none
   unfolding mountOf view
-  mount-missing r e = rw (ne-eqb x 1 r, missing e)
+  mount-missing r e = rw (ne-eqb x 1 r, place-nowhere (nodesOf mem) x e .node)
 
   -- ---- what is written for the number, by its place
 

@@ -15,7 +15,7 @@ use Rattle.tables.proofs.Table.{put-below, close-below, upper-kept, row
 
 -- ---- where the three tables stand
 
-pub header-ordered : Behind 1 0 header
+header-ordered : Behind 1 0 header
 header-ordered = omega arith
 
 pub slots-ordered : Behind 256 0 slotTable

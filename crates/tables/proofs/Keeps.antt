@@ -117,7 +117,7 @@ same-laid : (m′ mem : List ℕ) → headOf m′ ≡ headOf mem → length m′
 unfolding laid
 same-laid m′ mem h l = ap₂ laidBy h l
 
-length-header : (k : ℕ) (xs : List (List ℕ)) (mem : List ℕ) → length (putHeader k xs mem) ≡ length mem
+pub length-header : (k : ℕ) (xs : List (List ℕ)) (mem : List ℕ) → length (putHeader k xs mem) ≡ length mem
 unfolding putHeader
 length-header k xs mem = length-putRow header (fromPlace k xs) mem 0
 
@@ -137,14 +137,14 @@ laid-header k xs mem f l = ap₂ laidBy (head-put k xs mem f l) (length-header k
 one-byte : (c : ℕ) → Fit header (fromPlace 14 (bytesOf 1 c ∷ []))
 one-byte c = omega (arith, length-bytesOf 1 c)
 
-slot-length : (k : ℕ) (held : Bool) (tag : ℕ) (mem : List ℕ) → length (setSlot k held tag mem) ≡ length mem
+pub length-slot : (k : ℕ) (held : Bool) (tag : ℕ) (mem : List ℕ) → length (setSlot k held tag mem) ≡ length mem
 unfolding setSlot
-slot-length k held tag mem = length-putRow slotTable (bytesOf 1 (heldByte held) ∷ bytesOf 4 tag ∷ []) mem k
+length-slot k held tag mem = length-putRow slotTable (bytesOf 1 (heldByte held) ∷ bytesOf 4 tag ∷ []) mem k
 
 module _ (mem : List ℕ) (e : laid mem ≡ true) where
   pub keeps-slot : (k : ℕ) (held : Bool) (tag : ℕ) → k < 256 → tag < 2 ^ 32 → laid (setSlot k held tag mem) ≡ true
   keeps-slot k held tag h t =
-      same-laid (setSlot k held tag mem) mem (slot-head k h held tag mem t (laid-long mem e)) (slot-length k held tag mem) ∙ e
+      same-laid (setSlot k held tag mem) mem (slot-head k h held tag mem t (laid-long mem e)) (length-slot k held tag mem) ∙ e
 
   pub keeps-counter : (c : ℕ) → laid (setCounter c mem) ≡ true
   unfolding setCounter over row laidBy laid
@@ -154,10 +154,10 @@ module _ (mem : List ℕ) (e : laid mem ≡ true) where
   unfolding setRemoval over row laidBy laid
   keeps-removal = laid-header 15 (bytesOf 1 1 ∷ []) mem (omega (arith, length-bytesOf 1 1)) (omega (arith, laid-long mem e)) ∙ e
 
-  root-kept : (m : Option Mount) → laid (setRootMount m mem) ≡ true
+  pub keeps-root : (m : Option Mount) → laid (setRootMount m mem) ≡ true
   unfolding setRootMount over row laidBy laid
-  root-kept none = laid-header 17 (mountCells none) mem (root-fit none) (omega (arith, laid-long mem e)) ∙ e
-  root-kept (some m) = laid-header 17 (mountCells (some m)) mem (root-fit (some m)) (omega (arith, laid-long mem e)) ∙ e
+  keeps-root none = laid-header 17 (mountCells none) mem (root-fit none) (omega (arith, laid-long mem e)) ∙ e
+  keeps-root (some m) = laid-header 17 (mountCells (some m)) mem (root-fit (some m)) (omega (arith, laid-long mem e)) ∙ e
 
   rows-kept : (n : ℕ) (xs : List (List ℕ)) (i : ℕ) → laid (putRow (nodeTable n) xs mem i) ≡ true
   rows-kept n xs i =
@@ -169,7 +169,7 @@ module _ (mem : List ℕ) (e : laid mem ≡ true) where
   keeps-mount m x = go (eqb x rootNumber) (placeIn (nodesOf mem) x)
     where
       go : (b : Bool) (o : Option ℕ) → laid (cond b (setRootMount m mem) (atPlace o (λ (i : ℕ). setRowMount m i mem) mem)) ≡ true
-      go true o = root-kept m
+      go true o = keeps-root m
       go false none = e
       go false (some i) = rows-kept (capacityOf mem) (rowMountCells m) i
 

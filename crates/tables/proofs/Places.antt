@@ -90,6 +90,10 @@ module _ (mem : List ℕ) where
   pub row-below : (x i : ℕ) → placeIn (nodesOf mem) x ≡ some i → i < countOf mem
   row-below x i e = omega (arith, place-first (nodesOf mem) x i e .within, nodes-count)
 
+  -- the node of that number is that row's
+  pub node-found : (x i : ℕ) → placeIn (nodesOf mem) x ≡ some i → nodeIn (nodesOf mem) x ≡ some (nodeAt (capacityOf mem) mem i)
+  node-found x i e = place-first (nodesOf mem) x i e .node ∙ ap some (nodes-at i (row-below x i e))
+
 module _ (mem : List ℕ) (d : Laid mem) (x : ℕ) where
   row-nowhere : (m : Option Mount) → placeIn (nodesOf mem) x ≡ none
       → view mem ≡ withTree (record { next = view mem .tree .next; root = view mem .tree .root; nodes = mountAt m (view mem .tree .nodes) x }) (view mem)

@@ -107,7 +107,7 @@ module _ (n : ℕ) (xs : List (List ℕ)) (mem : List ℕ) (i : ℕ) (b : i < n)
   unfolding nodeAt
   row-other j c q = ap nodeFrom (put-other n i b (nodeTable n) xs mem j 0 (nodes-ordered n) f c (apart i j q))
 
-  pub nodes-set : (c : ℕ) → i < c → c ≤ n → nodesFrom n P 0 c ≡ set (nodesFrom n mem 0 c) i written
+  nodes-set : (c : ℕ) → i < c → c ≤ n → nodesFrom n P 0 c ≡ set (nodesFrom n mem 0 c) i written
   unfolding nodesFrom
   nodes-set c h g =
       tab-set (nodeAt n mem) (nodeAt n P) 0 i c h (λ j q e. row-other j (omega arith) (λ z. q (omega arith)))
@@ -119,7 +119,7 @@ module _ (n : ℕ) (xs : List (List ℕ)) (mem : List ℕ) (i : ℕ) (b : i < n)
       tab-append (nodeAt n mem) (nodeAt n P) i (λ j e. row-other j (omega arith) (λ z. omega arith))
       ∙ ap (λ (x : Node). tab (nodeAt n mem) 0 i ++ (x ∷ [])) row-there
 
-pub rows-closed : (n : ℕ) (mem : List ℕ) (i k : ℕ) → i + 1 + k ≤ n → 512 * n + 8192 ≤ length mem → nodesFrom n (closeUp (nodeTable n) mem i k) 0 (i + k) ≡ removeAt i (nodesFrom n mem 0 (i + suc k))
+rows-closed : (n : ℕ) (mem : List ℕ) (i k : ℕ) → i + 1 + k ≤ n → 512 * n + 8192 ≤ length mem → nodesFrom n (closeUp (nodeTable n) mem i k) 0 (i + k) ≡ removeAt i (nodesFrom n mem 0 (i + suc k))
 unfolding nodesFrom nodeAt
 rows-closed n mem i k fits l =
     tab-remove (nodeAt n mem) (nodeAt n (closeUp (nodeTable n) mem i k)) i k
@@ -183,11 +183,8 @@ module _ (mem : List ℕ) (d : Laid mem) where
       let e : i + k ≡ c - 1 = omega arith in
       let g : i + suc k ≡ c = omega arith in
       let gone : nodesFrom n m′ 0 (c - 1) ≡ removeAt i (nodesFrom n mem 0 c) =
-      subst (λ (z : ℕ). nodesFrom n m′ 0 z ≡ removeAt i (nodesFrom n mem 0 c)) e (subst (λ (z : ℕ). nodesFrom n m′ 0 (i + k) ≡ removeAt i (nodesFrom n mem 0 z)) g (closed i k fits)) in
+      subst (λ (z : ℕ). nodesFrom n m′ 0 z ≡ removeAt i (nodesFrom n mem 0 c)) e (subst (λ (z : ℕ). nodesFrom n m′ 0 (i + k) ≡ removeAt i (nodesFrom n mem 0 z)) g (rows-closed n mem i k fits (d .long))) in
       view-low 2 xs m′ mem (one-fit (c - 1)) (closed-low n mem i k) l ∙ rw a (λ t. withTree (record { next = view mem .tree .next; root = view mem .tree .root; nodes = gone t }) (view mem))
-    where
-      closed : (i k : ℕ) → i + 1 + k ≤ n → nodesFrom n (closeUp (nodeTable n) mem i k) 0 (i + k) ≡ removeAt i (nodesFrom n mem 0 (i + suc k))
-      closed i k fits = rows-closed n mem i k fits (d .long)
 
   -- ---- mounts
 

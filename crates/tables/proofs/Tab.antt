@@ -13,7 +13,7 @@ module _ {A : Type 0} where
   length-tab f i zero = refl
   length-tab f i (suc k) = ap suc (length-tab f (i + 1) k)
 
-  pub tab-add : (f : ℕ → A) (i a b : ℕ) → tab f i (a + b) ≡ tab f i a ++ tab f (i + a) b
+  tab-add : (f : ℕ → A) (i a b : ℕ) → tab f i (a + b) ≡ tab f i a ++ tab f (i + a) b
   unfolding tab
   tab-add f i zero b = rw (zero-add, add-zero)
   tab-add f i (suc a) b =
@@ -43,7 +43,7 @@ module _ {A : Type 0} where
       tab-at f (i + 1) k j d (omega arith) ∙ rw e
 
   -- g's places are f's, d further on
-  pub tab-shift : (f g : ℕ → A) (d i k : ℕ) → ((j : ℕ) → i ≤ j → j < i + k → g j ≡ f (j + d)) → tab g i k ≡ tab f (i + d) k
+  tab-shift : (f g : ℕ → A) (d i k : ℕ) → ((j : ℕ) → i ≤ j → j < i + k → g j ≡ f (j + d)) → tab g i k ≡ tab f (i + d) k
   unfolding tab
   tab-shift f g d i zero h = refl
   tab-shift f g d i (suc k) h =

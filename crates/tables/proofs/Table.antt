@@ -17,7 +17,7 @@ times : (w a b : ℕ) → a ≤ b → w * a ≤ w * b
 times w a b h = mul-le-mul-left w h
 
 -- a cell ends where the next begins, or before
-pub cell-end : (c : Col) (i j : ℕ) → i < j → off c i + c .width ≤ off c j
+cell-end : (c : Col) (i j : ℕ) → i < j → off c i + c .width ≤ off c j
 cell-end c i j h = omega (arith, mul-suc (c .width) i, times (c .width) (suc i) j h)
 
 split : (w k j : ℕ) → k ≤ j → w * k + w * (j - k) ≡ w * j
@@ -31,7 +31,7 @@ above-less : (d e : ℕ) (cs : List Col) → d ≤ e → Above e cs → Above d 
 above-less d e [] h a = a
 above-less d e (c ∷ cs) h a = (let b = a .0 in omega arith, above-less d e cs h (a .1))
 
-pub behind-above : (n e : ℕ) (cs : List Col) → Behind n e cs → Above e cs
+behind-above : (n e : ℕ) (cs : List Col) → Behind n e cs → Above e cs
 behind-above n e [] b = b
 behind-above n e (c ∷ cs) b = (b .0, above-less e (off c n) cs (let h = b .0 in omega arith) (behind-above n (off c n) cs (b .1)))
 
@@ -67,7 +67,7 @@ put-below (c ∷ cs) (x ∷ xs) mem i e q w a h =
     put-below cs xs _ i e q w (a .1) h ∙ read-apart mem (off c i) x (length x) q w refl (inl (omega arith))
 
 -- a write below the columns changes no row
-pub row-kept : (cs : List Col) (mem : List ℕ) (o : ℕ) (bs : List ℕ) (e j : ℕ) → Above e cs → o + length bs ≤ e → row cs (write mem o bs) j ≡ row cs mem j
+row-kept : (cs : List Col) (mem : List ℕ) (o : ℕ) (bs : List ℕ) (e j : ℕ) → Above e cs → o + length bs ≤ e → row cs (write mem o bs) j ≡ row cs mem j
 unfolding row
 row-kept [] mem o bs e j a h = refl
 row-kept (c ∷ cs) mem o bs e j a h =

@@ -20,7 +20,7 @@ use Rattle.tables.specs.Write.{putHeader, setCount, setNext, setCounter,
 -- ---- the header
 
 module _ (mem : List ℕ) where
-  pub put-count : (v : ℕ) → put 8 mem 16 v ≡ setCount v mem
+  put-count : (v : ℕ) → put 8 mem 16 v ≡ setCount v mem
   unfolding put write setCount putHeader putRow
   put-count v = refl
 
@@ -81,11 +81,11 @@ moves-close (c ∷ cs) mem k m out (mem′, e, es) =
 -- ---- a name: its length and its last bytes, and the bytes before them
 
 module _ (p : List ℕ) where
-  pub last-bytes : read p (length p - 7) (length p - (length p - 7)) ≡ drop (length p - 7) p
+  last-bytes : read p (length p - 7) (length p - (length p - 7)) ≡ drop (length p - 7) p
   last-bytes = read-slice p (length p - 7) (length p - (length p - 7)) (omega arith)
       ∙ take-all (length p - (length p - 7)) (drop (length p - 7) p) (omega (arith, length-drop (length p - 7) p))
 
-  pub first-bytes : read p 0 (length p - 7) ≡ take (length p - 7) p
+  first-bytes : read p 0 (length p - 7) ≡ take (length p - 7) p
   first-bytes = read-slice p 0 (length p - 7) (omega arith)
 
 -- the code writes the cells of a new node

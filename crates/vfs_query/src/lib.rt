@@ -23,7 +23,6 @@ ghost use mathlib.Core.Path.{_≡_};
 ghost use mathlib.Core.Bool.{true};
 ghost use Rattle.rules.specs.Numbers.{orZero, convert};
 ghost use Rattle.rules.specs.Instance.{Instance, tagOf};
-ghost use Rattle.rules.specs.Outcome.{orZero};
 ghost use Rattle.rules.specs.Lookup.{routeTag, routeRule, lookupRule, remapped, remapRule};
 ghost use Rattle.rules.specs.Unmount.{rootHeld, rootRule};
 ghost use Rattle.tables.specs.View.{view};

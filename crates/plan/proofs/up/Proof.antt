@@ -3,13 +3,14 @@ use mathlib.Core.Path.{sym, ap, _∙_}
 use native.Mathlib.Omega.{arith}
 use Rattle.tables.specs.Answer.{rowIn}
 use Rattle.tables.proofs.Places.{row-below}
-use Rattle.plan.proofs.Columns.{up-root, up-live, up-before, up-planned, up-behind}
+use Rattle.tables.proofs.ByPlace.{parent-root}
+use Rattle.plan.proofs.Columns.{up-live, up-before, up-planned, up-behind}
 use borrow.Author.Needs.{needs}
 use Rattle.plan.proofs.up.Statement.{statement}
 use Rattle.plan.proofs.up.Tie as tie
 
 returns : tie.Need-returns
-returns c = λ path starts lens. up-root _ _ (c .if1 .taken)
+returns c = λ path starts lens. sym (parent-root _ _ (c .if1 .taken))
 
 parent-requires : tie.Need-parent-requires
 unfolding rowIn
