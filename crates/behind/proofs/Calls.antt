@@ -24,9 +24,8 @@ use Rattle.tables.specs.View.{view}
 use Rattle.tables.specs.Rule.{laid}
 use Rattle.tables.specs.Write.{setCounter, setRemoval}
 use Rattle.tables.proofs.Refine.{view-counter}
-use Rattle.tables.proofs.Keeps.{laid-is, keeps-counter}
+use Rattle.tables.proofs.Keeps.{laid-is, laid-long, keeps-counter}
 use Rattle.placing.specs.Place.{InSlots, placeMem}
-use Rattle.placing.proofs.Stands.{long}
 use Rattle.plan.specs.Apply.{appendAll}
 use Rattle.plan.proofs.Spare.{room-left}
 use Rattle.plan.proofs.Fresh.{Fresh, planned-fresh}
@@ -45,11 +44,11 @@ module _ (rest : List ℕ) where
 
   pub removal-front : (mem : List ℕ) → laid mem ≡ true → Leaves setRemoval mem rest
   unfolding setRemoval
-  removal-front mem e = header-front rest mem (long mem e) 15 (bytesOf 1 1 ∷ []) (omega (arith, length-bytesOf 1 1))
+  removal-front mem e = header-front rest mem (laid-long mem e) 15 (bytesOf 1 1 ∷ []) (omega (arith, length-bytesOf 1 1))
 
   counter-front : (mem : List ℕ) → laid mem ≡ true → (c : ℕ) → Leaves (setCounter c) mem rest
   unfolding setCounter
-  counter-front mem e c = header-front rest mem (long mem e) 14 (bytesOf 1 c ∷ []) (omega (arith, length-bytesOf 1 c))
+  counter-front mem e c = header-front rest mem (laid-long mem e) 14 (bytesOf 1 c ∷ []) (omega (arith, length-bytesOf 1 c))
 
   -- ---- mount and restored mount
 
@@ -97,7 +96,7 @@ module _ (rest : List ℕ) where
 
     moved : view (allocMem mem) ≡ withCounter (allocation i .counter) i
     unfolding allocMem
-    moved = view-counter (allocation i .counter) mem counter-low (omega (arith, long mem e))
+    moved = view-counter (allocation i .counter) mem counter-low (omega (arith, laid-long mem e))
 
     keeps-alloc : laid (allocMem mem) ≡ true
     unfolding allocMem

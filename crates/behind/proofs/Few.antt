@@ -15,7 +15,7 @@ use Rattle.rules.proofs.Fields.{get-fits}
 use Rattle.tables.specs.Table.{row, tab}
 use Rattle.tables.specs.Layout.{capacityOf, countOf, mountCellAt}
 use Rattle.tables.specs.View.{mountFrom, nodeFrom, nodeAt, view}
-use Rattle.tables.proofs.Places.{nodes-of}
+use Rattle.tables.proofs.Find.{nodes-of}
 use Rattle.placing.specs.Place.{InSlots}
 use Rattle.plan.proofs.Fresh.{Fresh}
 

@@ -6,10 +6,11 @@ use mathlib.Core.Option.{Option}
 use Prim.Native.Nat.{ℕ, _+_, _-_, _*_, _≤_, _<_}
 use native.Mathlib.Nat.{mul-add, mul-le-mul-left}
 use native.Mathlib.Omega.{arith}
-use lib.ListN.{length, take, drop, take-append-drop, set, length-set, length-append, List·getD-append}
-use lib.Seq.{length-take-le, set-append-left}
+use lib.ListN.{length, take, drop, take-append-drop, length-append, List·getD-append}
+use lib.Seq.{length-take-le}
 use Rattle.le.specs.Mem.{read, write, bytesOf, get}
 use Rattle.le.proofs.Lens.{length-write, read-ext}
+use Rattle.le.proofs.Writes.{write-before}
 use Rattle.rules.specs.Numbers.{storageFor}
 use Rattle.rules.specs.Tree.{Mount}
 use Rattle.rules.proofs.Fields.{length-read, length-bytesOf}
@@ -31,13 +32,6 @@ module _ (rest : List ℕ) where
   read-front : (mem : List ℕ) (p k : ℕ) → p + k ≤ length mem → read (mem ++ rest) p k ≡ read mem p k
   read-front mem p k h = read-ext (mem ++ rest) mem p p k (λ i l. List·getD-append mem rest 0 (p + i) (omega arith))
 
-  pub write-front : (mem : List ℕ) (at : ℕ) (bs : List ℕ) → at + length bs ≤ length mem → write (mem ++ rest) at bs ≡ write mem at bs ++ rest
-  unfolding write
-  write-front mem at [] h = refl
-  write-front mem at (b ∷ bs) h =
-      ap (λ (m : List ℕ). write m (at + 1) bs) (set-append-left mem rest at b (omega arith))
-      ∙ write-front (set mem at b) (at + 1) bs (omega (arith, length-set mem at b))
-
   -- ---- rows
 
   row-front : (n : ℕ) (cs : List Col) (mem : List ℕ) (j : ℕ) → j < n → Beneath n cs (length mem) → row cs (mem ++ rest) j ≡ row cs mem j
@@ -50,7 +44,7 @@ module _ (rest : List ℕ) where
   put-front n (c ∷ cs) (x ∷ xs) mem i l b f =
       let end = b .0 in
       let fit = f .0 in
-      ap (λ (m : List ℕ). putRow cs xs m i) (write-front mem (off c i) x (omega (arith, cell-end c i n l)))
+      ap (λ (m : List ℕ). putRow cs xs m i) (write-before mem rest (off c i) x (omega (arith, cell-end c i n l)))
       ∙ put-front n cs xs (write mem (off c i) x) i l (subst (λ (e : ℕ). Beneath n cs e) (sym (length-write mem (off c i) x)) (b .1)) (f .1)
 
   close-front : (n k m : ℕ) → k + 1 + m ≤ n → (cs : List Col) (mem : List ℕ) → Beneath n cs (length mem) → closeUp cs (mem ++ rest) k m ≡ closeUp cs mem k m ++ rest
@@ -65,7 +59,7 @@ module _ (rest : List ℕ) where
       let next = mul-add (c .width) k 1 in
       let size = length-read mem (off c (k + 1)) l in
       ap (λ (r : List ℕ). closeUp cs (write (mem ++ rest) (off c k) r) k m) (read-front mem (off c (k + 1)) l (omega arith))
-      ∙ ap (λ (x : List ℕ). closeUp cs x k m) (write-front mem (off c k) bs (omega arith))
+      ∙ ap (λ (x : List ℕ). closeUp cs x k m) (write-before mem rest (off c k) bs (omega arith))
       ∙ close-front n k m h cs (write mem (off c k) bs) (subst (λ (e : ℕ). Beneath n cs e) (sym (length-write mem (off c k) bs)) (b .1))
 
   -- ---- the instance

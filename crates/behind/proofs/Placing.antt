@@ -1,14 +1,14 @@
 -- A mount placed and taken off, and nodes made, in bytes with a rest behind them. Assumes nothing.
-use mathlib.Core.Path.{_≡_, refl, sym, ap, _∙_}
+use mathlib.Core.Path.{_≡_, refl, ap, _∙_}
 use mathlib.Core.Bool.{Bool, true, false, cond, not, _&&_}
 use mathlib.Core.List.{List, [], _∷_, _++_}
 use mathlib.Core.Option.{Option, none, some}
 use Prim.Native.Nat.{ℕ, _+_, _^_, _≤_, _<_}
 use native.Mathlib.Omega.{arith}
-use lib.ListN.{length, length-append}
+use lib.ListN.{length}
 use lib.Dec.{eqb}
 use Rattle.rules.specs.Numbers.{rootNumber}
-use Rattle.rules.specs.Tree.{Mount, Node, bare}
+use Rattle.rules.specs.Tree.{Mount, Node}
 use Rattle.rules.specs.Instance.{Instance, mountOf}
 use Rattle.tables.specs.Layout.{capacityOf, countOf, nextOf}
 use Rattle.tables.specs.View.{flag, headOf, nodesOf, view}
@@ -16,14 +16,13 @@ use Rattle.tables.specs.Rule.{laid, Laid}
 use Rattle.tables.specs.Write.{setSlot, mountCells, setRootMount, setRowMount, removeRow, appendNode}
 use Rattle.tables.specs.Answer.{placeIn, atPlace, mountMem, removeMem}
 use Rattle.tables.proofs.Spells.{root-fit}
-use Rattle.tables.proofs.Refine.{view-append}
-use Rattle.tables.proofs.Places.{place-first, nodes-count}
-use Rattle.tables.proofs.Keeps.{laid-is, keeps-mount, keeps-append}
+use Rattle.tables.proofs.Places.{row-below}
+use Rattle.tables.proofs.Keeps.{laid-is, laid-long, keeps-mount, keeps-append}
 use Rattle.placing.specs.Place.{freedMem, placeMem, outMem, takeOffMem, InSlots}
-use Rattle.placing.proofs.Stands.{long, keeps-freed, keeps-out}
+use Rattle.placing.proofs.Stands.{keeps-freed, keeps-out}
 use Rattle.plan.specs.Apply.{appendAll}
-use Rattle.plan.proofs.Spare.{view-next, view-capacity, view-count}
 use Rattle.plan.proofs.Fresh.{Fresh}
+use Rattle.plan.proofs.Grows.{append-capacity, append-count, append-next}
 use Rattle.behind.specs.Behind.{Leaves}
 use Rattle.behind.proofs.Front.{header-front, slot-front, view-front, row-mount-front, append-front, remove-front}
 
@@ -36,18 +35,15 @@ module _ (rest : List ℕ) where
     unfolding view
     nodes-front = ap (λ (i : Instance). i .tree .nodes) (view-front rest mem d)
 
-    within : (x i : ℕ) → placeIn (nodesOf mem) x ≡ some i → i < countOf mem
-    within x i q = omega (arith, place-first (nodesOf mem) x i q .within, nodes-count mem)
-
     mount-front : (m : Option Mount) (x : ℕ) → Leaves (λ (s : List ℕ). mountMem (nodesOf s) m x s) mem rest
     unfolding mountMem setRootMount
     mount-front m x = ap (λ (ns : List Node). mountMem ns m x (mem ++ rest)) nodes-front ∙ go (eqb x rootNumber) (placeIn (nodesOf mem) x) refl
       where
         go : (b : Bool) (o : Option ℕ) → placeIn (nodesOf mem) x ≡ o
             → cond b (setRootMount m (mem ++ rest)) (atPlace o (λ (i : ℕ). setRowMount m i (mem ++ rest)) (mem ++ rest)) ≡ cond b (setRootMount m mem) (atPlace o (λ (i : ℕ). setRowMount m i mem) mem) ++ rest
-        go true o q = header-front rest mem (long mem e) 17 (mountCells m) (root-fit m)
+        go true o q = header-front rest mem (laid-long mem e) 17 (mountCells m) (root-fit m)
         go false none q = refl
-        go false (some i) q = row-mount-front rest mem d m i (within x i q)
+        go false (some i) q = row-mount-front rest mem d m i (row-below mem x i q)
 
     gone-front : (x : ℕ) → Leaves (λ (s : List ℕ). removeMem (nodesOf s) x s) mem rest
     unfolding removeMem
@@ -55,12 +51,12 @@ module _ (rest : List ℕ) where
       where
         go : (o : Option ℕ) → placeIn (nodesOf mem) x ≡ o → atPlace o (λ (i : ℕ). removeRow i (mem ++ rest)) (mem ++ rest) ≡ atPlace o (λ (i : ℕ). removeRow i mem) mem ++ rest
         go none q = refl
-        go (some i) q = remove-front rest mem d i (within x i q)
+        go (some i) q = remove-front rest mem d i (row-below mem x i q)
 
     freed-front : (m : Option Mount) → InSlots m → Leaves (freedMem m) mem rest
     unfolding freedMem
     freed-front none h = refl
-    freed-front (some m) h = slot-front rest mem (long mem e) (m .index) false 0 h
+    freed-front (some m) h = slot-front rest mem (laid-long mem e) (m .index) false 0 h
 
     out-front : (x : ℕ) → Leaves (outMem x) mem rest
     unfolding outMem view
@@ -84,7 +80,7 @@ module _ (rest : List ℕ) where
         ap (λ (i : Instance). put (freedMem (mountOf (i .tree) x) (mem ++ rest))) (view-front rest mem (laid-is mem e))
         ∙ ap put (freed-front mem e old h)
         ∙ ap (setSlot (m .index) true tag) (mount-front m₁ k₁ (some m) x)
-        ∙ slot-front rest m₂ (long m₂ (keeps-mount m₁ k₁ (some m) x)) (m .index) true tag k
+        ∙ slot-front rest m₂ (laid-long m₂ (keeps-mount m₁ k₁ (some m) x)) (m .index) true tag k
 
     pub take-off-front : (m : Mount) (x : ℕ) → m .index < 256 → Leaves (takeOffMem m x) mem rest
     unfolding takeOffMem
@@ -94,7 +90,7 @@ module _ (rest : List ℕ) where
         let m₂ = outMem x m₁ in
         ap (λ (s : List ℕ). setSlot (m .index) false 0 (outMem x s)) (mount-front mem e none x)
         ∙ ap (setSlot (m .index) false 0) (out-front m₁ k₁ x)
-        ∙ slot-front rest m₂ (long m₂ (keeps-out x m₁ k₁)) (m .index) false 0 k
+        ∙ slot-front rest m₂ (laid-long m₂ (keeps-out x m₁ k₁)) (m .index) false 0 k
 
   -- ---- nodes made
 
@@ -104,11 +100,8 @@ module _ (rest : List ℕ) where
   grown-front (n ∷ ns) mem e f c x =
       let d = laid-is mem e in
       let m′ = appendNode (n .above) (n .called) mem in
-      let v = view-append mem d (n .above) (n .called) (omega arith) (omega arith) (f .1) (f .2) in
-      let next : nextOf m′ ≡ nextOf mem + 1 = sym (view-next m′) ∙ ap (λ (i : Instance). i .tree .next) v ∙ ap (λ (y : ℕ). y + 1) (view-next mem) in
-      let size : capacityOf m′ ≡ capacityOf mem = sym (view-capacity m′) ∙ ap (λ (i : Instance). i .fixed .capacity) v ∙ view-capacity mem in
-      let made : List Node = bare (nextOf mem) (n .above) (n .called) ∷ [] in
-      let rows : length (view m′ .tree .nodes) ≡ length (view mem .tree .nodes ++ made) = ap (λ (i : Instance). length (i .tree .nodes)) v in
-      let more : countOf m′ ≡ countOf mem + 1 = omega (arith, view-count m′, view-count mem, length-append (view mem .tree .nodes) made) in
+      let next = append-next mem d (n .above) (n .called) in
+      let more = append-count mem d (n .above) (n .called) in
+      let size = append-capacity mem d (n .above) (n .called) in
       ap (appendAll ns) (append-front rest mem d (n .above) (n .called) (f .2))
       ∙ grown-front ns m′ (keeps-append mem e (n .above) (n .called) (omega arith) (omega arith)) (rw next (f .3)) (omega arith) (omega arith)

@@ -8,6 +8,7 @@ use lib.ListN.{length, replicate, length-replicate}
 use lib.Dec.{eqb, ltb}
 use Rattle.le.specs.Mem.{write, bytesOf}
 use Rattle.le.proofs.Lens.{length-write}
+use Rattle.le.proofs.Writes.{write-before}
 use Rattle.rules.specs.Numbers.{DONE, BADSAVE, BADOPT, NOROOM, NOTFRESH, storageFor}
 use Rattle.rules.specs.Instance.{Instance, Options}
 use Rattle.rules.specs.Outcome.{nothing, refused, says, _⇒_, firstOf}
@@ -21,18 +22,17 @@ use Rattle.tables.specs.View.{view}
 use Rattle.tables.specs.Rule.{laid}
 use Rattle.tables.specs.Write.{fromPlace, putHeader, setNext, heldByte, appendNode}
 use Rattle.tables.proofs.Table.{length-putRow}
-use Rattle.tables.proofs.Keeps.{laid-is}
+use Rattle.tables.proofs.Keeps.{laid-is, laid-long}
 use Rattle.storage.specs.Header.{spell, headerOf}
 use Rattle.storage.proofs.Header.{spell-fits}
 use Rattle.storage.specs.Creation.{emptySlots, createMem}
-use Rattle.placing.proofs.Stands.{long}
 use Rattle.restore_parts.specs.Parts.{Loads, loadNode, loadNodes, hasBits, optionCells, setOptions, setState, stateMem}
 use Rattle.restore_parts.proofs.Records.{AllLoad, count-is, all-load}
 use Rattle.restore_parts.proofs.Loads.{loads, loads-all, loaded-capacity, loaded-count, next-laid}
 use Rattle.persist.specs.Restoring.{restoreStateMem}
 use Rattle.persist.proofs.StateWays.{room}
 use Rattle.behind.specs.Behind.{Leaves}
-use Rattle.behind.proofs.Front.{write-front, header-front, view-front, laid-front, append-front}
+use Rattle.behind.proofs.Front.{header-front, view-front, laid-front, append-front}
 
 module _ (rest : List ℕ) where
   -- ---- the records
@@ -45,7 +45,7 @@ module _ (rest : List ℕ) where
   unfolding loadNode
   load-front e mem k f =
       let m′ = setNext (e .number) mem in
-      ap (appendNode (e .above) (e .called)) (next-front mem (long mem k) (e .number))
+      ap (appendNode (e .above) (e .called)) (next-front mem (laid-long mem k) (e .number))
       ∙ append-front rest m′ (next-laid mem (laid-is mem k) (e .number) (omega (arith, f .top)) (f .low)) (e .above) (e .called) (f .short)
 
   loads-front : (es : List Entry) (mem : List ℕ) → laid mem ≡ true → AllLoad es → countOf mem + length es < capacityOf mem → Leaves (loadNodes es) mem rest
@@ -85,7 +85,7 @@ module _ (rest : List ℕ) where
         let all : AllLoad (s .nodes) = all-load saved a in
         let fit : countOf mem + length (s .nodes) < capacityOf mem = omega (arith, room mem saved k f a u t, count-is saved) in
         ap (setState (s .next) (s .counter) (s .options)) (loads-front (s .nodes) mem k all fit)
-        ∙ state-front (s .next) (s .counter) (s .options) (loadNodes (s .nodes) mem) (omega (arith, loads-all (s .nodes) mem k all fit .long, long mem k))
+        ∙ state-front (s .next) (s .counter) (s .options) (loadNodes (s .nodes) mem) (omega (arith, loads-all (s .nodes) mem k all fit .long, laid-long mem k))
 
     -- whether all four tests are passed
     done : Bool → Bool → Bool → Bool → Bool
@@ -123,6 +123,6 @@ module _ (rest : List ℕ) where
       let s₂ = length-write m₁ 512 (replicate 1024 0) in
       let a = length-replicate {A = ℕ} 256 0 in
       let b = length-replicate {A = ℕ} 1024 0 in
-      ap (λ (m : List ℕ). putHeader 0 cells (write m 512 (replicate 1024 0))) (write-front rest mem 256 (replicate 256 0) (omega arith))
-      ∙ ap (putHeader 0 cells) (write-front rest m₁ 512 (replicate 1024 0) (omega arith))
+      ap (λ (m : List ℕ). putHeader 0 cells (write m 512 (replicate 1024 0))) (write-before mem rest 256 (replicate 256 0) (omega arith))
+      ∙ ap (putHeader 0 cells) (write-before m₁ rest 512 (replicate 1024 0) (omega arith))
       ∙ header-front rest (write m₁ 512 (replicate 1024 0)) (omega arith) 0 cells (spell-fits header (headerOf (newInstance q)))

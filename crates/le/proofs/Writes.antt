@@ -24,7 +24,7 @@ write-behind [] m at bs = rw zero-add
 write-behind (x ∷ p) m at bs = rw (suc-add, write-suc x (p ++ m) (length p + at) bs, write-behind p m at bs)
 
 -- into what stands in front of q
-write-before : (m q : List ℕ) (at : ℕ) (bs : List ℕ) → at + length bs ≤ length m → write (m ++ q) at bs ≡ write m at bs ++ q
+pub write-before : (m q : List ℕ) (at : ℕ) (bs : List ℕ) → at + length bs ≤ length m → write (m ++ q) at bs ≡ write m at bs ++ q
 unfolding write
 write-before m q at [] h = refl
 write-before m q at (b ∷ bs) h =

@@ -29,15 +29,15 @@ module _ (mem : List ℕ) (d : Laid mem) (above : ℕ) (p : List ℕ) where
   abbrev after : List ℕ
   after = appendNode above p mem
 
-  append-capacity : capacityOf after ≡ capacityOf mem
+  pub append-capacity : capacityOf after ≡ capacityOf mem
   unfolding over row get
   append-capacity = ap (λ (h : List (List ℕ)). field 1 h) (head-append mem d above p)
 
-  append-count : countOf after ≡ countOf mem + 1
+  pub append-count : countOf after ≡ countOf mem + 1
   unfolding over row get
   append-count = ap (λ (h : List (List ℕ)). field 2 h) (head-append mem d above p) ∙ whole 8 (countOf mem + 1) mem _ (omega (arith, d .live, d .few-nodes))
 
-  append-next : nextOf after ≡ nextOf mem + 1
+  pub append-next : nextOf after ≡ nextOf mem + 1
   unfolding over row get
   append-next = ap (λ (h : List (List ℕ)). field 3 h) (head-append mem d above p) ∙ whole 8 (nextOf mem + 1) mem _ (omega (arith, d .top))
 

@@ -20,7 +20,6 @@ use Rattle.tables.specs.Write.{putHeader, setRootMount, setRowMount}
 use Rattle.tables.specs.Answer.{placeIn, inPlace, mountMem, rowFor}
 use Rattle.tables.proofs.Places.{nobody, place-nowhere, nodes-count, nodes-at, node-found}
 
-
 -- a number that a row has is a node's
 some-node : (ns : List Node) (x j : ℕ) → j < length ns → getD ns j nobody .number ≡ x → isNone (nodeIn ns x) ≡ false
 unfolding nodeIn
