@@ -23,10 +23,11 @@ use Rattle.rules.proofs.Driven.{no-nodes, no-root}
 use Rattle.tables.specs.Table.{row}
 use Rattle.tables.specs.Layout.{capacityOf, countOf}
 use Rattle.tables.specs.View.{view}
-use Rattle.tables.specs.Rule.{laid, Laid}
+use Rattle.tables.specs.Rule.{laid}
 use Rattle.tables.specs.Call.{toldBy, Does}
-use Rattle.tables.proofs.Keeps.{laid-long, laid-is}
+use Rattle.tables.proofs.Keeps.{laid-long}
 use Rattle.tables.proofs.Places.{nodes-count}
+use Rattle.storage.proofs.Laid.{laid-by}
 use Rattle.storage.proofs.Calls.{does-small, does-nothing, does}
 use Rattle.saved.proofs.Accepted.{accepted-long}
 use Rattle.restore_parts.specs.Parts.{loadNodes, stateMem}
@@ -105,15 +106,8 @@ module _ (b : List ℕ) (a : Bool) (ae : a ≡ accepted b) (e : not a ≡ false)
   pub long-by : 56 ≤ length b
   long-by = accepted-long b accepted-by
 
-module _ (mem : List ℕ) (l : Bool) (le : l ≡ laid mem) (on : not l ≡ false) where
-  pub laid-by : laid mem ≡ true
-  laid-by = sym le ∙ not-false l on
-
-  pub rule-by : Laid mem
-  rule-by = laid-is mem laid-by
-
-  pub bytes-by : 8192 ≤ length mem
-  bytes-by = laid-long mem laid-by
+pub bytes-by : (mem : List ℕ) (l : Bool) → l ≡ laid mem → not l ≡ false → 8192 ≤ length mem
+bytes-by mem l le on = laid-long mem (laid-by mem l le on)
 
 module _ (mem b : List ℕ) where
   abbrev F : Instance → Outcome

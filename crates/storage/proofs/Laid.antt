@@ -1,10 +1,10 @@
 -- The layout rule, test by test: where one fails the rule does. And what it means for the answer of a call. Assumes nothing.
-use mathlib.Core.Path.{_≡_}
-use mathlib.Core.Bool.{true, false, not, _||_, and-true}
+use mathlib.Core.Path.{_≡_, sym, _∙_}
+use mathlib.Core.Bool.{Bool, true, false, not, _||_, and-true}
 use mathlib.Core.List.{List}
 use Prim.Native.Nat.{ℕ, _+_, _*_, _^_, _≤_, _<_}
 use lib.ListN.{length}
-use borrow.Author.Tests.{eq-eqb, ne-eqb, le-leb, lt-leb, lt-ltb, le-ltb}
+use borrow.Author.Tests.{eq-eqb, ne-eqb, le-leb, lt-leb, lt-ltb, le-ltb, not-false}
 use Rattle.le.specs.Mem.{get}
 use Rattle.rules.specs.Ids.{Mapping, badMapping}
 use Rattle.rules.specs.Create.{outside, unknown}
@@ -15,8 +15,9 @@ use Rattle.rules.proofs.Tests.{fails}
 use Rattle.tables.specs.Table.{row}
 use Rattle.tables.specs.Layout.{mark, capacityOf, countOf, nextOf}
 use Rattle.tables.specs.View.{mappingFrom, headOf, view}
-use Rattle.tables.specs.Rule.{laidBy, laid}
+use Rattle.tables.specs.Rule.{laidBy, laid, Laid}
 use Rattle.tables.specs.Call.{toldBy, toldSmall, answeredBy}
+use Rattle.tables.proofs.Keeps.{laid-is}
 use Rattle.storage.specs.Laid.{settingsFit}
 
 -- ---- the last three
@@ -94,3 +95,12 @@ module _ (mem : List ℕ) where
   pub told-by : (f : Instance → Outcome) → laid mem ≡ true → answeredBy mem f ≡ toldBy (f (view mem))
   unfolding answeredBy
   told-by f e = rw e
+
+-- ---- a call that tested the rule, with the answer l, and goes on
+
+module _ (mem : List ℕ) (l : Bool) (le : l ≡ laid mem) (on : not l ≡ false) where
+  pub laid-by : laid mem ≡ true
+  laid-by = sym le ∙ not-false l on
+
+  pub rule-by : Laid mem
+  rule-by = laid-is mem laid-by

@@ -13,9 +13,8 @@ use Rattle.rules.specs.Instance.{Instance, mountOf}
 use Rattle.rules.specs.Outcome.{Outcome, unmounted, refused, firstOf}
 use Rattle.rules.specs.Unmount.{badPath, reached, unmounts, unmountAt, unmountRule}
 use Rattle.tables.specs.View.{nodesOf, view}
-use Rattle.tables.specs.Rule.{laid, Laid}
+use Rattle.tables.specs.Rule.{laid}
 use Rattle.tables.proofs.Places.{view-nodes}
-use Rattle.tables.proofs.Keeps.{laid-is}
 use Rattle.tables.specs.Answer.{mountOfPoint, mountIn}
 use Rattle.tables.specs.Call.{toldBy, Does}
 use Rattle.tables.specs.declared.slots.Tag.{Tag}
@@ -31,6 +30,7 @@ use Rattle.placing.proofs.Stands.{view-taken-off, keeps-taken-off}
 use Rattle.vfs.specs.Unmounting.{unmountedTold, offMem, unmountMem, Unmounts}
 use Rattle.vfs.specs.declared.unmounting.Unmounted.{Unmounted}
 use Rattle.vfs.specs.declared.unmounting.Unmounted.the-variants.{Done, NotFound, Inval, Small}
+use Rattle.storage.proofs.Laid.{laid-by}
 use Rattle.storage.proofs.Calls.{does-small, does-nothing, does}
 
 -- ---- of a node, by the mount on it
@@ -65,12 +65,6 @@ finds-none mem x on l o p =
     by-mount mem x none NotFound mem (sym o ∙ ap mountIn p) (record { told = refl; bytes = refl; stands = refl; keeps = l })
 
 -- ---- of a path
-
-pub laid-by : (mem : List ℕ) (l : Bool) → l ≡ laid mem → not l ≡ false → laid mem ≡ true
-laid-by mem l e n = sym e ∙ not-false l n
-
-pub rule-by : (mem : List ℕ) (l : Bool) → l ≡ laid mem → not l ≡ false → Laid mem
-rule-by mem l e n = laid-is mem (laid-by mem l e n)
 
 module _ (mem path : List ℕ) where
   abbrev F : Instance → Outcome

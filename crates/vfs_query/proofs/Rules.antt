@@ -28,12 +28,8 @@ use Rattle.pseudo_fs.proofs.Calls.{good-mapping}
 
 -- ---- the layout rule's test, r
 
-module _ (mem : List ℕ) (r : Bool) (e : r ≡ laid mem) where
-  pub small : (f : Instance → Outcome) → not r ≡ true → toldSmall ≡ answeredBy mem f
-  small f t = sym (told-small mem f (sym e ∙ not-true r t))
-
-  pub kept : not r ≡ false → laid mem ≡ true
-  kept t = sym e ∙ not-false r t
+pub small : (mem : List ℕ) (r : Bool) → r ≡ laid mem → (f : Instance → Outcome) → not r ≡ true → toldSmall ≡ answeredBy mem f
+small mem r e f t = sym (told-small mem f (sym e ∙ not-true r t))
 
 -- a call that found the layout rule kept tells what its rule gives
 pub tells-by : (mem : List ℕ) (f : Instance → Outcome) (t : Told) (o : Outcome) → laid mem ≡ true → t ≡ toldBy o → f (view mem) ≡ o → t ≡ answeredBy mem f

@@ -11,13 +11,14 @@ use Rattle.tables.specs.Rule.{laid}
 use Rattle.tables.specs.Answer.{mountIn}
 use Rattle.tables.proofs.Keeps.{laid-is}
 use Rattle.vfs_query.specs.Told.{rootfsTold}
-use Rattle.vfs_query.proofs.Rules.{small, kept, tells-by, root-unformed, root-unrooted, root-nowhere, root-bare, root-mounted}
+use Rattle.storage.proofs.Laid.{laid-by}
+use Rattle.vfs_query.proofs.Rules.{small, tells-by, root-unformed, root-unrooted, root-nowhere, root-bare, root-mounted}
 use borrow.Author.Needs.{needs}
 use Rattle.vfs_query.proofs.get_rootfs.Statement.{statement}
 use Rattle.vfs_query.proofs.get_rootfs.Tie as tie
 
 laid-here : (c : tie.Else1) → laid (now (c .before .before .before .before .args .s)) ≡ true
-laid-here c = kept _ _ (c .before .is-laid .ensures) (c .if1 .left)
+laid-here c = laid-by _ _ (c .before .is-laid .ensures) (c .if1 .left)
 
 formed : (c : tie.Else2) → wellFormed (now (c .before .before .before .before .before .before .args .path)) ≡ true
 formed c = sym (c .before .is-utf8 .ensures) ∙ not-false _ (c .if2 .left)

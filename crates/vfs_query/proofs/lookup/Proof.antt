@@ -6,14 +6,15 @@ use Rattle.tables.specs.Rule.{laid}
 use Rattle.tables.specs.Answer.{mountIn}
 use Rattle.tables.proofs.Keeps.{laid-is}
 use Rattle.pseudo_fs.specs.Told.{lookedTold}
-use Rattle.vfs_query.proofs.Rules.{small, kept}
+use Rattle.storage.proofs.Laid.{laid-by}
+use Rattle.vfs_query.proofs.Rules.{small}
 use Rattle.vfs_query.proofs.Looks.{cross-noent, cross-inval, cross-mounted, cross-bare}
 use borrow.Author.Needs.{needs}
 use Rattle.vfs_query.proofs.lookup.Statement.{statement}
 use Rattle.vfs_query.proofs.lookup.Tie as tie
 
 laid-here : (c : tie.Else1) → laid (now (c .before .before .before .before .args .s)) ≡ true
-laid-here c = kept _ _ (c .before .is-laid .ensures) (c .if1 .left)
+laid-here c = laid-by _ _ (c .before .is-laid .ensures) (c .if1 .left)
 
 returns : tie.Need-returns
 unfolding lookedTold

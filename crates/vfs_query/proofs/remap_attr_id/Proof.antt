@@ -5,13 +5,14 @@ use denote.Ref.{now}
 use Rattle.rules.specs.Lookup.{remapRule}
 use Rattle.tables.specs.Rule.{laid}
 use Rattle.vfs_query.specs.Told.{remappedTold}
-use Rattle.vfs_query.proofs.Rules.{small, kept, tells-by}
+use Rattle.storage.proofs.Laid.{laid-by}
+use Rattle.vfs_query.proofs.Rules.{small, tells-by}
 use borrow.Author.Needs.{needs}
 use Rattle.vfs_query.proofs.remap_attr_id.Statement.{statement}
 use Rattle.vfs_query.proofs.remap_attr_id.Tie as tie
 
 laid-here : (c : tie.Else1) → laid (now (c .before .before .before .args .s)) ≡ true
-laid-here c = kept _ _ (c .before .is-laid .ensures) (c .if1 .left)
+laid-here c = laid-by _ _ (c .before .is-laid .ensures) (c .if1 .left)
 
 returns : tie.Need-returns
 unfolding remappedTold

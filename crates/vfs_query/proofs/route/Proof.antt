@@ -6,13 +6,14 @@ use Rattle.tables.specs.Rule.{laid}
 use Rattle.tables.specs.Answer.{mountIn}
 use Rattle.tables.proofs.Keeps.{laid-is}
 use Rattle.vfs_query.specs.Told.{routedTold}
-use Rattle.vfs_query.proofs.Rules.{small, kept, tells-by, by-index, by-number, by-root, by-no-root}
+use Rattle.storage.proofs.Laid.{laid-by}
+use Rattle.vfs_query.proofs.Rules.{small, tells-by, by-index, by-number, by-root, by-no-root}
 use borrow.Author.Needs.{needs}
 use Rattle.vfs_query.proofs.route.Statement.{statement}
 use Rattle.vfs_query.proofs.route.Tie as tie
 
 laid-here : (c : tie.Else1) → laid (now (c .before .before .before .args .s)) ≡ true
-laid-here c = kept _ _ (c .before .is-laid .ensures) (c .if1 .left)
+laid-here c = laid-by _ _ (c .before .is-laid .ensures) (c .if1 .left)
 
 returns : tie.Need-returns
 unfolding routedTold

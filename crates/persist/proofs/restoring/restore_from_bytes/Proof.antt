@@ -1,6 +1,7 @@
 -- Each return is a row of the rule. Assumes nothing.
 use borrow.Author.Needs.{needs}
-use Rattle.persist.proofs.StateWays.{accepted-by, long-by, laid-by, rule-by, bytes-by, small, not-fresh, bad-save, bad-opt, no-room, fits-by, restores}
+use Rattle.storage.proofs.Laid.{laid-by, rule-by}
+use Rattle.persist.proofs.StateWays.{accepted-by, long-by, bytes-by, small, not-fresh, bad-save, bad-opt, no-room, fits-by, restores}
 use Rattle.persist.proofs.restoring.restore_from_bytes.Statement.{statement}
 use Rattle.persist.proofs.restoring.restore_from_bytes.Tie as tie
 

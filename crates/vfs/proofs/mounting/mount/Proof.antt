@@ -1,6 +1,6 @@
 -- `vfs::mounting::mount` meets its contract: each way through it by its law.
 use borrow.Author.Needs.{needs}
-use Rattle.vfs.proofs.UnmountWays.{laid-by}
+use Rattle.storage.proofs.Laid.{laid-by}
 use Rattle.vfs.proofs.FirstRows.{small, too-long, bad-bytes, passed, short-by, slash-by}
 use Rattle.vfs.proofs.MountCalls.{mount-begins, large, no-slash-ends, slash-ends}
 use Rattle.vfs.proofs.mounting.mount.Statement.{statement}

@@ -1,6 +1,6 @@
 -- `vfs::restoring::restore_mount` meets its contract: each way through it by its law.
 use borrow.Author.Needs.{needs}
-use Rattle.vfs.proofs.UnmountWays.{laid-by}
+use Rattle.storage.proofs.Laid.{laid-by}
 use Rattle.vfs.proofs.FirstRows.{small, too-long, bad-bytes, passed, short-by}
 use Rattle.vfs.proofs.RestoreCalls.{restore-begins, index-by, bad-index, large-back, no-slash-back, slash-back}
 use Rattle.vfs.proofs.restoring.restore_mount.Statement.{statement}

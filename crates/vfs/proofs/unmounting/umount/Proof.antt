@@ -1,6 +1,7 @@
 -- `vfs::unmounting::umount` meets its contract: each way through it by its law.
 use borrow.Author.Needs.{needs}
-use Rattle.vfs.proofs.UnmountWays.{laid-by, rule-by, small, bad-bytes, bad-slash, arrived, missing}
+use Rattle.storage.proofs.Laid.{laid-by, rule-by}
+use Rattle.vfs.proofs.UnmountWays.{small, bad-bytes, bad-slash, arrived, missing}
 use Rattle.vfs.proofs.unmounting.umount.Statement.{statement}
 use Rattle.vfs.proofs.unmounting.umount.Tie as tie
 
