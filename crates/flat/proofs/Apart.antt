@@ -1,10 +1,10 @@
 -- No two answers of a call on the mount tables or the tree have the same numbers: from its numbers each answer is found again. Assumes nothing.
-use mathlib.Core.Path.{_≡_, refl, ap}
+use mathlib.Core.Path.{_≡_, refl, sym, ap, _∙_}
 use Prim.Native.Nat.{ℕ}
 use mathlib.Core.Bool.{cond}
 use lib.Dec.{eqb}
-use Rattle.path.specs.Checks.{code}
 use Rattle.tables.specs.Answer.{tagIn}
+use Rattle.tables.specs.Call.{Told}
 use Rattle.tables.specs.declared.slots.Tag.{Tag}
 use Rattle.tables.specs.declared.slots.Tag.the-variants.{Held, Empty}
 use Rattle.pseudo_fs.specs.Told.{pathWalkTold, lookedTold, entryAnswer}
@@ -44,11 +44,11 @@ use Rattle.flat.specs.declared.IdsAnswer.{IdsAnswer}
 
 -- what can be led back is told apart
 pub apart : {A B : Type 0} (f : A → B) (g : B → A) → ((a : A) → g (f a) ≡ a) → (a b : A) → f a ≡ f b → a ≡ b
-apart f g back a b e =
-    let h : g (f a) ≡ a = back a in
-    let k : g (f b) ≡ b = back b in
-    let l : g (f a) ≡ g (f b) = ap g e in
-    cc
+apart f g back a b e = sym (back a) ∙ ap g e ∙ back b
+
+-- so answers whose numbers are apart are apart by what they tell
+pub told-apart : {A B : Type 0} (told : A → Told) (numbers : Told → B) → ((a b : A) → numbers (told a) ≡ numbers (told b) → a ≡ b) → (a b : A) → told a ≡ told b → a ≡ b
+told-apart told numbers h a b e = h a b (ap numbers e)
 
 -- where the number is this one
 abbrev pub at : {A : Type 0} → ℕ → ℕ → A → A → A

@@ -1,5 +1,4 @@
 -- What is proved of the calls on saved state.
 pub mod StateWays
-pub mod StateAnswers
 pub mod SaveWays
 pub mod Both

@@ -1,4 +1,4 @@
--- The answers of the calls are what the rules tell; each answer is known by what it tells. Assumes nothing.
+-- The answers of the calls are what the rules tell, and an entry is known by what it tells. Assumes nothing.
 use mathlib.Core.Path.{_≡_, refl, sym, ap, _∙_}
 use mathlib.Core.Bool.{Bool, true, false, cond, not, _||_}
 use mathlib.Core.List.{List}
@@ -17,7 +17,7 @@ use Rattle.rules.specs.Lookup.{entryOf, pseudoLookupRule}
 use Rattle.rules.proofs.Ids.{wrapped-is-whole}
 use Rattle.tables.specs.View.{mappingFrom, headOf, nodesOf, view}
 use Rattle.tables.specs.Rule.{laid}
-use Rattle.tables.specs.Call.{Told, toldBy, tells, answeredBy}
+use Rattle.tables.specs.Call.{toldBy, tells, answeredBy}
 use Rattle.tables.proofs.Keeps.{laid-ruled}
 use Rattle.inode.specs.Converted.{fullOf, Converts}
 use Rattle.inode.specs.declared.NodeNumber.{NodeNumber}
@@ -27,10 +27,8 @@ use Rattle.inode.specs.declared.Converted.the-variants.{Full, Inode}
 use Rattle.storage.proofs.Laid.{told-small, told-by}
 use Rattle.pseudo_fs.specs.declared.PathFault.{PathFault}
 use Rattle.pseudo_fs.specs.declared.PathFault.the-variants.{Utf8, Slash, Sound}
-use Rattle.pseudo_fs.specs.declared.PathWalk.{PathWalk}
 use Rattle.pseudo_fs.specs.declared.PathWalk.the-variants.{Node as WalkNode, Nothing as WalkNothing, Inval as WalkInval, Small as WalkSmall}
 use Rattle.pseudo_fs.specs.declared.Entry.{Entry}
-use Rattle.pseudo_fs.specs.declared.Looked.{Looked}
 use Rattle.pseudo_fs.specs.declared.Looked.the-variants.{Entry as LookedEntry, NoEnt as LookedNoEnt, Inval as LookedInval, Small as LookedSmall}
 use Rattle.pseudo_fs.specs.declared.inner.Walked.{Walked}
 use Rattle.pseudo_fs.specs.declared.inner.Walked.the-variants.{At, Missing}
@@ -100,29 +98,6 @@ module _ (mem path : List ℕ) where
       unfolding pathWalkTold walkedOf
       walk-none place q = sym (by-walk ∙ rw q)
 
--- what an answer tells, it alone tells
-path-walk-apart-by : (a b : PathWalk) → pathWalkTold a .code ≡ pathWalkTold b .code → pathWalkTold a .answer ≡ pathWalkTold b .answer → a ≡ b
-unfolding pathWalkTold
-path-walk-apart-by (WalkNode x) (WalkNode y) c e = let z : x .0 ≡ y .0 = cc in ap (λ (n : ℕ). WalkNode (record { 0 = n })) z
-path-walk-apart-by (WalkNode x) WalkNothing c e = cc
-path-walk-apart-by (WalkNode x) WalkInval c e = absurd (omega arith)
-path-walk-apart-by (WalkNode x) WalkSmall c e = absurd (omega arith)
-path-walk-apart-by WalkNothing (WalkNode y) c e = cc
-path-walk-apart-by WalkNothing WalkNothing c e = refl
-path-walk-apart-by WalkNothing WalkInval c e = absurd (omega arith)
-path-walk-apart-by WalkNothing WalkSmall c e = absurd (omega arith)
-path-walk-apart-by WalkInval (WalkNode y) c e = absurd (omega arith)
-path-walk-apart-by WalkInval WalkNothing c e = absurd (omega arith)
-path-walk-apart-by WalkInval WalkInval c e = refl
-path-walk-apart-by WalkInval WalkSmall c e = absurd (omega arith)
-path-walk-apart-by WalkSmall (WalkNode y) c e = absurd (omega arith)
-path-walk-apart-by WalkSmall WalkNothing c e = absurd (omega arith)
-path-walk-apart-by WalkSmall WalkInval c e = absurd (omega arith)
-path-walk-apart-by WalkSmall WalkSmall c e = refl
-
-pub path-walk-apart : (a b : PathWalk) → pathWalkTold a ≡ pathWalkTold b → a ≡ b
-path-walk-apart a b e = path-walk-apart-by a b (ap (λ (t : Told). t .code) e) (ap (λ (t : Told). t .answer) e)
-
 -- ---- the pseudo entry
 
 module _ (x : ℕ) {r : Converted} (c : Converts 0 x r) where
@@ -179,7 +154,8 @@ module _ (mem : List ℕ) (x : ℕ) (p : List ℕ) where
         let h : y < 2 ^ 56 = found-low mem x p y (rw q at f) in
         ap (λ (v : Answer). tells v) a ∙ (ap (λ (o : Outcome). toldBy o) (pseudo-is mem e y h) ∙ sym (by-find ∙ rw q))
 
-entry-apart : (m n : Entry) → entryAnswer m ≡ entryAnswer n → m ≡ n
+-- an entry is known by what it tells
+pub entry-apart : (m n : Entry) → entryAnswer m ≡ entryAnswer n → m ≡ n
 unfolding entryAnswer
 entry-apart m n e =
     let a : m .inode .0 ≡ n .inode .0 = cc in
@@ -188,26 +164,3 @@ entry-apart m n e =
     let d : m .gid ≡ n .gid = cc in
     let f : m .blksize ≡ n .blksize = cc in
     rw (a, b, c, d, f)
-
--- what an answer tells, it alone tells
-looked-apart-by : (a b : Looked) → lookedTold a .code ≡ lookedTold b .code → lookedTold a .answer ≡ lookedTold b .answer → a ≡ b
-unfolding lookedTold
-looked-apart-by (LookedEntry x) (LookedEntry y) c e = ap LookedEntry (entry-apart x y e)
-looked-apart-by (LookedEntry x) LookedNoEnt c e = absurd (omega arith)
-looked-apart-by (LookedEntry x) LookedInval c e = absurd (omega arith)
-looked-apart-by (LookedEntry x) LookedSmall c e = absurd (omega arith)
-looked-apart-by LookedNoEnt (LookedEntry y) c e = absurd (omega arith)
-looked-apart-by LookedNoEnt LookedNoEnt c e = refl
-looked-apart-by LookedNoEnt LookedInval c e = absurd (omega arith)
-looked-apart-by LookedNoEnt LookedSmall c e = absurd (omega arith)
-looked-apart-by LookedInval (LookedEntry y) c e = absurd (omega arith)
-looked-apart-by LookedInval LookedNoEnt c e = absurd (omega arith)
-looked-apart-by LookedInval LookedInval c e = refl
-looked-apart-by LookedInval LookedSmall c e = absurd (omega arith)
-looked-apart-by LookedSmall (LookedEntry y) c e = absurd (omega arith)
-looked-apart-by LookedSmall LookedNoEnt c e = absurd (omega arith)
-looked-apart-by LookedSmall LookedInval c e = absurd (omega arith)
-looked-apart-by LookedSmall LookedSmall c e = refl
-
-pub looked-apart : (a b : Looked) → lookedTold a ≡ lookedTold b → a ≡ b
-looked-apart a b e = looked-apart-by a b (ap (λ (t : Told). t .code) e) (ap (λ (t : Told). t .answer) e)

@@ -1,4 +1,4 @@
--- The answers of the calls on the header: each is known by what it tells, and tells what its rule says. Assumes nothing.
+-- The answers of the calls on the header tell what their rules say. Assumes nothing.
 use mathlib.Core.Path.{_≡_, refl, sym, ap, _∙_}
 use mathlib.Core.Bool.{true, false, not, cond}
 use mathlib.Core.List.{List}
@@ -6,71 +6,22 @@ use Prim.Native.Nat.{ℕ}
 use native.Mathlib.Omega.{arith}
 use lib.Dec.{eqb}
 use Rattle.le.specs.Mem.{get}
-use Rattle.id_map.specs.Mapping.{mappingOf}
-use Rattle.rules.specs.Instance.{Options}
-use Rattle.rules.specs.Outcome.{Answer, settings, truth}
+use Rattle.rules.specs.Outcome.{settings}
 use Rattle.rules.specs.Calls.{rule}
 use Rattle.tables.specs.Table.{row}
 use Rattle.tables.specs.View.{view}
 use Rattle.tables.specs.Rule.{laid}
 use Rattle.tables.specs.Write.{setRemoval}
-use Rattle.tables.specs.Call.{Told, tells, answeredBy, Does}
+use Rattle.tables.specs.Call.{tells, answeredBy, Does}
 use Rattle.tables.proofs.Refine.{view-removal}
 use Rattle.tables.proofs.Keeps.{laid-long, keeps-removal}
 use Rattle.storage.specs.Answers.{removalTold, removeCall, initializedTold, initializedCall, optionsIn, optionsTold, optionsCall}
-use Rattle.storage.specs.declared.Removal.{Removal}
 use Rattle.storage.specs.declared.Removal.the-variants.{Done, Small as RemovalSmall}
-use Rattle.storage.specs.declared.IsInitialized.{IsInitialized}
 use Rattle.storage.specs.declared.IsInitialized.the-variants.{Is, Small as InitializedSmall}
 use Rattle.storage.specs.declared.VfsOptions.{VfsOptions}
-use Rattle.storage.specs.declared.OptionsOf.{OptionsOf}
 use Rattle.storage.specs.declared.OptionsOf.the-variants.{Options as OptionsAre, Small as OptionsSmall}
 use Rattle.storage.proofs.Laid.{told-small, told-by}
 use Rattle.storage.proofs.Calls.{does-small, does}
-
--- ---- known by what it tells
-
-abbrev codeOf : Told → ℕ
-codeOf t = t .code
-
-abbrev valueOf : Told → Answer
-valueOf t = t .answer
-
-pub removalTold-injective : (a b : Removal) → removalTold a ≡ removalTold b → a ≡ b
-unfolding removalTold
-removalTold-injective Done Done e = refl
-removalTold-injective Done RemovalSmall e = let z = ap codeOf e in absurd (omega arith)
-removalTold-injective RemovalSmall Done e = let z = ap codeOf e in absurd (omega arith)
-removalTold-injective RemovalSmall RemovalSmall e = refl
-
-pub initializedTold-injective : (a b : IsInitialized) → initializedTold a ≡ initializedTold b → a ≡ b
-unfolding initializedTold
-initializedTold-injective (Is a) (Is b) e = let h : truth a ≡ truth b = ap valueOf e in cc
-initializedTold-injective (Is a) InitializedSmall e = let z = ap codeOf e in absurd (omega arith)
-initializedTold-injective InitializedSmall (Is b) e = let z = ap codeOf e in absurd (omega arith)
-initializedTold-injective InitializedSmall InitializedSmall e = refl
-
-options-injective : (a b : VfsOptions) → optionsIn a ≡ optionsIn b → a ≡ b
-options-injective a b e =
-    same (ap (λ (o : Options). o .inOpts) e) (ap (λ (o : Options). o .outOpts) e) (maps (ap (λ (o : Options). o .mapping) e)) (ap (λ (o : Options). o .flags) e)
-  where
-    maps : mappingOf (a .mapping) ≡ mappingOf (b .mapping) → a .mapping ≡ b .mapping
-    maps p = λ t. record { internal = p t .internal; external = p t .external; range = p t .range }
-
-    same : a .«in_opts» ≡ b .«in_opts» → a .«out_opts» ≡ b .«out_opts» → a .mapping ≡ b .mapping → a .flags ≡ b .flags → a ≡ b
-    same p q r s = λ t. record { «in_opts» = p t; «out_opts» = q t; mapping = r t; flags = s t }
-
-pub optionsTold-injective : (a b : OptionsOf) → optionsTold a ≡ optionsTold b → a ≡ b
-unfolding optionsTold
-optionsTold-injective (OptionsAre a) (OptionsAre b) e =
-    let h : settings (optionsIn a) ≡ settings (optionsIn b) = ap valueOf e in
-    let i : optionsIn a ≡ optionsIn b = cc in
-    ap OptionsAre (options-injective a b i)
-optionsTold-injective (OptionsAre a) OptionsSmall e = let z = ap codeOf e in absurd (omega arith)
-optionsTold-injective OptionsSmall (OptionsAre b) e = let z = ap codeOf e in absurd (omega arith)
-optionsTold-injective OptionsSmall OptionsSmall e = refl
-
--- ---- tells what its rule says
 
 module _ (mem : List ℕ) where
   pub initialized-small : laid mem ≡ false → initializedTold InitializedSmall ≡ answeredBy mem initializedCall

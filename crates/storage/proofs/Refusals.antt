@@ -1,5 +1,5 @@
--- The tests of creation, and the number of its answer. Assumes nothing.
-use mathlib.Core.Path.{_≡_, refl}
+-- The tests of creation, and the number of its answer by them. Assumes nothing.
+use mathlib.Core.Path.{_≡_}
 use mathlib.Core.Bool.{true, false, not, _||_}
 use Prim.Native.Nat.{ℕ, _+_, _*_, _≤_, _<_}
 use native.Mathlib.Omega.{arith}
@@ -11,30 +11,6 @@ use Rattle.rules.specs.Ids.{badMapping}
 use Rattle.rules.specs.Outcome.{firstOf}
 use Rattle.rules.specs.Create.{Creation, tooSmall, outside, unknown, badOptions, createRule}
 use Rattle.rules.proofs.Tests.{or-neither}
-use Rattle.storage.specs.Creation.{createdCode}
-use Rattle.storage.specs.declared.Created.{Created}
-use Rattle.storage.specs.declared.Created.the-variants.{Done, Small, BadOpt, BadMap}
-
--- ---- the answer is known by its number
-
-pub createdCode-injective : (a b : Created) → createdCode a ≡ createdCode b → a ≡ b
-unfolding createdCode
-createdCode-injective Done Done e = refl
-createdCode-injective Done Small e = absurd (omega arith)
-createdCode-injective Done BadOpt e = absurd (omega arith)
-createdCode-injective Done BadMap e = absurd (omega arith)
-createdCode-injective Small Done e = absurd (omega arith)
-createdCode-injective Small Small e = refl
-createdCode-injective Small BadOpt e = absurd (omega arith)
-createdCode-injective Small BadMap e = absurd (omega arith)
-createdCode-injective BadOpt Done e = absurd (omega arith)
-createdCode-injective BadOpt Small e = absurd (omega arith)
-createdCode-injective BadOpt BadOpt e = refl
-createdCode-injective BadOpt BadMap e = absurd (omega arith)
-createdCode-injective BadMap Done e = absurd (omega arith)
-createdCode-injective BadMap Small e = absurd (omega arith)
-createdCode-injective BadMap BadOpt e = absurd (omega arith)
-createdCode-injective BadMap BadMap e = refl
 
 -- ---- the tests
 

@@ -5,5 +5,4 @@ pub mod PlanWays
 pub mod FirstRows
 pub mod MountCalls
 pub mod RestoreCalls
-pub mod Answers
 pub mod Runs

@@ -1,5 +1,4 @@
 -- The laws that belong to no one function.
-pub mod Answers
 pub mod Rules
 pub mod Mounted
 pub mod Looks
