@@ -1,25 +1,18 @@
--- The text of each answer, by the pieces that are laid down.
-use Prim.Native.Nat.{ℕ, _+_}
+-- The text of each answer, by the pieces that are laid down. Assumes nothing.
+use Prim.Native.Nat.{ℕ}
 use mathlib.Core.Path.{_≡_, ap, _∙_, subst}
 use mathlib.Core.List.{List, [], _∷_, _++_, append-assoc}
 use Rattle.rules.specs.Bytes.{ascii}
-use Rattle.rules.specs.Session.{decimal, numbers, joined, textOf, values, shown}
+use Rattle.rules.specs.Session.{decimal, numbers, joined, textOf}
 use Rattle.decimal.specs.Wrote.{Wrote}
 use Rattle.decimal.proofs.Texts.{wrote-more}
-use Rattle.inode.specs.declared.NodeNumber.{NodeNumber}
-use Rattle.tables.specs.declared.slots.Tag.{Tag}
-use Rattle.pseudo_fs.specs.Told.{pathWalkTold, entryAnswer, lookedTold}
+use Rattle.pseudo_fs.specs.Told.{pathWalkTold, lookedTold}
 use Rattle.pseudo_fs.specs.declared.PathWalk.{PathWalk}
-use Rattle.pseudo_fs.specs.declared.PathWalk.the-variants.{Node as WalkNode, Nothing as WalkNothing, Inval as WalkInval, Small as WalkSmall}
-use Rattle.pseudo_fs.specs.declared.Entry.{Entry}
 use Rattle.pseudo_fs.specs.declared.Looked.{Looked}
-use Rattle.pseudo_fs.specs.declared.Looked.the-variants.{Entry as LookedEntry, NoEnt as LookedNoEnt, Inval as LookedInval, Small as LookedSmall}
 use Rattle.vfs.specs.Mounting.{mountedTold}
 use Rattle.vfs.specs.Unmounting.{unmountedTold}
 use Rattle.vfs.specs.declared.mounting.Mounted.{Mounted}
-use Rattle.vfs.specs.declared.mounting.Mounted.the-variants.{Done as MountDone, TooLong, Inval as MountInval, Inode as MountInode, NoRoom, Full as MountFull, Small as MountSmall}
 use Rattle.vfs.specs.declared.unmounting.Unmounted.{Unmounted}
-use Rattle.vfs.specs.declared.unmounting.Unmounted.the-variants.{Done as UnmountDone, NotFound as UnmountNotFound, Inval as UnmountInval, Small as UnmountSmall}
 use Rattle.line_text.specs.Texts.{valuesText, countText, backendText}
 
 -- the same text by another name
@@ -54,85 +47,17 @@ pub backend : (l m n o p q : List ℕ) (at i j k f r t x : ℕ) → Wrote l at 1
     → Wrote l at 43 (backendText t x) r q
 backend l m n o p q at i j k f r t x a b c d e = wrote-as (backend-text t x) (wrote-more (wrote-more (wrote-more (wrote-more a b) c) d) e)
 
--- ---- by the answer
+-- ---- by the answer, which is this one
 
 module _ (l m : List ℕ) (at r : ℕ) where
-  module _ (a : Mounted) where
-    pub mount-done : (k n : ℕ) (t : Tag) → a ≡ MountDone k n t → Wrote l at 45 (textOf (0 ∷ k ∷ n ∷ [])) r m → Wrote l at 45 (countText (mountedTold a)) r m
-    unfolding countText mountedTold values shown
-    mount-done k n t e w = rw e w
+  pub mounted : (a b : Mounted) → a ≡ b → Wrote l at 45 (countText (mountedTold b)) r m → Wrote l at 45 (countText (mountedTold a)) r m
+  mounted a b e w = rw e w
 
-    pub mount-too-long : a ≡ TooLong → Wrote l at 45 (textOf (3 ∷ 0 ∷ 0 ∷ [])) r m → Wrote l at 45 (countText (mountedTold a)) r m
-    unfolding countText mountedTold values shown
-    mount-too-long e w = rw e w
+  pub unmounted : (a b : Unmounted) → a ≡ b → Wrote l at 45 (valuesText 2 (unmountedTold b)) r m → Wrote l at 45 (valuesText 2 (unmountedTold a)) r m
+  unmounted a b e w = rw e w
 
-    pub mount-inval : (n : ℕ) → a ≡ MountInval n → Wrote l at 45 (textOf (2 ∷ 0 ∷ n ∷ [])) r m → Wrote l at 45 (countText (mountedTold a)) r m
-    unfolding countText mountedTold values shown
-    mount-inval n e w = rw e w
+  pub walked : (a b : PathWalk) → a ≡ b → Wrote l at 24 (valuesText 1 (pathWalkTold b)) r m → Wrote l at 24 (valuesText 1 (pathWalkTold a)) r m
+  walked a b e w = rw e w
 
-    pub mount-inode : (n : ℕ) → a ≡ MountInode n → Wrote l at 45 (textOf (4 ∷ 0 ∷ n ∷ [])) r m → Wrote l at 45 (countText (mountedTold a)) r m
-    unfolding countText mountedTold values shown
-    mount-inode n e w = rw e w
-
-    pub mount-no-room : a ≡ NoRoom → Wrote l at 45 (textOf (6 ∷ 0 ∷ 0 ∷ [])) r m → Wrote l at 45 (countText (mountedTold a)) r m
-    unfolding countText mountedTold values shown
-    mount-no-room e w = rw e w
-
-    pub mount-full : (n : ℕ) → a ≡ MountFull n → Wrote l at 45 (textOf (5 ∷ 0 ∷ n ∷ [])) r m → Wrote l at 45 (countText (mountedTold a)) r m
-    unfolding countText mountedTold values shown
-    mount-full n e w = rw e w
-
-    pub mount-small : a ≡ MountSmall → Wrote l at 45 (textOf (12 ∷ 0 ∷ 0 ∷ [])) r m → Wrote l at 45 (countText (mountedTold a)) r m
-    unfolding countText mountedTold values shown
-    mount-small e w = rw e w
-
-  module _ (a : Unmounted) where
-    pub unmount-done : (x p : NodeNumber) (t : Tag) → a ≡ UnmountDone x p t → Wrote l at 45 (textOf (0 ∷ x .0 ∷ p .0 ∷ [])) r m → Wrote l at 45 (valuesText 2 (unmountedTold a)) r m
-    unfolding valuesText unmountedTold values shown
-    unmount-done x p t e w = rw e w
-
-    pub unmount-not-found : a ≡ UnmountNotFound → Wrote l at 45 (textOf (7 ∷ 0 ∷ 0 ∷ [])) r m → Wrote l at 45 (valuesText 2 (unmountedTold a)) r m
-    unfolding valuesText unmountedTold values shown
-    unmount-not-found e w = rw e w
-
-    pub unmount-inval : a ≡ UnmountInval → Wrote l at 45 (textOf (2 ∷ 0 ∷ 0 ∷ [])) r m → Wrote l at 45 (valuesText 2 (unmountedTold a)) r m
-    unfolding valuesText unmountedTold values shown
-    unmount-inval e w = rw e w
-
-    pub unmount-small : a ≡ UnmountSmall → Wrote l at 45 (textOf (12 ∷ 0 ∷ 0 ∷ [])) r m → Wrote l at 45 (valuesText 2 (unmountedTold a)) r m
-    unfolding valuesText unmountedTold values shown
-    unmount-small e w = rw e w
-
-  module _ (a : PathWalk) where
-    pub walk-node : (x : NodeNumber) → a ≡ WalkNode x → Wrote l at 24 (textOf (0 ∷ x .0 ∷ [])) r m → Wrote l at 24 (valuesText 1 (pathWalkTold a)) r m
-    unfolding valuesText pathWalkTold values shown
-    walk-node x e w = rw e w
-
-    pub walk-nothing : a ≡ WalkNothing → Wrote l at 24 (textOf (0 ∷ 0 ∷ [])) r m → Wrote l at 24 (valuesText 1 (pathWalkTold a)) r m
-    unfolding valuesText pathWalkTold values shown
-    walk-nothing e w = rw e w
-
-    pub walk-inval : a ≡ WalkInval → Wrote l at 24 (textOf (2 ∷ 0 ∷ [])) r m → Wrote l at 24 (valuesText 1 (pathWalkTold a)) r m
-    unfolding valuesText pathWalkTold values shown
-    walk-inval e w = rw e w
-
-    pub walk-small : a ≡ WalkSmall → Wrote l at 24 (textOf (12 ∷ 0 ∷ [])) r m → Wrote l at 24 (valuesText 1 (pathWalkTold a)) r m
-    unfolding valuesText pathWalkTold values shown
-    walk-small e w = rw e w
-
-  module _ (a : Looked) where
-    pub look-entry : (x : Entry) → a ≡ LookedEntry x → Wrote l at 24 (textOf (0 ∷ x .inode .0 ∷ [])) r m → Wrote l at 24 (valuesText 1 (lookedTold a)) r m
-    unfolding valuesText lookedTold entryAnswer values shown
-    look-entry x e w = rw e w
-
-    pub look-no-ent : a ≡ LookedNoEnt → Wrote l at 24 (textOf (1 ∷ 0 ∷ [])) r m → Wrote l at 24 (valuesText 1 (lookedTold a)) r m
-    unfolding valuesText lookedTold values shown
-    look-no-ent e w = rw e w
-
-    pub look-inval : a ≡ LookedInval → Wrote l at 24 (textOf (2 ∷ 0 ∷ [])) r m → Wrote l at 24 (valuesText 1 (lookedTold a)) r m
-    unfolding valuesText lookedTold values shown
-    look-inval e w = rw e w
-
-    pub look-small : a ≡ LookedSmall → Wrote l at 24 (textOf (12 ∷ 0 ∷ [])) r m → Wrote l at 24 (valuesText 1 (lookedTold a)) r m
-    unfolding valuesText lookedTold values shown
-    look-small e w = rw e w
+  pub looked : (a b : Looked) → a ≡ b → Wrote l at 24 (valuesText 1 (lookedTold b)) r m → Wrote l at 24 (valuesText 1 (lookedTold a)) r m
+  looked a b e w = rw e w

@@ -1,6 +1,9 @@
 -- `line_text::put_looked` meets its contract.
 use borrow.Author.Needs.{needs}
-use Rattle.line_text.proofs.Writes.{look-entry, look-no-ent, look-inval, look-small}
+use Rattle.rules.specs.Session.{values, shown}
+use Rattle.pseudo_fs.specs.Told.{entryAnswer, lookedTold}
+use Rattle.line_text.specs.Texts.{valuesText}
+use Rattle.line_text.proofs.Writes.{looked}
 use Rattle.line_text.proofs.put_looked.Statement.{statement}
 use Rattle.line_text.proofs.put_looked.Tie as tie
 
@@ -32,25 +35,29 @@ same-length : tie.Need-same-length
 same-length c = search needs
 
 returns : tie.Need-returns
-returns c = search (look-entry, needs)
+unfolding valuesText lookedTold entryAnswer values shown
+returns c = search (looked, needs)
 
 same-length-2 : tie.Need-same-length-2
 same-length-2 c = search needs
 
 returns-2 : tie.Need-returns-2
-returns-2 c = search (look-no-ent, needs)
+unfolding valuesText lookedTold entryAnswer values shown
+returns-2 c = search (looked, needs)
 
 same-length-3 : tie.Need-same-length-3
 same-length-3 c = search needs
 
 returns-3 : tie.Need-returns-3
-returns-3 c = search (look-inval, needs)
+unfolding valuesText lookedTold entryAnswer values shown
+returns-3 c = search (looked, needs)
 
 same-length-4 : tie.Need-same-length-4
 same-length-4 c = search needs
 
 returns-4 : tie.Need-returns-4
-returns-4 c = search (look-small, needs)
+unfolding valuesText lookedTold entryAnswer values shown
+returns-4 c = search (looked, needs)
 
 pub put-looked-spec : {M : Type 1} → statement M
 put-looked-spec =

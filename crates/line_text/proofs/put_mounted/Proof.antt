@@ -1,6 +1,9 @@
 -- `line_text::put_mounted` meets its contract.
 use borrow.Author.Needs.{needs}
-use Rattle.line_text.proofs.Writes.{mount-done, mount-too-long, mount-inval, mount-inode, mount-no-room, mount-full, mount-small}
+use Rattle.rules.specs.Session.{values, shown}
+use Rattle.vfs.specs.Mounting.{mountedTold}
+use Rattle.line_text.specs.Texts.{countText}
+use Rattle.line_text.proofs.Writes.{mounted}
 use Rattle.line_text.proofs.put_mounted.Statement.{statement}
 use Rattle.line_text.proofs.put_mounted.Tie as tie
 
@@ -65,43 +68,50 @@ same-length : tie.Need-same-length
 same-length c = search needs
 
 returns : tie.Need-returns
-returns c = search (mount-done, needs)
+unfolding countText mountedTold values shown
+returns c = search (mounted, needs)
 
 same-length-2 : tie.Need-same-length-2
 same-length-2 c = search needs
 
 returns-2 : tie.Need-returns-2
-returns-2 c = search (mount-too-long, needs)
+unfolding countText mountedTold values shown
+returns-2 c = search (mounted, needs)
 
 same-length-3 : tie.Need-same-length-3
 same-length-3 c = search needs
 
 returns-3 : tie.Need-returns-3
-returns-3 c = search (mount-inval, needs)
+unfolding countText mountedTold values shown
+returns-3 c = search (mounted, needs)
 
 same-length-4 : tie.Need-same-length-4
 same-length-4 c = search needs
 
 returns-4 : tie.Need-returns-4
-returns-4 c = search (mount-inode, needs)
+unfolding countText mountedTold values shown
+returns-4 c = search (mounted, needs)
 
 same-length-5 : tie.Need-same-length-5
 same-length-5 c = search needs
 
 returns-5 : tie.Need-returns-5
-returns-5 c = search (mount-no-room, needs)
+unfolding countText mountedTold values shown
+returns-5 c = search (mounted, needs)
 
 same-length-6 : tie.Need-same-length-6
 same-length-6 c = search needs
 
 returns-6 : tie.Need-returns-6
-returns-6 c = search (mount-full, needs)
+unfolding countText mountedTold values shown
+returns-6 c = search (mounted, needs)
 
 same-length-7 : tie.Need-same-length-7
 same-length-7 c = search needs
 
 returns-7 : tie.Need-returns-7
-returns-7 c = search (mount-small, needs)
+unfolding countText mountedTold values shown
+returns-7 c = search (mounted, needs)
 
 pub put-mounted-spec : {M : Type 1} → statement M
 put-mounted-spec =

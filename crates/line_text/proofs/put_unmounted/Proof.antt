@@ -1,6 +1,9 @@
 -- `line_text::put_unmounted` meets its contract.
 use borrow.Author.Needs.{needs}
-use Rattle.line_text.proofs.Writes.{unmount-done, unmount-not-found, unmount-inval, unmount-small}
+use Rattle.rules.specs.Session.{values, shown}
+use Rattle.vfs.specs.Unmounting.{unmountedTold}
+use Rattle.line_text.specs.Texts.{valuesText}
+use Rattle.line_text.proofs.Writes.{unmounted}
 use Rattle.line_text.proofs.put_unmounted.Statement.{statement}
 use Rattle.line_text.proofs.put_unmounted.Tie as tie
 
@@ -32,25 +35,29 @@ same-length : tie.Need-same-length
 same-length c = search needs
 
 returns : tie.Need-returns
-returns c = search (unmount-done, needs)
+unfolding valuesText unmountedTold values shown
+returns c = search (unmounted, needs)
 
 same-length-2 : tie.Need-same-length-2
 same-length-2 c = search needs
 
 returns-2 : tie.Need-returns-2
-returns-2 c = search (unmount-not-found, needs)
+unfolding valuesText unmountedTold values shown
+returns-2 c = search (unmounted, needs)
 
 same-length-3 : tie.Need-same-length-3
 same-length-3 c = search needs
 
 returns-3 : tie.Need-returns-3
-returns-3 c = search (unmount-inval, needs)
+unfolding valuesText unmountedTold values shown
+returns-3 c = search (unmounted, needs)
 
 same-length-4 : tie.Need-same-length-4
 same-length-4 c = search needs
 
 returns-4 : tie.Need-returns-4
-returns-4 c = search (unmount-small, needs)
+unfolding valuesText unmountedTold values shown
+returns-4 c = search (unmounted, needs)
 
 pub put-unmounted-spec : {M : Type 1} → statement M
 put-unmounted-spec =

@@ -1,6 +1,9 @@
 -- `line_text::put_walked` meets its contract.
 use borrow.Author.Needs.{needs}
-use Rattle.line_text.proofs.Writes.{walk-node, walk-nothing, walk-inval, walk-small}
+use Rattle.rules.specs.Session.{values, shown}
+use Rattle.pseudo_fs.specs.Told.{pathWalkTold}
+use Rattle.line_text.specs.Texts.{valuesText}
+use Rattle.line_text.proofs.Writes.{walked}
 use Rattle.line_text.proofs.put_walked.Statement.{statement}
 use Rattle.line_text.proofs.put_walked.Tie as tie
 
@@ -32,25 +35,29 @@ same-length : tie.Need-same-length
 same-length c = search needs
 
 returns : tie.Need-returns
-returns c = search (walk-node, needs)
+unfolding valuesText pathWalkTold values shown
+returns c = search (walked, needs)
 
 same-length-2 : tie.Need-same-length-2
 same-length-2 c = search needs
 
 returns-2 : tie.Need-returns-2
-returns-2 c = search (walk-nothing, needs)
+unfolding valuesText pathWalkTold values shown
+returns-2 c = search (walked, needs)
 
 same-length-3 : tie.Need-same-length-3
 same-length-3 c = search needs
 
 returns-3 : tie.Need-returns-3
-returns-3 c = search (walk-inval, needs)
+unfolding valuesText pathWalkTold values shown
+returns-3 c = search (walked, needs)
 
 same-length-4 : tie.Need-same-length-4
 same-length-4 c = search needs
 
 returns-4 : tie.Need-returns-4
-returns-4 c = search (walk-small, needs)
+unfolding valuesText pathWalkTold values shown
+returns-4 c = search (walked, needs)
 
 pub put-walked-spec : {M : Type 1} → statement M
 put-walked-spec =
