@@ -1,5 +1,5 @@
--- What each form of a line answers and leaves, by the call's contract.
-use Prim.Native.Nat.{ℕ, _≤_}
+-- What each form of a line answers and leaves, by the call's contract. Assumes nothing.
+use Prim.Native.Nat.{ℕ}
 use native.Mathlib.Omega.{arith}
 use mathlib.Core.Path.{_≡_, refl, sym, ap, _∙_}
 use mathlib.Core.Bool.{Bool, true, false, cond}
@@ -16,7 +16,8 @@ use Rattle.rules.specs.Calls.{rule}
 use Rattle.rules.specs.Session.{mount, umount, walk, look, textOf, values, shown, requestOf, routed, says, answers}
 use Rattle.tables.specs.View.{view}
 use Rattle.tables.specs.Rule.{laid}
-use Rattle.tables.specs.Call.{Told, toldBy, tells, refuses, toldSmall, answeredBy, Does}
+use Rattle.tables.specs.Call.{Told, tells, refuses, answeredBy, Does}
+use Rattle.storage.proofs.Laid.{told-small, told-by}
 use Rattle.pseudo_fs.specs.Told.{pathWalkTold, lookedTold}
 use Rattle.pseudo_fs.specs.declared.PathWalk.{PathWalk}
 use Rattle.pseudo_fs.specs.declared.Looked.{Looked}
@@ -84,8 +85,11 @@ walk-wrote mem path was left at r a e w = wrote-wider (lit≤ tt) (wrote-as (ap 
 -- ---- look
 
 module _ (mem : List ℕ) (x : ℕ) (p : List ℕ) where
+  abbrev routing : Instance → Outcome
+  routing i = routeRule i x
+
   abbrev route-told : Told
-  route-told = answeredBy mem (λ (i : Instance). routeRule i x)
+  route-told = answeredBy mem routing
 
   abbrev goes : Answer → Outcome → List ℕ
   goes a o = routed (view mem) p o a .text
@@ -98,31 +102,23 @@ module _ (mem : List ℕ) (x : ℕ) (p : List ℕ) where
   unfolding lineText smallText
   unlaid-text h = rw h
 
-  laid-told : laid mem ≡ true → route-told ≡ toldBy (routeRule (view mem) x)
-  unfolding answeredBy
-  laid-told h = rw h
-
-  unlaid-told : laid mem ≡ false → route-told ≡ toldSmall
-  unfolding answeredBy
-  unlaid-told h = rw h
-
   tree-text : (y : ℕ) (t : Bool) → laid mem ≡ t → tells (toTree y) ≡ route-told → valuesText 1 (answeredBy mem (λ (i : Instance). lookupRule i y p)) ≡ lineText mem (some (look x p))
   unfolding valuesText answeredBy routed rule
-  tree-text y true h e = sym (laid-text h ∙ ap (λ (a : Answer). goes a (routeRule (view mem) x)) (sym (ap (λ (u : Told). u .answer) (e ∙ laid-told h))) ∙ rw h)
-  tree-text y false h e = absurd (let z : 0 ≡ 12 = ap (λ (u : Told). u .code) (e ∙ unlaid-told h) in let b : ⊥ = omega arith in b)
+  tree-text y true h e = sym (laid-text h ∙ ap (λ (a : Answer). goes a (routeRule (view mem) x)) (sym (ap (λ (u : Told). u .answer) (e ∙ told-by mem routing h))) ∙ rw h)
+  tree-text y false h e = absurd (let z : 0 ≡ 12 = ap (λ (u : Told). u .code) (e ∙ told-small mem routing h) in let b : ⊥ = omega arith in b)
 
   backend-text : (tag k y : ℕ) (t : Bool) → laid mem ≡ t → tells (toBackend tag k y) ≡ route-told → backendText tag y ≡ lineText mem (some (look x p))
   unfolding backendText routed
-  backend-text tag k y true h e = sym (laid-text h ∙ ap (λ (a : Answer). goes a (routeRule (view mem) x)) (sym (ap (λ (u : Told). u .answer) (e ∙ laid-told h))))
-  backend-text tag k y false h e = absurd (let z : 0 ≡ 12 = ap (λ (u : Told). u .code) (e ∙ unlaid-told h) in let b : ⊥ = omega arith in b)
+  backend-text tag k y true h e = sym (laid-text h ∙ ap (λ (a : Answer). goes a (routeRule (view mem) x)) (sym (ap (λ (u : Told). u .answer) (e ∙ told-by mem routing h))))
+  backend-text tag k y false h e = absurd (let z : 0 ≡ 12 = ap (λ (u : Told). u .code) (e ∙ told-small mem routing h) in let b : ⊥ = omega arith in b)
 
   refused-text : (code : ℕ) (t : Bool) → laid mem ≡ t → refuses code ≡ route-told → textOf (code ∷ 0 ∷ []) ≡ lineText mem (some (look x p))
   unfolding valuesText values shown routed
   refused-text code true h e =
-      let f = e ∙ laid-told h in
+      let f = e ∙ told-by mem routing h in
       ap (valuesText 1) f ∙ sym (laid-text h ∙ ap (λ (a : Answer). goes a (routeRule (view mem) x)) (sym (ap (λ (u : Told). u .answer) f)))
   refused-text code false h e =
-      let f : code ≡ 12 = ap (λ (u : Told). u .code) (e ∙ unlaid-told h) in
+      let f : code ≡ 12 = ap (λ (u : Told). u .code) (e ∙ told-small mem routing h) in
       ap (λ (k : ℕ). textOf (k ∷ 0 ∷ [])) f ∙ sym (unlaid-text h)
 
   module _ (was left : List ℕ) (at r : ℕ) (q : Routed) (e : routedTold q ≡ route-told) where
