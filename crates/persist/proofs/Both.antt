@@ -1,9 +1,10 @@
 -- Save and restore on bytes: the theorems of the rules, by the contracts. Assumes nothing.
 use mathlib.Core.Path.{_≡_, refl, sym, ap, _∙_, subst}
 use mathlib.Core.Bool.{Bool, true, false, cond}
-use mathlib.Core.List.{List, [], _∷_, _++_}
+use mathlib.Core.List.{List, _++_}
 use Prim.Native.Nat.{ℕ, _≤_}
 use lib.ListN.{length, take, drop}
+use lib.Seq.{take-append-seam}
 use native.Mathlib.Omega.{arith}
 use lib.Dec.{eqb}
 use borrow.Author.Tests.{eqb-true}
@@ -69,15 +70,10 @@ module _ (mem b : List ℕ) (r : StateRestored) (after : List ℕ) (w : Restores
 
 -- ---- what a save wrote
 
-front : (xs ys : List ℕ) → take (length xs) (xs ++ ys) ≡ xs
-unfolding take length _++_
-front [] ys = refl
-front (x ∷ xs) ys = ap (λ (zs : List ℕ). x ∷ zs) (front xs ys)
-
 written : (mem d : List ℕ) (n : ℕ) (e : List ℕ) → Saves mem d (Wrote n) e → take n e ≡ encode (saved (view mem))
 written mem d n e w =
     let h = done-holds mem d n e w in
-    (λ i. take (h .count i) (h .bytes i)) ∙ front (encode (saved (view mem))) (drop n d)
+    (λ i. take (h .count i) (h .bytes i)) ∙ take-append-seam (encode (saved (view mem))) (drop n d)
 
 -- the theorem: what was saved comes back
 pub comes-back : ComesBack
