@@ -63,6 +63,6 @@ pub fn umount(s: &mut [u8], path: &[u8]) -> Unmounted
     }
     match walk(s, path) {
         Walked::At(x) => unmount_at(s, x),
-        Walked::Missing { place } => Unmounted::NotFound,
+        Walked::Missing { .. } => Unmounted::NotFound,
     }
 }

@@ -41,8 +41,8 @@ enum-known-x c = search needs
 unmount-at-requires : tie.Need-unmount-at-requires
 unmount-at-requires c κs = search (laid-by, needs)
 
-enum-known-place : tie.Need-enum-known-place
-enum-known-place c = search needs
+enum-told : tie.Need-enum-told
+enum-told c = search needs
 
 same-length-4 : tie.Need-same-length-4
 same-length-4 c = search needs
@@ -72,7 +72,7 @@ umount-spec =
     walk-requires
     enum-known-x
     unmount-at-requires
-    enum-known-place
+    enum-told
     same-length-4
     returns-4
     same-length-5
