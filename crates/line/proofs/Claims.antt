@@ -1,4 +1,4 @@
--- A `?` changes nothing, no text has a line end, and the contract allows one result only.
+-- A `?` changes nothing, no text has a line end, and the contract allows one result only. Assumes nothing.
 use Prim.Native.Nat.{ℕ, zero, suc, _+_, _/_, _%_, _<_}
 use native.Mathlib.Omega.{arith}
 use mathlib.Core.Path.{_≡_, refl, sym, ap, _∙_}

@@ -1,5 +1,5 @@
--- What the places of a line's spaces say of the line.
-use Prim.Native.Nat.{ℕ, _+_, _-_, _≤_, _<_}
+-- What the places of a line's spaces say of the line. Assumes nothing.
+use Prim.Native.Nat.{ℕ, _+_, _≤_, _<_}
 use native.Mathlib.Omega.{arith}
 use mathlib.Core.Path.{_≡_, refl, sym, ap, _∙_}
 use mathlib.Core.List.{List, [], _∷_, _++_, append-assoc}

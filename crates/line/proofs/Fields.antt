@@ -1,4 +1,4 @@
--- Laws of the fields between spaces, by those of the parts between any one byte: what the fields are from a place on.
+-- Laws of the fields between spaces, by those of the parts between any one byte: what the fields are from a place on. Assumes nothing.
 use Prim.Native.Nat.{ℕ, _+_, _-_, _≤_, _<_}
 use native.Mathlib.Omega.{arith}
 use mathlib.Core.Path.{_≡_, sym, ap, _∙_}

@@ -1,4 +1,4 @@
--- What the fields of a line make of it.
+-- What the fields of a line make of it. Assumes nothing.
 use Prim.Native.Nat.{ℕ, _^_, _<_}
 use native.Mathlib.Omega.{arith}
 use mathlib.Core.Path.{_≡_, refl, sym, _∙_}

@@ -1,4 +1,4 @@
--- A line that is answered, by what its fields make of it.
+-- A line that is answered, by what its fields make of it. Assumes nothing.
 use Prim.Native.Nat.{ℕ}
 use mathlib.Core.Path.{_≡_, refl, sym, ap, _∙_, subst}
 use mathlib.Core.Bool.{Bool, true, false, cond, not}

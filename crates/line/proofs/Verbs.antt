@@ -1,4 +1,4 @@
--- Laws of the words of a line, and of its numbers.
+-- Laws of the words of a line, and of its numbers. Assumes nothing.
 use Prim.Native.Nat.{ℕ, _≤_}
 use native.Mathlib.Omega.{arith}
 use mathlib.Core.Path.{_≡_, refl, sym, ap, ap₂, _∙_}

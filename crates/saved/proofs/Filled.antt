@@ -32,6 +32,6 @@ row-filled b s n c i at number key ls ln lc t e f g = record {
 pub fewer : (b s n c : List ℕ) (k i : ℕ) → k ≤ i → Columns b i s n c → Columns b k s n c
 fewer b s n c k i h t = record { starts = λ j g. t .starts j (omega arith); numbers = λ j g. t .numbers j (omega arith); keys = λ j g. t .keys j (omega arith) }
 
--- those before record i know it among k
+-- record i among the first k: the columns know those before it
 pub among : (b s n c : List ℕ) (k i at : ℕ) → Columns b k s n c → i ≤ k → k ≤ 1023 → at ≡ startOf b i → behind b at ≤ length b → Among b at i s c
 among b s n c k i at t l m e h = record { here = e; whole = h; few = omega arith; starts = λ j g. t .starts j (omega arith); keys = λ j g. t .keys j (omega arith) }

@@ -1,4 +1,4 @@
--- One byte: the laws of `end_line` and `take_byte`, a law for each return.
+-- One byte: the laws of `end_line` and `take_byte`, a law for each return. Assumes nothing.
 use Prim.Native.Nat.{ℕ, _+_, _-_, _≤_, _<_}
 use native.Mathlib.Omega.{arith}
 use mathlib.Core.Path.{_≡_, refl, ap}

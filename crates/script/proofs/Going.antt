@@ -1,4 +1,4 @@
--- A piece: where its bytes so far have led, and the laws of `feed` and `finish`, a law for each return.
+-- A piece: where its bytes so far have led, and the laws of `feed` and `finish`, a law for each return. Assumes nothing.
 use Prim.Native.Nat.{ℕ, suc, _+_, _-_, _≤_, _<_}
 use native.Mathlib.Omega.{arith}
 use native.Mathlib.Numerals.{add-one}

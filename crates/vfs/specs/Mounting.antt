@@ -1,4 +1,4 @@
--- Mount and restored mount: what their answers tell, and the bytes that they leave.
+-- Mount: what its answer tells, and the bytes that it leaves; and what restored mount shares with it.
 use Prim.Native.Nat.{ℕ, _≤_}
 use mathlib.Core.Bool.{Bool, true, cond, not, _||_}
 use mathlib.Core.List.{List, []}
