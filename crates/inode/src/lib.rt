@@ -61,7 +61,7 @@ impl VfsInode {
     pub fn ino(self) -> u64
         ensures { λ r. ⌜ r ≡ numberOf (self .0) ⌝ }
     {
-        self.0 % (rules::VFS_MAX_INO + 1)
+        self.0 % rules::NUMBERS
     }
 
     // The full number belongs to the tree: its index is 0 (R11).

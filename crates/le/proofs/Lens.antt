@@ -101,7 +101,7 @@ get-put-apart k j mem at v p h = ap value (read-put-apart j mem at v p k h)
 -- ---- a part of a run
 
 -- two runs are equal by their bytes
-read-ext : (a b : List ℕ) (p q k : ℕ) → ((i : ℕ) → i < k → getD a (p + i) 0 ≡ getD b (q + i) 0) → read a p k ≡ read b q k
+pub read-ext : (a b : List ℕ) (p q k : ℕ) → ((i : ℕ) → i < k → getD a (p + i) 0 ≡ getD b (q + i) 0) → read a p k ≡ read b q k
 unfolding read
 read-ext a b p q zero h = refl
 read-ext a b p q (suc k) h =

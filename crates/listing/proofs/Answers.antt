@@ -13,9 +13,9 @@ use Rattle.rules.specs.Listing.{direntsFrom, laid as laidRecords, listRule}
 use Rattle.le.specs.Mem.{write}
 use Rattle.tables.specs.View.{nodesOf, view}
 use Rattle.tables.specs.Rule.{laid}
-use Rattle.tables.specs.Call.{Told, toldBy, writtenBy}
+use Rattle.tables.specs.Call.{Told, toldBy}
 use Rattle.dirent.specs.Lays.{Lays}
-use Rattle.storage.proofs.Laid.{told-small, told-by}
+use Rattle.storage.proofs.Calls.{writes-small, writes-by}
 use Rattle.listing.specs.declared.Listed.{Listed}
 use Rattle.listing.specs.declared.Listed.the-variants.{Wrote, NoEnt, Small}
 use Rattle.listing.specs.Listed.{listedTold, listing, Lists}
@@ -42,17 +42,12 @@ lists-once mem node size offset d r t e f a b = (listed-injective r t (a .answer
 
 module _ (mem : List ℕ) (node size offset : ℕ) (d : List ℕ) where
   pub lists-small : laid mem ≡ false → Lists mem node size offset d Small d
-  unfolding listedTold writtenBy write
-  lists-small l = record { answer = sym (told-small mem (listing node size offset d) l); bytes = rw l }
+  unfolding listedTold
+  lists-small l = writes-small mem (listing node size offset d) d l
 
   -- by the outcome of the rule
-  module _ (l : laid mem ≡ true) (o : Outcome) (q : listing node size offset d (view mem) ≡ o) where
-    by-rule : (r : Listed) (e : List ℕ) → listedTold r ≡ toldBy o → e ≡ write d 0 (o .written) → Lists mem node size offset d r e
-    unfolding writtenBy
-    by-rule r e a b = record {
-      answer = a ∙ sym (told-by mem (listing node size offset d) l ∙ ap toldBy q);
-      bytes = b ∙ sym (rw (l, q));
-    }
+  by-rule : laid mem ≡ true → (o : Outcome) → listing node size offset d (view mem) ≡ o → (r : Listed) (e : List ℕ) → listedTold r ≡ toldBy o → e ≡ write d 0 (o .written) → Lists mem node size offset d r e
+  by-rule l o q r e a b = writes-by mem (listing node size offset d) d (listedTold r) e o l q a b
 
   pub lists-nothing : laid mem ≡ true → size ≡ 0 → Lists mem node size offset d (Wrote 0) d
   unfolding listedTold write listRule firstOf

@@ -1,14 +1,12 @@
 -- What a listing answers and leaves, by the rule on the instance that the bytes stand for.
 use Prim.Native.Nat.{ℕ}
-use mathlib.Core.Path.{_≡_}
 use mathlib.Core.List.{List}
 use lib.ListN.{length}
 use Rattle.rules.specs.Numbers.{NOENT}
 use Rattle.rules.specs.Instance.{Instance}
 use Rattle.rules.specs.Outcome.{wrote, Outcome}
 use Rattle.rules.specs.Listing.{listRule}
-use Rattle.le.specs.Mem.{write}
-use Rattle.tables.specs.Call.{Told, tells, refuses, toldSmall, answeredBy, writtenBy}
+use Rattle.tables.specs.Call.{Told, tells, refuses, toldSmall, Writes}
 use Rattle.listing.specs.declared.Listed.{Listed}
 use Rattle.listing.specs.declared.Listed.the-variants.{Wrote, NoEnt, Small}
 
@@ -22,7 +20,6 @@ listedTold Small = toldSmall
 abbrev pub listing : ℕ → ℕ → ℕ → List ℕ → Instance → Outcome
 listing node size offset d i = listRule i (record { node = node; size = size; offset = offset; buffer = length d })
 
--- r is answered, and the lent output d is e then: what is written stands at its start, and later bytes keep what they held
-pub record Lists (mem : List ℕ) (node size offset : ℕ) (d : List ℕ) (r : Listed) (e : List ℕ) : Type 0 where
-  pub answer : listedTold r ≡ answeredBy mem (listing node size offset d)
-  pub bytes : e ≡ write d 0 (writtenBy mem (listing node size offset d))
+-- r is answered, and the lent output d is e then (R17)
+abbrev pub Lists : List ℕ → ℕ → ℕ → ℕ → List ℕ → Listed → List ℕ → Type 0
+Lists mem node size offset d r e = Writes mem (listing node size offset d) d (listedTold r) e

@@ -24,11 +24,11 @@ use Rattle.tables.specs.Table.{row, tab}
 use Rattle.tables.specs.Layout.{capacityOf, countOf, nextOf, counterAt}
 use Rattle.tables.specs.View.{optionsFrom, headOf, nodeAt, nodesOf, view}
 use Rattle.tables.specs.Rule.{laid}
-use Rattle.tables.specs.Call.{Told, toldBy, writtenBy}
+use Rattle.tables.specs.Call.{Told, toldBy}
 use Rattle.tables.proofs.Places.{nodes-count}
 use Rattle.tables.proofs.Find.{nodes-of}
 use Rattle.tables.proofs.Keeps.{laid-is}
-use Rattle.storage.proofs.Laid.{told-small, told-by}
+use Rattle.storage.proofs.Calls.{writes-small, writes-by}
 use Rattle.row_name.proofs.Names.{name-short}
 use Rattle.persist.specs.declared.saving.Saved.{Saved}
 use Rattle.persist.specs.declared.saving.Saved.the-variants.{Wrote, Small}
@@ -52,14 +52,12 @@ saves-once mem d r t e f a b = (savedTold-injective r t (a .answer ∙ sym (b .a
 
 module _ (mem d : List ℕ) where
   pub saves-small : laid mem ≡ false → Saves mem d Small d
-  unfolding savedTold writtenBy write
-  saves-small l = record { answer = sym (told-small mem (saving d) l); bytes = rw l }
+  unfolding savedTold
+  saves-small l = writes-small mem (saving d) d l
 
   -- by the outcome of the rule
-  module _ (l : laid mem ≡ true) (o : Outcome) (q : saving d (view mem) ≡ o) where
-    by-rule : (r : Saved) (e : List ℕ) → savedTold r ≡ toldBy o → e ≡ write d 0 (o .written) → Saves mem d r e
-    unfolding writtenBy
-    by-rule r e a b = record { answer = a ∙ sym (told-by mem (saving d) l ∙ ap toldBy q); bytes = b ∙ sym (rw (l, q)) }
+  by-rule : laid mem ≡ true → (o : Outcome) → saving d (view mem) ≡ o → (r : Saved) (e : List ℕ) → savedTold r ≡ toldBy o → e ≡ write d 0 (o .written) → Saves mem d r e
+  by-rule l o q r e a b = writes-by mem (saving d) d (savedTold r) e o l q a b
 
   -- what is saved: its parts, and its size
   abbrev state : List ℕ

@@ -8,10 +8,9 @@ use Rattle.rules.specs.Instance.{Instance}
 use Rattle.rules.specs.Outcome.{wrote, Outcome}
 use Rattle.rules.specs.Saved.{encode}
 use Rattle.rules.specs.Restore.{saved, saveRule}
-use Rattle.le.specs.Mem.{write}
 use Rattle.tables.specs.View.{view}
 use Rattle.tables.specs.Rule.{laid}
-use Rattle.tables.specs.Call.{Told, tells, toldSmall, answeredBy, writtenBy}
+use Rattle.tables.specs.Call.{Told, tells, toldSmall, Writes}
 use Rattle.persist.specs.declared.saving.Saved.{Saved}
 use Rattle.persist.specs.declared.saving.Saved.the-variants.{Wrote, Small}
 
@@ -24,10 +23,9 @@ savedTold Small = toldSmall
 abbrev pub saving : List ℕ → Instance → Outcome
 saving d i = saveRule i (length d)
 
--- r is answered, and the lent output d is e then: the state stands at its start, and later bytes keep what they held
-pub record Saves (mem d : List ℕ) (r : Saved) (e : List ℕ) : Type 0 where
-  pub answer : savedTold r ≡ answeredBy mem (saving d)
-  pub bytes : e ≡ write d 0 (writtenBy mem (saving d))
+-- r is answered, and the lent output d is e then (R17)
+abbrev pub Saves : List ℕ → List ℕ → Saved → List ℕ → Type 0
+Saves mem d r e = Writes mem (saving d) d (savedTold r) e
 
 -- ---- the same, read off the answer
 

@@ -14,9 +14,9 @@ use Rattle.rules.specs.Mount.{Request, mountOn, freed, placed}
 use Rattle.rules.specs.Unmount.{taken}
 use Rattle.tables.specs.View.{flag, headOf, slotAt, slotsOf, nodesOf, view}
 use Rattle.tables.specs.Rule.{laid}
+use Rattle.tables.specs.Write.{MountFits}
 use Rattle.tables.specs.Answer.{mountMem, removeMem}
 use Rattle.tables.proofs.Tab.{tab-at}
-use Rattle.tables.proofs.Spells.{MountFits}
 use Rattle.tables.proofs.Refine.{view-slot}
 use Rattle.tables.proofs.Places.{view-mount, view-gone}
 use Rattle.tables.proofs.Keeps.{laid-long, laid-is, keeps-slot, keeps-mount, keeps-gone}

@@ -1,16 +1,30 @@
--- What any call on bytes does, by the outcome of its rule: refused by the layout rule, leaving all as it was, or leaving other bytes. Assumes nothing.
-use mathlib.Core.Path.{_≡_, sym, _∙_}
+-- What any call on bytes does, by the outcome of its rule: refused by the layout rule, laying bytes into lent output, leaving all as it was, or leaving other bytes.
+-- Assumes nothing.
+use mathlib.Core.Path.{_≡_, sym, ap, _∙_}
 use mathlib.Core.Bool.{true, false, true≢false}
 use mathlib.Core.List.{List}
 use Prim.Native.Nat.{ℕ}
+use Rattle.le.specs.Mem.{write}
 use Rattle.rules.specs.Instance.{Instance}
 use Rattle.rules.specs.Outcome.{Outcome}
 use Rattle.tables.specs.View.{view}
 use Rattle.tables.specs.Rule.{laid}
-use Rattle.tables.specs.Call.{Told, toldBy, toldSmall, Does}
+use Rattle.tables.specs.Call.{Told, toldBy, toldSmall, writtenBy, Writes, Does}
 use Rattle.storage.proofs.Laid.{told-small, told-by}
 
 module _ (mem : List ℕ) (f : Instance → Outcome) where
+  -- ---- of a call that lays bytes into the lent output
+
+  pub writes-small : (d : List ℕ) → laid mem ≡ false → Writes mem f d toldSmall d
+  unfolding writtenBy write
+  writes-small d l = record { answer = sym (told-small mem f l); bytes = rw l }
+
+  pub writes-by : (d : List ℕ) (told : Told) (e : List ℕ) (o : Outcome) → laid mem ≡ true → f (view mem) ≡ o → told ≡ toldBy o → e ≡ write d 0 (o .written) → Writes mem f d told e
+  unfolding writtenBy
+  writes-by d told e o l q t b = record { answer = t ∙ sym (told-by mem f l ∙ ap toldBy q); bytes = b ∙ sym (rw (l, q)) }
+
+  -- ---- of a call that changes the instance
+
   -- bytes against the layout rule
   pub does-small : (told : Told) (exact : List ℕ) → laid mem ≡ false → told ≡ toldSmall → mem ≡ exact → Does mem f told mem exact
   does-small told exact e t b = record {

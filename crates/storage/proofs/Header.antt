@@ -24,7 +24,7 @@ use Rattle.storage.specs.Limits.{Limits, Widths}
 
 -- ---- numbers as cells
 
-spell-fits : (cs : List Col) (vs : List ℕ) → Fit cs (spell cs vs)
+pub spell-fits : (cs : List Col) (vs : List ℕ) → Fit cs (spell cs vs)
 unfolding spell
 spell-fits [] vs = omega arith
 spell-fits (c ∷ cs) [] = omega arith

@@ -26,7 +26,7 @@ use Rattle.storage.specs.Header.{spell, headerOf}
 use Rattle.storage.specs.Limits.{SlotsFit, Onto}
 use Rattle.storage.proofs.Bytes.{AllBytes, zeros-bytes, number-bytes, row-bytes, spell-bytes, from-bytes}
 use Rattle.storage.proofs.Header.{view-headed, laid-headed}
-use Rattle.storage.proofs.Rows.{may-fit, putRows, length-rows, rows-bytes, rows-there}
+use Rattle.storage.proofs.Rows.{putRows, length-rows, rows-bytes, rows-there}
 
 -- ---- the slots, from slot k on
 
@@ -109,7 +109,7 @@ onto i l =
     let slotted = slots-there ss 0 m₂ keeps (l .tags) (omega (arith, l .slots)) in
     let v₂ = view-headed i m₁ l (omega arith) in
     let v₃ = slotted .stands ∙ ap (λ (j : Instance). withSlots ss j) v₂ in
-    let v₄ = view-root-mount m₃ (laid-is m₃ (slotted .keeps)) (i .tree .root) (may-fit (i .tree .root) (l .root)) in (
+    let v₄ = view-root-mount m₃ (laid-is m₃ (slotted .keeps)) (i .tree .root) (l .root) in (
       m₄,
       record {
         long = root-length (i .tree .root) m₃ ∙ (slotted .size ∙ (length-header 0 (spell header (headerOf i)) m₁ ∙ size₁));

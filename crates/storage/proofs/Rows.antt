@@ -13,10 +13,11 @@ use Rattle.rules.proofs.Fields.{length-bytesOf}
 use Rattle.tables.specs.Table.{putRow, over, Fit}
 use Rattle.tables.specs.Layout.{nodeTable}
 use Rattle.tables.specs.View.{mountFrom, nameFrom, nodeFrom, nodesFrom}
+use Rattle.tables.specs.Write.{MayFit}
 use Rattle.tables.proofs.Table.{length-putRow}
-use Rattle.tables.proofs.Spells.{MayFit, whole, mount-word, name-back}
+use Rattle.tables.proofs.Spells.{whole, mount-word, name-back}
 use Rattle.tables.proofs.Refine.{nodes-more}
-use Rattle.storage.specs.Limits.{MountFits, NodeFits, NodesFit}
+use Rattle.storage.specs.Limits.{NodeFits, NodesFit}
 use Rattle.storage.proofs.Bytes.{AllBytes, number-bytes, append-bytes, take-bytes, drop-bytes, row-bytes}
 
 -- ---- a row with all its cells
@@ -49,13 +50,9 @@ rowCells x =
     ∷ take (length (x .called) - 7) (x .called)
     ∷ []
 
-pub may-fit : (m : Option Mount) → MountFits m → MayFit m
-may-fit none f = tt
-may-fit (some m) f = record { index = f .0; few = f .1; root = f .2; uid = f .3; gid = f .4; mode = f .5 }
-
-word-back : (m : Option Mount) → MountFits m → mountFrom (wordOf m) (uidOf m) (gidOf m) (modeOf m) ≡ m
+word-back : (m : Option Mount) → MayFit m → mountFrom (wordOf m) (uidOf m) (gidOf m) (modeOf m) ≡ m
 word-back none f = refl
-word-back (some m) f = mount-word m (may-fit (some m) f)
+word-back (some m) f = mount-word m f
 
 record Words (m : Option Mount) : Type 0 where
   pub word : wordOf m < 256 ^ 8
@@ -63,7 +60,7 @@ record Words (m : Option Mount) : Type 0 where
   pub gid : gidOf m < 256 ^ 4
   pub mode : modeOf m < 256 ^ 4
 
-words : (m : Option Mount) → MountFits m → Words m
+words : (m : Option Mount) → MayFit m → Words m
 words none f = record { word = omega arith; uid = omega arith; gid = omega arith; mode = omega arith }
 words (some m) f = record { word = omega arith; uid = omega arith; gid = omega arith; mode = omega arith }
 

@@ -3,17 +3,17 @@ use Prim.Native.Nat.{ℕ, _^_, _≤_, _<_}
 use mathlib.Core.Path.{_≡_}
 use mathlib.Core.Bool.{true, false}
 use mathlib.Core.List.{List, [], _∷_}
-use mathlib.Core.Option.{Option, none, some}
 use lib.ListN.{length}
 use Rattle.rules.specs.Bytes.{Bytes}
 use Rattle.rules.specs.Ids.{Mapping, badMapping}
-use Rattle.rules.specs.Tree.{Mount, Node}
+use Rattle.rules.specs.Tree.{Node}
 use Rattle.rules.specs.Instance.{Fixed, Options, Slot, Instance}
 use Rattle.rules.specs.Create.{unknown}
 use Rattle.rules.specs.Numbers.{storageFor}
 use Rattle.tables.specs.Table.{Col}
 use Rattle.tables.specs.View.{view}
 use Rattle.tables.specs.Rule.{laid}
+use Rattle.tables.specs.Write.{MayFit}
 
 -- numbers within the widths of the columns
 abbrev pub Widths : List Col → List ℕ → Type 0
@@ -40,14 +40,9 @@ abbrev pub SlotsFit : List Slot → Type 0
 SlotsFit [] = 0 ≤ 0
 SlotsFit (s ∷ ss) = (s .tag < 2 ^ 32) × SlotsFit ss
 
--- of a mount, where there is one: its index is not 0 (R3, R5, R11)
-abbrev pub MountFits : Option Mount → Type 0
-MountFits none = 0 ≤ 0
-MountFits (some m) = (1 ≤ m .index) × (m .index ≤ 255) × (m .root < 2 ^ 56) × (m .uid < 2 ^ 32) × (m .gid < 2 ^ 32) × (m .mode < 2 ^ 32)
-
 -- of a node (R5, R10)
 abbrev pub NodeFits : Node → Type 0
-NodeFits n = (n .number < 2 ^ 56) × (n .above < 2 ^ 56) × (length (n .called) ≤ 255) × Bytes (n .called) × MountFits (n .mount)
+NodeFits n = (n .number < 2 ^ 56) × (n .above < 2 ^ 56) × (length (n .called) ≤ 255) × Bytes (n .called) × MayFit (n .mount)
 
 -- of every node
 abbrev pub NodesFit : List Node → Type 0
@@ -73,7 +68,7 @@ pub record Limits (i : Instance) : Type 0 where
   pub counter : i .indexes .counter < 256
   pub slots : length (i .indexes .slots) ≡ 256
   pub tags : SlotsFit (i .indexes .slots)
-  pub root : MountFits (i .tree .root)
+  pub root : MayFit (i .tree .root)
   pub nodes : NodesFit (i .tree .nodes)
 
 -- these bytes, no more than the instance needs, keep the layout rule and stand for it

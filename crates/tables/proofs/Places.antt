@@ -15,11 +15,10 @@ use Rattle.tables.specs.Table.{removeAt}
 use Rattle.tables.specs.Layout.{capacityOf, countOf}
 use Rattle.tables.specs.View.{nodeAt, nodesOf, view}
 use Rattle.tables.specs.Rule.{Laid}
-use Rattle.tables.specs.Write.{setRootMount, setRowMount, removeRow}
+use Rattle.tables.specs.Write.{MayFit, setRootMount, setRowMount, removeRow}
 use Rattle.tables.specs.Answer.{later, placeIn, atPlace, mountMem, removeMem}
 use Rattle.tables.proofs.Tab.{length-tab, tab-at}
 use Rattle.tables.proofs.Find.{nodes-of}
-use Rattle.tables.proofs.Spells.{MayFit}
 use Rattle.tables.proofs.Refine.{view-remove, view-row-mount, view-root-mount}
 
 -- a node for where there is none

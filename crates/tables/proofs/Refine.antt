@@ -17,11 +17,11 @@ use Rattle.rules.specs.Instance.{withCounter, withSlot, withTree, removing, gro
 use Rattle.tables.specs.Table.{row, putRow, closeUp, over, Fit, tab, removeAt}
 use Rattle.tables.specs.Layout.{header, slotTable, nodeTable, capacityOf, countOf, nextOf}
 use Rattle.tables.specs.View.{field, nodeFrom, slotFrom, instanceFrom, headOf, slotAt, nodeAt, slotsOf, nodesFrom, nodesOf, view}
-use Rattle.tables.specs.Write.{fromPlace, setCount, setCounter, setRemoval, heldByte, setSlot, mountCells, rowMountCells, setRootMount, setRowMount, nodeCells, appendNode, removeRow}
+use Rattle.tables.specs.Write.{fromPlace, setCount, setCounter, setRemoval, heldByte, setSlot, mountCells, rowMountCells, MayFit, setRootMount, setRowMount, nodeCells, appendNode, removeRow}
 use Rattle.tables.proofs.Tab.{tab-same, tab-set, tab-append, tab-remove}
 use Rattle.tables.specs.Rule.{Laid}
 use Rattle.tables.proofs.Table.{length-putRow, length-closeUp, upper-kept, lower-kept, close-low, close-high, put-other, put-same}
-use Rattle.tables.proofs.Spells.{whole, cell-back, MayFit, mount-word, mount-written, cells-fit, node-written, mount-fit, root-fit}
+use Rattle.tables.proofs.Spells.{whole, cell-back, mount-word, mount-written, cells-fit, node-written, mount-fit, root-fit}
 use Rattle.tables.proofs.Heads.{slots-ordered, nodes-ordered, header-beneath, slots-beneath, slots-above, nodes-above, view-header, low-head, low-slots, put-low, closed-low, head-low, view-low, two-fields, one-fit, fields-fit}
 
 -- ---- the bytes of the header

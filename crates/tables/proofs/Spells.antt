@@ -14,7 +14,7 @@ use Rattle.rules.specs.Tree.{Mount, bare, withMount}
 use Rattle.tables.specs.Table.{row, over, Fit}
 use Rattle.tables.specs.Layout.{header, nodeTable}
 use Rattle.tables.specs.View.{mountFrom, nameFrom, nodeFrom, nodeAt}
-use Rattle.tables.specs.Write.{fromPlace, mountCells, rowMountCells, nodeCells}
+use Rattle.tables.specs.Write.{fromPlace, mountCells, rowMountCells, MountFits, MayFit, nodeCells}
 
 -- a number that fills its cell
 pub whole : (k v : ℕ) (mem : List ℕ) (q : ℕ) → v < 256 ^ k → value (bytesOf k v ++ read mem q (k - length (bytesOf k v))) ≡ v
@@ -26,19 +26,6 @@ whole k v mem q h =
 -- the same of the cell at a place
 pub cell-back : (k v : ℕ) (mem : List ℕ) (at : ℕ) → v < 256 ^ k → value (bytesOf k v ++ read mem (at + length (bytesOf k v)) (k - length (bytesOf k v))) ≡ v
 cell-back k v mem at h = whole k v mem _ h
-
--- a mount's numbers are within their widths
-pub record MountFits (m : Mount) : Type 0 where
-  pub index : 1 ≤ m .index
-  pub few : m .index ≤ 255
-  pub root : m .root < 2 ^ 56
-  pub uid : m .uid < 2 ^ 32
-  pub gid : m .gid < 2 ^ 32
-  pub mode : m .mode < 2 ^ 32
-
-abbrev pub MayFit : Option Mount → Type 0
-MayFit none = Unit {0}
-MayFit (some m) = MountFits m
 
 pub mount-word : (m : Mount) → MountFits m → mountFrom (m .index * 2 ^ 56 + m .root) (m .uid) (m .gid) (m .mode) ≡ some m
 mount-word m f =

@@ -3,6 +3,7 @@ use Prim.Native.Nat.{ℕ}
 use mathlib.Core.Bool.{cond, true}
 use mathlib.Core.List.{List, []}
 use mathlib.Core.Path.{_≡_}
+use Rattle.le.specs.Mem.{write}
 use Rattle.rules.specs.Numbers.{DONE, SMALL}
 use Rattle.rules.specs.Instance.{Instance}
 use Rattle.rules.specs.Outcome.{Answer, nothing, Outcome, count}
@@ -43,7 +44,12 @@ answeredBy mem f = cond (laid mem) (toldBy (f (view mem))) toldSmall
 unfoldable pub writtenBy : List ℕ → (Instance → Outcome) → List ℕ
 writtenBy mem f = cond (laid mem) (f (view mem) .written) []
 
--- what a call that writes tells and leaves: the answer; the bytes exactly; they stand for what the rule leaves, and keep the layout rule (R15, R21)
+-- what a call that lays bytes into the lent output d tells, and what d is then: the answer; the bytes stand at its start, and later ones keep what they held (R15, R17)
+pub record Writes (mem : List ℕ) (f : Instance → Outcome) (d : List ℕ) (told : Told) (e : List ℕ) : Type 0 where
+  pub answer : told ≡ answeredBy mem f
+  pub bytes : e ≡ write d 0 (writtenBy mem f)
+
+-- what a call that changes the instance tells and leaves: the answer; the bytes exactly; they stand for what the rule leaves, and keep the layout rule (R15, R21)
 pub record Does (mem : List ℕ) (f : Instance → Outcome) (told : Told) (after exact : List ℕ) : Type 0 where
   pub answer : told ≡ answeredBy mem f
   pub bytes : after ≡ exact

@@ -1,5 +1,5 @@
 -- What is written into the bytes: exact functions of the memory.
-use Prim.Native.Nat.{ℕ, _+_, _-_, _*_, _^_}
+use Prim.Native.Nat.{ℕ, _+_, _-_, _*_, _^_, _≤_, _<_}
 use mathlib.Core.Bool.{Bool, true, false}
 use mathlib.Core.List.{List, [], _∷_, _++_}
 use mathlib.Core.Option.{Option, none, some}
@@ -58,6 +58,20 @@ abbrev pub rowMountCells : Option Mount → List (List ℕ)
 rowMountCells none = [] ∷ [] ∷ bytesOf 8 0 ∷ []
 rowMountCells (some m) =
     [] ∷ [] ∷ bytesOf 8 (m .index * 2 ^ 56 + m .root) ∷ [] ∷ bytesOf 4 (m .uid) ∷ bytesOf 4 (m .gid) ∷ bytesOf 4 (m .mode) ∷ []
+
+-- each number of a mount fits its cell, and its index is not 0 (R3, R5, R11)
+pub record MountFits (m : Mount) : Type 0 where
+  pub index : 1 ≤ m .index
+  pub few : m .index ≤ 255
+  pub root : m .root < 2 ^ 56
+  pub uid : m .uid < 2 ^ 32
+  pub gid : m .gid < 2 ^ 32
+  pub mode : m .mode < 2 ^ 32
+
+-- where there is a mount
+abbrev pub MayFit : Option Mount → Type 0
+MayFit none = Unit {0}
+MayFit (some m) = MountFits m
 
 -- the mount of the root (R76, R98)
 unfoldable pub setRootMount : Option Mount → List ℕ → List ℕ

@@ -24,11 +24,10 @@ use Rattle.tables.specs.Layout.{counterAt}
 use Rattle.tables.specs.Table.{row}
 use Rattle.tables.specs.View.{view}
 use Rattle.tables.specs.Rule.{laid}
-use Rattle.tables.specs.Write.{setCounter}
+use Rattle.tables.specs.Write.{setCounter, MountFits}
 use Rattle.tables.specs.Answer.{tagIn, heldAt, mountOfPoint}
 use Rattle.tables.specs.Call.{counted}
 use Rattle.tables.proofs.Indexes.{allocate-same}
-use Rattle.tables.proofs.Spells.{MountFits}
 use Rattle.tables.proofs.Refine.{view-counter}
 use Rattle.tables.proofs.Keeps.{laid-long, keeps-counter}
 use Rattle.placing.specs.Place.{placeMem, Places}

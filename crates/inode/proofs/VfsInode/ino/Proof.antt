@@ -4,15 +4,9 @@ use borrow.Author.Needs.{needs}
 use Rattle.inode.proofs.VfsInode.ino.Statement.{statement}
 use Rattle.inode.proofs.VfsInode.ino.Tie as tie
 
-add-result : tie.Need-add-result
-add-result c = search needs
-
-rem-result : tie.Need-rem-result
-rem-result c = search needs
-
 returns : tie.Need-returns
 unfolding numberOf
 returns c = search needs
 
 pub ino-spec : {M : Type 1} → statement M
-ino-spec = tie.close (tie.spec add-result rem-result returns)
+ino-spec = tie.close (tie.spec returns)
