@@ -23,7 +23,7 @@ use Rattle.tables.proofs.Tab.{tab-same}
 use Rattle.tables.proofs.Table.{cell-end, length-putRow, length-closeUp, row-low}
 use Rattle.tables.proofs.Spells.{cells-fit, mount-fit}
 use Rattle.tables.proofs.Heads.{two-fields, one-fit, fields-fit}
-use Rattle.tables.proofs.Keeps.{laid-is, ruled, is-ruled, open-laid}
+use Rattle.tables.proofs.Keeps.{laid-is, is-ruled, laid-ruled}
 use Rattle.behind.specs.Behind.{Leaves}
 
 module _ (rest : List ℕ) where
@@ -150,7 +150,7 @@ module _ (rest : List ℕ) where
   unfolding laid
   laid-front mem e =
       let d = laid-is mem e in
-      let r = ruled (headOf mem) (length mem) (open-laid mem e) in
+      let r = laid-ruled mem e in
       let more : length (mem ++ rest) ≡ length mem + length rest = length-append mem rest in
       ap (λ (h : List (List ℕ)). laidBy h (length (mem ++ rest))) (head-front mem (omega (arith, d .long)))
       ∙ is-ruled (headOf mem) (length (mem ++ rest)) (record {
@@ -173,7 +173,7 @@ module _ (rest : List ℕ) where
 pub first-laid : (s : List ℕ) → laid s ≡ true → laid (take (storageFor (capacityOf s)) s) ≡ true
 unfolding laid row get
 first-laid s e =
-    let r = ruled (headOf s) (length s) (open-laid s e) in
+    let r = laid-ruled s e in
     let n : ℕ = capacityOf s in
     let size : length (take (storageFor n) s) ≡ 512 * n + 8192 = length-take-le (storageFor n) s (r .size .enough) in
     let head : headOf (take (storageFor n) s) ≡ headOf s =

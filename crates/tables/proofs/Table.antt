@@ -17,7 +17,7 @@ times : (w a b : ℕ) → a ≤ b → w * a ≤ w * b
 times w a b h = mul-le-mul-left w h
 
 -- a cell ends where the next begins, or before
-cell-end : (c : Col) (i j : ℕ) → i < j → off c i + c .width ≤ off c j
+pub cell-end : (c : Col) (i j : ℕ) → i < j → off c i + c .width ≤ off c j
 cell-end c i j h = omega (arith, mul-suc (c .width) i, times (c .width) (suc i) j h)
 
 split : (w k j : ℕ) → k ≤ j → w * k + w * (j - k) ≡ w * j
