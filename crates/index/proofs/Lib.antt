@@ -3,3 +3,4 @@ pub mod Going
 pub mod Answers
 pub mod Lent
 pub mod Stepping
+pub mod Lap

@@ -2,3 +2,4 @@
 pub mod Slots
 pub mod Search
 pub mod Take
+pub mod Lap

@@ -6,6 +6,7 @@ pub mod Worked
 pub mod Rows
 pub mod Round
 pub mod Allocation
+pub mod Laps
 pub mod Ids
 pub mod Still
 pub mod Turn

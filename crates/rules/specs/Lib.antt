@@ -21,6 +21,7 @@ pub mod Session
 pub mod Whole
 pub mod Worked
 pub mod Allocation
+pub mod Laps
 pub mod Trace
 pub mod Leaves
 pub mod Exactly

@@ -1,16 +1,15 @@
--- Demand 3 over any calls on any instance: what the allocations of a run visit, and what is claimed of that.
+-- Demand 3 over any calls on any instance: the calls as steps of the allocator, and what is claimed of them.
 use Prim.Native.Nat.{ℕ, _+_, _%_, _<_}
-use mathlib.Core.Bool.{true}
 use mathlib.Core.Path.{_≡_}
 use mathlib.Core.Logic.{_⊎_}
 use mathlib.Core.List.{List, [], _∷_, _++_}
-use mathlib.Core.Option.{Option, none, some}
-use lib.ListN.{length}
+use mathlib.Core.Option.{none, some}
 use Rattle.rules.specs.Round.{goingRound}
 use Rattle.rules.specs.Instance.{Instance, counterOf, heldIn}
-use Rattle.rules.specs.Outcome.{Outcome, count}
+use Rattle.rules.specs.Outcome.{Outcome}
 use Rattle.rules.specs.Mount.{Request, allocation}
 use Rattle.rules.specs.Calls.{Call, mount, restore, rule}
+use Rattle.rules.specs.Laps.{Step, visitsOf, total, lastFound, Laps}
 
 -- the call, with its outcome, is no done state restore (R87)
 abbrev pub NoRestore : Call → Outcome → Type 0
@@ -26,34 +25,14 @@ unfoldable pub afterAll : Instance → List Call → Instance
 afterAll i [] = i
 afterAll i (c ∷ cs) = afterAll (rule i c .after) cs
 
--- the visited lists of the calls, one after another (R87)
-unfoldable pub visitsOf : Instance → List Call → List ℕ
-visitsOf i [] = []
-visitsOf i (c ∷ cs) = rule i c .visits ++ visitsOf (rule i c .after) cs
+-- a call as a step: what it finds held in the tables, what it visits, and what it hands out, also where it is then refused (R85, R86)
+abbrev pub stepOf : Instance → Call → Step
+stepOf i c = record { held = heldIn i; visits = rule i c .visits; found = rule i c .found }
 
--- the sum of their counts (R87)
-unfoldable pub total : Instance → List Call → ℕ
-total i [] = 0
-total i (c ∷ cs) = count (rule i c) + total (rule i c .after) cs
-
--- what the last of the calls handed out, also where its mount was then refused; x where there is no call (R85)
-unfoldable pub lastFound : Option ℕ → Instance → List Call → Option ℕ
-lastFound x i [] = x
-lastFound x i (c ∷ cs) = lastFound (rule i c .found) (rule i c .after) cs
-
--- the index stands in the list
-abbrev pub Has : ℕ → List ℕ → Type 0
-Has j [] = ⊥
-Has j (i ∷ is) = (i ≡ j) ⊎ Has j is
-
--- a call handed j out, or visited it while it was held in the tables that the call found (R85, R86)
-abbrev pub Meets : ℕ → Instance → Outcome → Type 0
-Meets j i o = (o .found ≡ some j) ⊎ (Has j (o .visits) × (heldIn i j ≡ true))
-
--- one of the calls did (R88)
-unfoldable pub Met : ℕ → Instance → List Call → Type 0
-Met j i [] = ⊥
-Met j i (c ∷ cs) = Meets j i (rule i c) ⊎ Met j (rule i c .after) cs
+-- the calls, each on what the one before left
+unfoldable pub stepsOf : Instance → List Call → List Step
+stepsOf i [] = []
+stepsOf i (c ∷ cs) = stepOf i c ∷ stepsOf (rule i c .after) cs
 
 -- a mount that came to its allocation (R89)
 pub record Moves (i : Instance) (c : Call) (o : Outcome) (r : Request) : Type 0 where
@@ -74,15 +53,8 @@ OnlyMounts = (i : Instance) (c : Call) → NoRestore c (rule i c) → Keeps i (r
 
 -- the visited lists run round without a gap, and the counter moves by what they visit (R80, R83, R87)
 pub record GoesRound (i : Instance) (cs : List Call) : Type 0 where
-  pub round : visitsOf i cs ≡ goingRound (length (visitsOf i cs)) (counterOf i)
-  pub moved : counterOf (afterAll i cs) ≡ (counterOf i + length (visitsOf i cs)) % 256
-  pub summed : total i cs ≡ length (visitsOf i cs)
-
--- of calls up to one that hands out again what was handed out just before them: the sum (R87), and every other index (R88)
-pub record Laps (i : Instance) (cs : List Call) : Type 0 where
-  pub positive : 0 < total i cs
-  pub whole : total i cs % 256 ≡ 0
-  pub fair : (j : ℕ) → 0 < j → j < 256 → Met j i cs
+  pub round : visitsOf (stepsOf i cs) ≡ goingRound (total (stepsOf i cs)) (counterOf i)
+  pub moved : counterOf (afterAll i cs) ≡ (counterOf i + total (stepsOf i cs)) % 256
 
 -- from every instance, by any calls without a done state restore (R87)
 abbrev pub EveryRun : Type 0
@@ -91,17 +63,11 @@ EveryRun = (cs : List Call) (i : Instance) → counterOf i < 256 → Unrestored 
 -- a call handed k out, and the last of the calls after it hands k out again (R87, R88)
 abbrev pub EveryLap : Type 0
 EveryLap = (i : Instance) → counterOf i < 256 → (c : Call) (k : ℕ) → rule i c .found ≡ some k
-    → (cs : List Call) → Unrestored (rule i c .after) cs → lastFound none (rule i c .after) cs ≡ some k → Laps (rule i c .after) cs
-
--- of calls on an instance, and then of calls on another: the sum (R87), and every other index (R88)
-pub record LapsOver (i : Instance) (cs : List Call) (j : Instance) (ds : List Call) : Type 0 where
-  pub positive : 0 < total i cs + total j ds
-  pub whole : (total i cs + total j ds) % 256 ≡ 0
-  pub fair : (x : ℕ) → 0 < x → x < 256 → Met x i cs ⊎ Met x j ds
+    → (cs : List Call) → Unrestored (rule i c .after) cs → lastFound none (stepsOf (rule i c .after) cs) ≡ some k → Laps (stepsOf (rule i c .after) cs)
 
 -- a call handed k out; after more calls the counter is carried over to another instance, as a save and a restore do, and there the last of the calls hands k out
 -- again (R87, R88, R135)
 abbrev pub EveryRestart : Type 0
 EveryRestart = (i : Instance) → counterOf i < 256 → (c : Call) (k : ℕ) → rule i c .found ≡ some k → (cs : List Call) → Unrestored (rule i c .after) cs
-    → (j : Instance) → counterOf j ≡ counterOf (afterAll (rule i c .after) cs) → (ds : List Call) → Unrestored j ds → lastFound none j ds ≡ some k
-    → LapsOver (rule i c .after) cs j ds
+    → (j : Instance) → counterOf j ≡ counterOf (afterAll (rule i c .after) cs) → (ds : List Call) → Unrestored j ds → lastFound none (stepsOf j ds) ≡ some k
+    → Laps (stepsOf (rule i c .after) cs ++ stepsOf j ds)

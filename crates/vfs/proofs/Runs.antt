@@ -10,7 +10,8 @@ use Rattle.rules.specs.Mount.{Request, mountRule, restoreMountRule}
 use Rattle.rules.specs.Unmount.{unmountRule}
 use Rattle.rules.specs.Restore.{restoreRule}
 use Rattle.rules.specs.Calls.{Call, mount, restore-mount, umount, restore, rule}
-use Rattle.rules.specs.Trace.{Unrestored, total, lastFound, Laps}
+use Rattle.rules.specs.Laps.{total, lastFound, Laps}
+use Rattle.rules.specs.Trace.{Unrestored, stepsOf}
 use Rattle.rules.proofs.Trace.{laps}
 use Rattle.tables.specs.View.{view}
 use Rattle.tables.specs.Rule.{laid}
@@ -20,26 +21,26 @@ use Rattle.vfs.specs.Runs.{Step, Allowed, Run, callsOf, counts, EveryLap
 use Rattle.vfs.proofs.MountWays.{counter-in}
 
 -- the counts that are told are those of the rules
-pub same-total : (ss : List Step) (mem : List ℕ) → laid mem ≡ true → Run mem ss → counts ss ≡ total (view mem) (callsOf ss)
-unfolding Run callsOf counts total
+pub same-total : (ss : List Step) (mem : List ℕ) → laid mem ≡ true → Run mem ss → counts ss ≡ total (stepsOf (view mem) (callsOf ss))
+unfolding Run callsOf counts total stepsOf
 same-total [] mem l r = refl
 same-total (s ∷ ss) mem l (b, (a, r)) =
     let f : Instance → Outcome = λ (i : Instance). rule i (s .call) in
     let on : laid (s .before) ≡ true = ap laid b ∙ l in
     let told : s .told .count ≡ count (rule (view (s .before)) (s .call)) = λ i. (a .answer ∙ told-by (s .before) f on) i .count in
-    let rest : counts ss ≡ total (view (s .after)) (callsOf ss) = same-total ss (s .after) (a .keeps on) r in
+    let rest : counts ss ≡ total (stepsOf (view (s .after)) (callsOf ss)) = same-total ss (s .after) (a .keeps on) r in
     (λ i. told i + rest i)
-    ∙ (λ i. count (rule (view (s .before)) (s .call)) + total (a .stands on i) (callsOf ss))
-    ∙ (λ i. count (rule (view (b i)) (s .call)) + total (rule (view (b i)) (s .call) .after) (callsOf ss))
+    ∙ (λ i. count (rule (view (s .before)) (s .call)) + total (stepsOf (a .stands on i) (callsOf ss)))
+    ∙ (λ i. count (rule (view (b i)) (s .call)) + total (stepsOf (rule (view (b i)) (s .call) .after) (callsOf ss)))
 
 -- the theorem
 pub laps-of-bytes : EveryLapOfBytes
 laps-of-bytes s a l bytes k f ss r u last =
     let e : view (s .after) ≡ rule (view (s .before)) (s .call) .after = a .stands l in
-    let z : Laps (rule (view (s .before)) (s .call) .after) (callsOf ss) =
-    laps (view (s .before)) (counter-in (s .before) bytes) (s .call) k f (callsOf ss) (subst (λ i. Unrestored i (callsOf ss)) e u) (subst (λ i. lastFound none i (callsOf ss) ≡ some k) e last) in
-    let y : Laps (view (s .after)) (callsOf ss) = subst (λ i. Laps i (callsOf ss)) (sym e) z in
-    let t : counts ss ≡ total (view (s .after)) (callsOf ss) = same-total ss (s .after) (a .keeps l) r in
+    let z : Laps (stepsOf (rule (view (s .before)) (s .call) .after) (callsOf ss)) =
+    laps (view (s .before)) (counter-in (s .before) bytes) (s .call) k f (callsOf ss) (subst (λ i. Unrestored i (callsOf ss)) e u) (subst (λ i. lastFound none (stepsOf i (callsOf ss)) ≡ some k) e last) in
+    let y : Laps (stepsOf (view (s .after)) (callsOf ss)) = subst (λ i. Laps (stepsOf i (callsOf ss))) (sym e) z in
+    let t : counts ss ≡ total (stepsOf (view (s .after)) (callsOf ss)) = same-total ss (s .after) (a .keeps l) r in
     record {
       positive = subst (λ n. 0 < n) (sym t) (y .positive);
       whole = ap (λ n. n % 256) t ∙ y .whole;
