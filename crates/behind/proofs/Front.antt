@@ -26,6 +26,22 @@ use Rattle.tables.proofs.Heads.{two-fields, one-fit, fields-fit}
 use Rattle.tables.proofs.Keeps.{laid-is, is-ruled, laid-ruled}
 use Rattle.behind.specs.Behind.{Leaves}
 
+-- other bytes with the same header keep the layout rule, where they are enough
+same-head : (mem m′ : List ℕ) → laid mem ≡ true → headOf m′ ≡ headOf mem → 512 * capacityOf mem + 8192 ≤ length m′ → laid m′ ≡ true
+unfolding laid row get
+same-head mem m′ e h l =
+    let r = laid-ruled mem e in
+    ap (λ (x : List (List ℕ)). laidBy x (length m′)) h
+    ∙ is-ruled (headOf mem) (length m′) (record {
+      size = record { long = omega arith; marked = r .size .marked; some-node = r .size .some-node; few-nodes = r .size .few-nodes; enough = l };
+      live = r .live;
+      low = r .low;
+      top = r .top;
+      bits = r .bits;
+      flags = r .flags;
+      maps = r .maps;
+    })
+
 module _ (rest : List ℕ) where
   -- ---- runs
 
@@ -147,44 +163,15 @@ module _ (rest : List ℕ) where
         ∙ header-front m′ (omega (arith, d .long)) 2 (bytesOf 8 (c - 1) ∷ []) (one-fit (c - 1))
 
   pub laid-front : (mem : List ℕ) → laid mem ≡ true → laid (mem ++ rest) ≡ true
-  unfolding laid
   laid-front mem e =
       let d = laid-is mem e in
-      let r = laid-ruled mem e in
-      let more : length (mem ++ rest) ≡ length mem + length rest = length-append mem rest in
-      ap (λ (h : List (List ℕ)). laidBy h (length (mem ++ rest))) (head-front mem (omega (arith, d .long)))
-      ∙ is-ruled (headOf mem) (length (mem ++ rest)) (record {
-        size = record {
-          long = omega (arith, r .size .long);
-          marked = r .size .marked;
-          some-node = r .size .some-node;
-          few-nodes = r .size .few-nodes;
-          enough = omega (arith, r .size .enough);
-        };
-        live = r .live;
-        low = r .low;
-        top = r .top;
-        bits = r .bits;
-        flags = r .flags;
-        maps = r .maps;
-      })
+      same-head mem (mem ++ rest) e (head-front mem (omega (arith, d .long))) (omega (arith, d .long, length-append mem rest))
 
 -- the bytes that an instance needs
 pub first-laid : (s : List ℕ) → laid s ≡ true → laid (take (storageFor (capacityOf s)) s) ≡ true
-unfolding laid row get
 first-laid s e =
-    let r = laid-ruled s e in
+    let d = laid-is s e in
     let n : ℕ = capacityOf s in
-    let size : length (take (storageFor n) s) ≡ 512 * n + 8192 = length-take-le (storageFor n) s (r .size .enough) in
-    let head : headOf (take (storageFor n) s) ≡ headOf s =
-    sym (head-front (drop (storageFor n) s) (take (storageFor n) s) (omega arith)) ∙ ap headOf (take-append-drop (storageFor n) s) in
-    ap (λ (h : List (List ℕ)). laidBy h (length (take (storageFor n) s))) head
-    ∙ is-ruled (headOf s) (length (take (storageFor n) s)) (record {
-      size = record { long = omega arith; marked = r .size .marked; some-node = r .size .some-node; few-nodes = r .size .few-nodes; enough = omega arith };
-      live = r .live;
-      low = r .low;
-      top = r .top;
-      bits = r .bits;
-      flags = r .flags;
-      maps = r .maps;
-    })
+    let size : length (take (storageFor n) s) ≡ 512 * n + 8192 = length-take-le (storageFor n) s (d .long) in
+    same-head s (take (storageFor n) s) e
+    (sym (head-front (drop (storageFor n) s) (take (storageFor n) s) (omega arith)) ∙ ap headOf (take-append-drop (storageFor n) s)) (omega arith)
