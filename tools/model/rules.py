@@ -187,6 +187,8 @@ def find(i, x, name):
         return DONE, x
     if name == b"..":
         return DONE, i.parent(x)
+    if b"/" in name:
+        return NOENT, None
     y = i.child(x, name)
     return (NOENT, None) if y is None else (DONE, y)
 

@@ -8,8 +8,8 @@ ghost use Rattle.rules.specs.Listing.{direntRow, dirent};
 ghost use Rattle.le.specs.Mem.{read, write};
 ghost use Rattle.dirent.specs.Lays.{Lays};
 
-// The bytes of an entry in front of its name (R64).
-const FRONT: usize = 24;
+// The bytes of an entry in front of its name: number, offset, name length, type (R64).
+pub const FRONT: usize = 24;
 
 // The length of an entry whose name has 1 to 7 bytes (R64).
 const SHORT: usize = 32;

@@ -7,9 +7,6 @@ ghost use Rattle.dirent.specs.Lays.{Lays};
 
 pub mod inner;
 
-// The bytes of an entry in front of its name: number, offset, name length, type (R64).
-const FRONT: usize = 24;
-
 // The name length stands in four bytes (R64).
 const TWO_32: usize = 4294967296;
 
@@ -39,7 +36,7 @@ fn put_name(out: &mut [u8], front: usize, name: &[u8]) -> usize
 pub fn write_dirent(out: &mut [u8], ino: u64, off: u64, name: &[u8]) -> usize
     ensures { λ r. ⌜ Lays (now (out .entry)) (length (now (out .entry))) (dirent ino off (now (name .entry)) ∷ []) r (now (out .exit)) ⌝ }
 {
-    let size = put_name(out, FRONT, name);
+    let size = put_name(out, inner::FRONT, name);
     if size == 0 {
         return 0;
     }

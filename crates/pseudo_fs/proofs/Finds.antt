@@ -10,7 +10,7 @@ use borrow.Author.Tests.{eqb-true, not-false}
 use Rattle.rules.specs.Numbers.{full}
 use Rattle.rules.specs.Bytes.{holds}
 use Rattle.rules.specs.Utf8.{wellFormed}
-use Rattle.rules.specs.Path.{isDot, isDots}
+use Rattle.rules.specs.Path.{slash, isDot, isDots}
 use Rattle.rules.specs.Tree.{Mount, Node, childIn, isKnown, parentIn}
 use Rattle.rules.specs.Instance.{Instance}
 use Rattle.rules.specs.Outcome.{Outcome, firstOf}
@@ -20,7 +20,7 @@ use Rattle.tables.specs.View.{nodesOf, view}
 use Rattle.tables.proofs.Numbers.{nodes-low, child-low, known-low, parent-low}
 use Rattle.pseudo_fs.specs.declared.inner.Finding.{Finding}
 use Rattle.pseudo_fs.specs.declared.inner.Finding.the-variants.{Node as FindingNode, NoEnt, Inval}
-use Rattle.pseudo_fs.specs.Finds.{outcomeOf, findingOf, Finds}
+use Rattle.pseudo_fs.specs.Finds.{outcomeOf, findingOf, childFinding, Finds}
 
 module _ (nodes : List Node) (x : ℕ) (p : List ℕ) where
   pub unknown-parent : isKnown nodes x ≡ false → Finds nodes x p NoEnt
@@ -46,21 +46,23 @@ module _ (nodes : List Node) (x : ℕ) (p : List ℕ) where
         unfolding outcomeOf lookupBy firstOf entryAt
         its-parent d dd y q mounts i e = rw (q, e, k, z, w, d, dd)
 
-        its-child : isDot p ≡ false → isDots p ≡ false → (y : ℕ) → some y ≡ childIn nodes x p → Finds nodes x p (FindingNode y)
-        unfolding outcomeOf lookupBy firstOf entryAt
-        its-child d dd y q mounts i e = rw (e, k, z, w, d, dd, sym q)
+        module _ (d : isDot p ≡ false) (dd : isDots p ≡ false) where
+          has-slash : holds slash p ≡ true → Finds nodes x p NoEnt
+          unfolding outcomeOf lookupBy firstOf
+          has-slash s mounts i e = rw (e, k, z, w, d, dd, s)
 
-        no-child : isDot p ≡ false → isDots p ≡ false → none ≡ childIn nodes x p → Finds nodes x p NoEnt
-        unfolding outcomeOf lookupBy firstOf entryAt
-        no-child d dd q mounts i e = rw (e, k, z, w, d, dd, sym q)
+          its-child : holds slash p ≡ false → (o : Option ℕ) → o ≡ childIn nodes x p → Finds nodes x p (findingOf o)
+          unfolding outcomeOf findingOf lookupBy firstOf entryAt
+          its-child s none q mounts i e = rw (e, k, z, w, d, dd, s, sym q)
+          its-child s (some y) q mounts i e = rw (e, k, z, w, d, dd, s, sym q)
 
-        pub by-child : isDot p ≡ false → isDots p ≡ false → (r : Finding) → r ≡ findingOf (childIn nodes x p) → Finds nodes x p r
-        unfolding findingOf
-        by-child d dd r q = rw q (go (childIn nodes x p) refl)
-          where
-            go : (o : Option ℕ) → o ≡ childIn nodes x p → Finds nodes x p (findingOf o)
-            go none e = no-child d dd e
-            go (some y) e = its-child d dd y e
+          pub by-child : (r : Finding) → r ≡ childFinding nodes x p → Finds nodes x p r
+          unfolding childFinding
+          by-child r q = rw q (go (holds slash p) refl)
+            where
+              go : (b : Bool) → holds slash p ≡ b → Finds nodes x p (cond b NoEnt (findingOf (childIn nodes x p)))
+              go true e = has-slash e
+              go false e = its-child e (childIn nodes x p) refl
 
 -- ---- the number found
 
@@ -123,8 +125,11 @@ module _ (mem : List ℕ) (x : ℕ) (p : List ℕ) where
             λ c e. low (some x) (λ z q. let g : x ≡ z = cc in omega (arith, known-low nodes (nodes-low mem) x (not-false _ a))) e,
             λ c. (
               λ d e. low (some (parentIn nodes x)) (λ z q. let g : parentIn nodes x ≡ z = cc in omega (arith, parent-low nodes (nodes-low mem) x)) e,
-              λ d e.
-                  low (childIn nodes x p) (λ z q. child-low nodes (nodes-low mem) x p z q) e,
+              λ d. (
+                λ s e. absurd (refused-not _ y _ (λ z. omega arith) e),
+                λ s e.
+                    low (childIn nodes x p) (λ z q. child-low nodes (nodes-low mem) x p z q) e,
+              ),
             ),
           ),
         ),

@@ -1,10 +1,13 @@
 -- What a find of the code answers: the outcome of the rules' lookup, whatever mounts are asked.
 use Prim.Native.Nat.{ℕ}
 use mathlib.Core.Path.{_≡_}
+use mathlib.Core.Bool.{cond}
 use mathlib.Core.List.{List}
 use mathlib.Core.Option.{Option, none, some}
 use Rattle.rules.specs.Numbers.{NOENT, INVAL}
-use Rattle.rules.specs.Tree.{Mount, Node}
+use Rattle.rules.specs.Bytes.{holds}
+use Rattle.rules.specs.Path.{slash}
+use Rattle.rules.specs.Tree.{Mount, Node, childIn}
 use Rattle.rules.specs.Instance.{Instance}
 use Rattle.rules.specs.Outcome.{Outcome, refused}
 use Rattle.rules.specs.Lookup.{entryOf, lookupBy}
@@ -21,6 +24,10 @@ outcomeOf mounts i Inval = refused INVAL i
 unfoldable pub findingOf : Option ℕ → Finding
 findingOf none = NoEnt
 findingOf (some y) = FindingNode y
+
+-- the child of that name; a name with a slash is NOENT (R45, R59)
+unfoldable pub childFinding : List Node → ℕ → List ℕ → Finding
+childFinding nodes x p = cond (holds slash p) NoEnt (findingOf (childIn nodes x p))
 
 -- found in the directory x by the name p: what the rules' lookup gives, of every instance with these nodes and for any mounts (R57, R58, R59)
 abbrev pub Finds : List Node → ℕ → List ℕ → Finding → Type 0

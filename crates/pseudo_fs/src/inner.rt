@@ -22,11 +22,10 @@ use utf8::is_utf8;
 ghost use mathlib.Core.Path.{_≡_};
 ghost use Rattle.rules.specs.Numbers.{orZero, convert};
 ghost use Rattle.rules.specs.Path.{components};
-ghost use Rattle.rules.specs.Tree.{childIn};
 ghost use Rattle.tables.specs.View.{mappingFrom, headOf, nodesOf};
 ghost use Rattle.tables.specs.Rule.{Laid};
 ghost use Rattle.pseudo_fs.specs.Walks.{Walks};
-ghost use Rattle.pseudo_fs.specs.Finds.{findingOf, Finds};
+ghost use Rattle.pseudo_fs.specs.Finds.{childFinding, Finds};
 ghost use Rattle.pseudo_fs.specs.Told.{entryAnswer, pseudoAnswer};
 
 // The node where a walk ends, or the place in the path of the first name that is missing.
@@ -77,11 +76,14 @@ pub fn walk(s: &[u8], path: &[u8]) -> Walked
     }
 }
 
-// The child of that name, or NOENT (R45).
+// The child of that name, or NOENT; a name with a slash is NOENT, whatever the rows hold (R45, R59).
 fn child_in(s: &[u8], x: u64, name: &[u8]) -> Finding
     requires { ⌜ Laid (now s) ⌝ }
-    ensures { λ r. ⌜ r ≡ findingOf (childIn (nodesOf (now (s .entry))) x (now (name .entry))) ⌝ }
+    ensures { λ r. ⌜ r ≡ childFinding (nodesOf (now (s .entry))) x (now (name .entry)) ⌝ }
 {
+    if has_byte(name, b'/') {
+        return Finding::NoEnt;
+    }
     match find_child(s, x, name) {
         Found::Node(y) => Finding::Node(y),
         Found::Nothing => Finding::NoEnt,

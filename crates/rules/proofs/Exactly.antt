@@ -10,7 +10,7 @@ use lib.Dec.{eqb, ltb}
 use Rattle.rules.specs.Numbers.{rootNumber, maxIno, maxNodes, storageFor, indexOf, numberOf, NOENT, INVAL, INODE, FULL, NOTFOUND, SMALL, BADOPT, BADMAP}
 use Rattle.rules.specs.Bytes.{holds}
 use Rattle.rules.specs.Utf8.{wellFormed}
-use Rattle.rules.specs.Path.{rooted, isDot, isDots}
+use Rattle.rules.specs.Path.{slash, rooted, isDot, isDots}
 use Rattle.rules.specs.Ids.{badMapping}
 use Rattle.rules.specs.Tree.{Mount, isNone, parentIn, childIn}
 use Rattle.rules.specs.Instance.{Instance, heldIn, tagOf, mountOf, counterOf}
@@ -152,12 +152,13 @@ module _ (mounts : ℕ → Option Mount) (i : Instance) where
   entry-at none = stops _ _ _ refl
   entry-at (some x) = passes _ _ _ (settled _ (entry-code i x (mounts x)))
 
-  found-by : (x y : ℕ) (z : Option ℕ) (b d : Bool)
-      → Settles (firstOf ((b ⇒ entryAt mounts i (some x)) ∷ (d ⇒ entryAt mounts i (some y)) ∷ []) (entryAt mounts i z) .code) ((not b && not d && isNone z ⟼ NOENT) ∷ [])
+  found-by : (x y : ℕ) (z : Option ℕ) (b d s : Bool)
+      → Settles (firstOf ((b ⇒ entryAt mounts i (some x)) ∷ (d ⇒ entryAt mounts i (some y)) ∷ (s ⇒ refused NOENT i) ∷ []) (entryAt mounts i z) .code) ((not b && not d && (s || isNone z) ⟼ NOENT) ∷ [])
   unfolding firstOf
-  found-by x y z true d = passes _ _ _ (settled _ (entry-some x))
-  found-by x y z false true = passes _ _ _ (settled _ (entry-some y))
-  found-by x y z false false = entry-at z
+  found-by x y z true d s = passes _ _ _ (settled _ (entry-some x))
+  found-by x y z false true s = passes _ _ _ (settled _ (entry-some y))
+  found-by x y z false false true = stops _ _ _ refl
+  found-by x y z false false false = entry-at z
 
 lookup-settles : (i : Instance) (x : ℕ) (p : List ℕ) → Settles (lookupRule i x p .code) (tests i (lookup x p))
 unfolding lookupRule lookupBy
@@ -165,7 +166,7 @@ lookup-settles i x p =
     let nodes = i .tree .nodes in
     settle codeOf _ _ _ _ _ _ refl
     (settle-or _ (holds 0 p) (not (wellFormed p)) INVAL _
-    (settle codeOf (holds 0 p || not (wellFormed p)) _ _ _ _ _ refl (found-by (mountOf (i .tree)) i x (parentIn nodes x) (childIn nodes x p) (isDot p) (isDots p))))
+    (settle codeOf (holds 0 p || not (wellFormed p)) _ _ _ _ _ refl (found-by (mountOf (i .tree)) i x (parentIn nodes x) (childIn nodes x p) (isDot p) (isDots p) (holds slash p))))
 
 -- ---- listing, save, restore
 

@@ -92,7 +92,7 @@ module _ (i : Instance) where
   unfolding lookupBy
   lookup-by-still mounts x p =
       each-of (Still i) _ _
-      (noent-still, (inval-still, (entry-at mounts (some x), (entry-at mounts (some (parentIn (i .tree .nodes) x)), entry-at mounts (childIn (i .tree .nodes) x p)))))
+      (noent-still, (inval-still, (entry-at mounts (some x), (entry-at mounts (some (parentIn (i .tree .nodes) x)), (noent-still, entry-at mounts (childIn (i .tree .nodes) x p))))))
 
   pub lookup-still : (x : ℕ) (p : List ℕ) → Still i (lookupRule i x p)
   unfolding lookupRule

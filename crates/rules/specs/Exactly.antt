@@ -11,7 +11,7 @@ use lib.Dec.{eqb, ltb}
 use Rattle.rules.specs.Numbers.{rootNumber, maxIno, topNumber, maxNodes, storageFor, indexOf, numberOf, NOENT, INVAL, TOOLONG, INODE, FULL, NOROOM, NOTFOUND, BADINDEX, BADMAP, BADSAVE, NOTFRESH, SMALL, BADOPT}
 use Rattle.rules.specs.Bytes.{holds}
 use Rattle.rules.specs.Utf8.{wellFormed}
-use Rattle.rules.specs.Path.{rooted, tooLong, isDot, isDots}
+use Rattle.rules.specs.Path.{slash, rooted, tooLong, isDot, isDots}
 use Rattle.rules.specs.Tree.{Mount, isNone, isKnown, childIn}
 use Rattle.rules.specs.Instance.{Instance, live, tagOf, heldIn, counterOf}
 use Rattle.rules.specs.Create.{Creation, outside, createRule}
@@ -107,7 +107,7 @@ tests i (lookup x p) =
     (not (isKnown (i .tree .nodes) x) ⟼ NOENT)
     ∷ (holds 0 p ⟼ INVAL)
     ∷ (not (wellFormed p) ⟼ INVAL)
-    ∷ (not (isDot p) && not (isDots p) && isNone (childIn (i .tree .nodes) x p) ⟼ NOENT)
+    ∷ (not (isDot p) && not (isDots p) && (holds slash p || isNone (childIn (i .tree .nodes) x p)) ⟼ NOENT)
     ∷ []
 tests i (readdir q) =
     (eqb (q .size) 0 ⟼ 0)

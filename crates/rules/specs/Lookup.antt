@@ -7,7 +7,7 @@ use lib.Dec.{eqb}
 use Rattle.rules.specs.Numbers.{rootNumber, dirMode, blockSize, full, indexOf, numberOf, NOENT, INVAL}
 use Rattle.rules.specs.Bytes.{holds}
 use Rattle.rules.specs.Utf8.{wellFormed}
-use Rattle.rules.specs.Path.{isDot, isDots}
+use Rattle.rules.specs.Path.{slash, isDot, isDots}
 use Rattle.rules.specs.Ids.{mapped, unmapped}
 use Rattle.rules.specs.Tree.{Mount, childIn, isKnown, parentIn}
 use Rattle.rules.specs.Instance.{Instance, tagOf, mountOf}
@@ -52,7 +52,7 @@ unfoldable pub entryAt : (ℕ → Option Mount) → Instance → Option ℕ → 
 entryAt mounts i none = refused NOENT i
 entryAt mounts i (some x) = entryOf i x (mounts x)
 
--- in a directory: unknown parent, then a bad name, then `.`, `..` and the children (R57, R58, R59)
+-- in a directory: unknown parent, then a bad name, then `.` and `..`, then a name with a slash, then the children (R57, R58, R59)
 unfoldable pub lookupBy : (ℕ → Option Mount) → Instance → ℕ → List ℕ → Outcome
 lookupBy mounts i x p =
     firstOf
@@ -60,6 +60,7 @@ lookupBy mounts i x p =
     ∷ (holds 0 p || not (wellFormed p) ⇒ refused INVAL i)
     ∷ (isDot p ⇒ entryAt mounts i (some x))
     ∷ (isDots p ⇒ entryAt mounts i (some (parentIn (i .tree .nodes) x)))
+    ∷ (holds slash p ⇒ refused NOENT i)
     ∷ [])
     (entryAt mounts i (childIn (i .tree .nodes) x p))
 

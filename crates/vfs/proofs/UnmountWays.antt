@@ -4,10 +4,9 @@ use mathlib.Core.Bool.{Bool, true, false, not}
 use mathlib.Core.List.{List}
 use mathlib.Core.Option.{Option, none, some}
 use Prim.Native.Nat.{ℕ, _<_}
-use borrow.Author.Tests.{not-true, not-false}
+use borrow.Author.Tests.{not-true}
 use Rattle.rules.specs.Numbers.{INVAL, NOTFOUND}
-use Rattle.rules.specs.Utf8.{wellFormed}
-use Rattle.rules.specs.Path.{rooted, components}
+use Rattle.rules.specs.Path.{components}
 use Rattle.rules.specs.Tree.{Mount, Node, parentIn}
 use Rattle.rules.specs.Instance.{Instance, mountOf}
 use Rattle.rules.specs.Outcome.{Outcome, unmounted, refused, firstOf}
@@ -23,8 +22,12 @@ use Rattle.tables.specs.declared.mounts.MountOn.{MountOn}
 use Rattle.tables.specs.declared.mounts.MountOn.the-variants.{Point, Nothing}
 use Rattle.inode.specs.declared.NodeNumber.{NodeNumber}
 use Rattle.pseudo_fs.specs.Walks.{Walks, walkedOf}
+use Rattle.pseudo_fs.specs.Told.{faultOf}
+use Rattle.pseudo_fs.specs.declared.PathFault.{PathFault}
+use Rattle.pseudo_fs.specs.declared.PathFault.the-variants.{Utf8, Slash, Sound}
 use Rattle.pseudo_fs.specs.declared.inner.Walked.{Walked}
 use Rattle.pseudo_fs.specs.declared.inner.Walked.the-variants.{At, Missing}
+use Rattle.pseudo_fs.proofs.Calls.{fault-bad}
 use Rattle.placing.specs.Place.{TakesOff}
 use Rattle.placing.proofs.Stands.{view-taken-off, keeps-taken-off}
 use Rattle.vfs.specs.Unmounting.{unmountedTold, offMem, unmountMem, Unmounts}
@@ -90,30 +93,26 @@ module _ (mem path : List ℕ) where
         let f : laid mem ≡ false = sym le ∙ not-true l e in
         does-small mem F (unmountedTold Small) (unmountMem path mem) f refl (rw f)
 
-    module _ (on : not l ≡ false) (u : Bool) (ue : u ≡ wellFormed path) where
-      pub bad-bytes : not u ≡ true → Does mem F (unmountedTold Inval) mem (unmountMem path mem)
-      unfolding badPath
-      bad-bytes e = bad (laid-by mem l le on) (rw (sym ue ∙ not-true u e))
+    module _ (on : not l ≡ false) (t : PathFault) (te : t ≡ faultOf path) where
+      pub bad-bytes : t ≡ Utf8 → Does mem F (unmountedTold Inval) mem (unmountMem path mem)
+      bad-bytes e = bad (laid-by mem l le on) (fault-bad path te e)
 
-      module _ (good : not u ≡ false) (r : Bool) (re : r ≡ rooted path) where
-        pub bad-slash : not r ≡ true → Does mem F (unmountedTold Inval) mem (unmountMem path mem)
-        unfolding badPath
-        bad-slash e = bad (laid-by mem l le on) (rw (sym ue ∙ not-false u good, sym re ∙ not-true r e))
+      pub bad-slash : t ≡ Slash → Does mem F (unmountedTold Inval) mem (unmountMem path mem)
+      bad-slash e = bad (laid-by mem l le on) (fault-bad path te e)
 
-        module _ (slash : not r ≡ false) (o : Walked) (k : Walks (nodesOf mem) (components 0 path) o) where
-          path-good : badPath path ≡ false
-          unfolding badPath
-          path-good = rw (sym ue ∙ not-false u good, sym re ∙ not-false r slash)
+      module _ (sound : t ≡ Sound) (o : Walked) (k : Walks (nodesOf mem) (components 0 path) o) where
+        path-good : badPath path ≡ false
+        path-good = fault-bad path te sound
 
-          pub missing : (p : ℕ) → o ≡ Missing p → Does mem F (unmountedTold NotFound) mem (unmountMem path mem)
-          unfolding walkedOf unmountMem unmountedTold unmountRule unmountAt offMem firstOf
-          missing p q =
-              let n : reached (view mem) path ≡ none = sym (walk-is o k) ∙ ap walkedOf q in
-              does-nothing mem F (unmountedTold NotFound) (unmountMem path mem) (refused NOTFOUND (view mem)) (laid-by mem l le on) (rw (path-good, n)) refl refl (rw (laid-by mem l le on, path-good, n))
+        pub missing : (p : ℕ) → o ≡ Missing p → Does mem F (unmountedTold NotFound) mem (unmountMem path mem)
+        unfolding walkedOf unmountMem unmountedTold unmountRule unmountAt offMem firstOf
+        missing p q =
+            let n : reached (view mem) path ≡ none = sym (walk-is o k) ∙ ap walkedOf q in
+            does-nothing mem F (unmountedTold NotFound) (unmountMem path mem) (refused NOTFOUND (view mem)) (laid-by mem l le on) (rw (path-good, n)) refl refl (rw (laid-by mem l le on, path-good, n))
 
-          pub arrived : (x : ℕ) → o ≡ At x → (v : Unmounted) (after : List ℕ) → Unmounts mem x v after → Does mem F (unmountedTold v) after (unmountMem path mem)
-          unfolding unmountMem unmountRule firstOf
-          arrived x q v after f =
-              let n : reached (view mem) path ≡ some x = reaches o k x q in
-              does mem F (unmountedTold v) after (unmountMem path mem) (unmountAt (view mem) (some x) (mountOf (view mem .tree) x)) (laid-by mem l le on) (rw (path-good, n)) (f .told)
-              (f .bytes ∙ sym (rw (laid-by mem l le on, path-good, n))) (f .stands) (f .keeps)
+        pub arrived : (x : ℕ) → o ≡ At x → (v : Unmounted) (after : List ℕ) → Unmounts mem x v after → Does mem F (unmountedTold v) after (unmountMem path mem)
+        unfolding unmountMem unmountRule firstOf
+        arrived x q v after f =
+            let n : reached (view mem) path ≡ some x = reaches o k x q in
+            does mem F (unmountedTold v) after (unmountMem path mem) (unmountAt (view mem) (some x) (mountOf (view mem .tree) x)) (laid-by mem l le on) (rw (path-good, n)) (f .told)
+            (f .bytes ∙ sym (rw (laid-by mem l le on, path-good, n))) (f .stands) (f .keeps)

@@ -7,13 +7,13 @@ ghost use Rattle.tables.specs.Rule.{laid};
 ghost use Rattle.tables.specs.Call.{Does};
 ghost use Rattle.vfs.specs.Unmounting.{unmountedTold, unmountMem, Unmounts};
 use inode::NodeNumber;
-use path::components::is_rooted;
+use pseudo_fs::PathFault;
 use pseudo_fs::inner::Walked;
 use pseudo_fs::inner::walk;
+use pseudo_fs::path_fault;
 use storage::is_laid;
 use tables::mounts::MountOn;
 use tables::slots::Tag;
-use utf8::is_utf8;
 
 // What an unmount answers: the node, its parent and the tag released, or a refusal.
 pub enum Unmounted {
@@ -55,11 +55,10 @@ pub fn umount(s: &mut [u8], path: &[u8]) -> Unmounted
     if !is_laid(s) {
         return Unmounted::Small;
     }
-    if !is_utf8(path) {
-        return Unmounted::Inval;
-    }
-    if !is_rooted(path) {
-        return Unmounted::Inval;
+    match path_fault(path) {
+        PathFault::Utf8 => return Unmounted::Inval,
+        PathFault::Slash => return Unmounted::Inval,
+        PathFault::Sound => {}
     }
     match walk(s, path) {
         Walked::At(x) => unmount_at(s, x),

@@ -8,8 +8,7 @@ use lib.Dec.{eqb}
 use borrow.Author.Tests.{eq-eqb, ne-eqb, not-true, not-false}
 use Rattle.rules.specs.Numbers.{rootNumber, indexOf, numberOf, INVAL}
 use Rattle.rules.specs.Ids.{Mapping, badMapping, wrapped, unwrapped, mapped, unmapped}
-use Rattle.rules.specs.Path.{components, rooted}
-use Rattle.rules.specs.Utf8.{wellFormed}
+use Rattle.rules.specs.Path.{components}
 use Rattle.rules.specs.Tree.{Mount, walk}
 use Rattle.rules.specs.Instance.{Instance, tagIn as tagInSlot, tagOf, mountOf}
 use Rattle.rules.specs.Outcome.{toTree, rootfs, Outcome, refused, says, firstOf}
@@ -76,18 +75,14 @@ module _ (i : Instance) (x n : ℕ) (t : Bool) (q : n ≡ numberOf x) (p : t ≡
 -- ---- the root query
 
 module _ (i : Instance) (p : List ℕ) where
-  pub root-unformed : wellFormed p ≡ false → rootRule i p ≡ refused INVAL i
-  unfolding rootRule firstOf badPath
-  root-unformed w = rw w
+  pub root-bad : badPath p ≡ true → rootRule i p ≡ refused INVAL i
+  unfolding rootRule firstOf
+  root-bad b = rw b
 
-  pub root-unrooted : wellFormed p ≡ true → rooted p ≡ false → rootRule i p ≡ refused INVAL i
-  unfolding rootRule firstOf badPath
-  root-unrooted w r = rw (w, r)
-
-  module _ (w : wellFormed p ≡ true) (r : rooted p ≡ true) where
+  module _ (g : badPath p ≡ false) where
     root-reached : (o : Option ℕ) → o ≡ walk (i .tree .nodes) rootNumber (components 0 p) → rootRule i p ≡ rootAt i (mountUnder i o)
-    unfolding rootRule firstOf badPath reached
-    root-reached o e = rw (w, r, e)
+    unfolding rootRule firstOf reached
+    root-reached o e = rw (g, e)
 
     pub root-nowhere : none ≡ walk (i .tree .nodes) rootNumber (components 0 p) → rootRule i p ≡ says (rootfs none) i
     unfolding rootAt

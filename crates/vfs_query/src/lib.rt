@@ -3,14 +3,15 @@ use inode::BackendNumber;
 use inode::Converted;
 use inode::NodeNumber;
 use inode::VfsInode;
-use path::components::is_rooted;
 use pseudo_fs::Entry;
 use pseudo_fs::Looked;
+use pseudo_fs::PathFault;
 use pseudo_fs::inner::Finding;
 use pseudo_fs::inner::Walked;
 use pseudo_fs::inner::find;
 use pseudo_fs::inner::pseudo_entry;
 use pseudo_fs::inner::walk;
+use pseudo_fs::path_fault;
 use storage::is_laid;
 use tables::mounts::MountOn;
 use tables::mounts::MountPoint;
@@ -18,7 +19,6 @@ use tables::mounts::of_node;
 use tables::mounts::of_root;
 use tables::slots::Tag;
 use tables::slots::tag_of;
-use utf8::is_utf8;
 ghost use mathlib.Core.Path.{_≡_};
 ghost use mathlib.Core.Bool.{true};
 ghost use Rattle.rules.specs.Numbers.{orZero, convert};
@@ -112,11 +112,10 @@ pub fn get_rootfs(s: &[u8], path: &[u8]) -> Rootfs
     if !is_laid(s) {
         return Rootfs::Small;
     }
-    if !is_utf8(path) {
-        return Rootfs::Inval;
-    }
-    if !is_rooted(path) {
-        return Rootfs::Inval;
+    match path_fault(path) {
+        PathFault::Utf8 => return Rootfs::Inval,
+        PathFault::Slash => return Rootfs::Inval,
+        PathFault::Sound => {}
     }
     match walk(s, path) {
         Walked::At(x) => match of_node(s, x) {

@@ -1,18 +1,17 @@
--- Each return is a case of the rule, by the path's tests, the walk and the mount.
+-- Each return is a case of the rule, by the path's first fault, the walk and the mount.
 use mathlib.Core.Path.{_≡_, refl, sym, ap, _∙_}
-use mathlib.Core.Bool.{true}
+use mathlib.Core.Bool.{true, false}
 use denote.Ref.{now}
-use borrow.Author.Tests.{not-true, not-false}
-use Rattle.rules.specs.Utf8.{wellFormed}
-use Rattle.rules.specs.Path.{rooted}
+use Rattle.rules.specs.Unmount.{badPath}
 use Rattle.pseudo_fs.specs.Walks.{walkedOf}
+use Rattle.pseudo_fs.proofs.Calls.{fault-bad}
 use Rattle.tables.specs.View.{view}
 use Rattle.tables.specs.Rule.{laid}
 use Rattle.tables.specs.Answer.{mountIn}
 use Rattle.tables.proofs.Keeps.{laid-is}
 use Rattle.vfs_query.specs.Told.{rootfsTold}
 use Rattle.storage.proofs.Laid.{laid-by}
-use Rattle.vfs_query.proofs.Rules.{small, tells-by, root-unformed, root-unrooted, root-nowhere, root-bare, root-mounted}
+use Rattle.vfs_query.proofs.Rules.{small, tells-by, root-bad, root-nowhere, root-bare, root-mounted}
 use borrow.Author.Needs.{needs}
 use Rattle.vfs_query.proofs.get_rootfs.Statement.{statement}
 use Rattle.vfs_query.proofs.get_rootfs.Tie as tie
@@ -20,58 +19,54 @@ use Rattle.vfs_query.proofs.get_rootfs.Tie as tie
 laid-here : (c : tie.Else1) → laid (now (c .before .before .before .before .args .s)) ≡ true
 laid-here c = laid-by _ _ (c .before .is-laid .ensures) (c .if1 .left)
 
-formed : (c : tie.Else2) → wellFormed (now (c .before .before .before .before .before .before .args .path)) ≡ true
-formed c = sym (c .before .is-utf8 .ensures) ∙ not-false _ (c .if2 .left)
-
-slash : (c : tie.Else3) → rooted (now (c .before .before .before .before .before .before .before .before .args .path)) ≡ true
-slash c = sym (c .before .is-rooted .ensures) ∙ not-false _ (c .if3 .left)
-
 returns : tie.Need-returns
 unfolding rootfsTold
 returns c = small _ _ (c .before .is-laid .ensures) _ (c .if1 .taken)
 
 returns-2 : tie.Need-returns-2
 unfolding rootfsTold
-returns-2 c = tells-by _ _ _ _ (laid-here (c .before .before)) refl (root-unformed _ _ (sym (c .before .is-utf8 .ensures) ∙ not-true _ (c .if2 .taken)))
+returns-2 c = tells-by _ _ _ _ (laid-here (c .before .before .before)) refl (root-bad _ _ (fault-bad _ (c .before .before .path-fault .ensures) (c .enum-told .given .1)))
 
 returns-3 : tie.Need-returns-3
 unfolding rootfsTold
-returns-3 c = tells-by _ _ _ _ (laid-here (c .before .before .before .before)) refl (root-unrooted _ _ (formed (c .before .before)) (sym (c .before .is-rooted .ensures) ∙ not-true _ (c .if3 .taken)))
+returns-3 c = tells-by _ _ _ _ (laid-here (c .before .before .before)) refl (root-bad _ _ (fault-bad _ (c .before .before .path-fault .ensures) (c .enum-told2 .given .1)))
+
+kept : (c : tie.After-enum-told3) → laid (now (c .before .before .before .before .before .before .before .args .s)) ≡ true
+kept c = laid-here (c .before .before .before)
+
+sound : (c : tie.After-enum-told3) → badPath (now (c .before .before .before .before .before .before .before .args .path)) ≡ false
+sound c = fault-bad _ (c .before .before .path-fault .ensures) (c .enum-told3 .given .1)
 
 walk-requires : tie.Need-walk-requires
-walk-requires c κs = laid-is _ (laid-here (c .before .before .before .before))
+walk-requires c κs = laid-is _ (kept c)
 
 of-node-requires : tie.Need-of-node-requires
-of-node-requires c κs = laid-is _ (laid-here (c .before .before .before .before .before .before .before .before))
+of-node-requires c κs = laid-is _ (kept (c .before .before .before .before))
 
 root-held-requires : tie.Need-root-held-requires
-root-held-requires c κs = laid-here (c .before .before .before .before .before .before .before .before .before .before .before .before)
+root-held-requires c κs = kept (c .before .before .before .before .before .before .before .before)
 
 returns-4 : tie.Need-returns-4
 unfolding walkedOf mountIn view
 returns-4 c =
     let o = c .before .before .before .before in
     let w = o .before .before .before .before in
-    let s = w .before in
-    tells-by _ _ _ _ (laid-here (s .before .before .before .before)) (c .root-held .ensures)
-    (root-mounted _ _ (formed (s .before .before)) (slash s) _ (sym (ap walkedOf (o .before .before .x .given .1)) ∙ w .walk .ensures .node) _ (sym (ap mountIn (c .before .before .m .given .1)) ∙ o .of-node .ensures))
+    tells-by _ _ _ _ (kept (w .before)) (c .root-held .ensures)
+    (root-mounted _ _ (sound (w .before)) _ (sym (ap walkedOf (o .before .before .x .given .1)) ∙ w .walk .ensures .node) _ (sym (ap mountIn (c .before .before .m .given .1)) ∙ o .of-node .ensures))
 
 returns-5 : tie.Need-returns-5
 unfolding rootfsTold walkedOf mountIn view
 returns-5 c =
     let o = c .before .before in
     let w = o .before .before .before .before in
-    let s = w .before in
-    tells-by _ _ _ _ (laid-here (s .before .before .before .before)) refl
-    (root-bare _ _ (formed (s .before .before)) (slash s) _ (sym (ap walkedOf (o .before .before .x .given .1)) ∙ w .walk .ensures .node) (sym (ap mountIn (c .enum-told .given .1)) ∙ o .of-node .ensures))
+    tells-by _ _ _ _ (kept (w .before)) refl
+    (root-bare _ _ (sound (w .before)) _ (sym (ap walkedOf (o .before .before .x .given .1)) ∙ w .walk .ensures .node) (sym (ap mountIn (c .enum-told4 .given .1)) ∙ o .of-node .ensures))
 
 returns-6 : tie.Need-returns-6
 unfolding rootfsTold walkedOf view
 returns-6 c =
     let w = c .before .before in
-    let s = w .before in
-    tells-by _ _ _ _ (laid-here (s .before .before .before .before)) refl
-    (root-nowhere _ _ (formed (s .before .before)) (slash s) (sym (ap walkedOf (c .enum-told2 .given .1)) ∙ w .walk .ensures .node))
+    tells-by _ _ _ _ (kept (w .before)) refl (root-nowhere _ _ (sound (w .before)) (sym (ap walkedOf (c .enum-told5 .given .1)) ∙ w .walk .ensures .node))
 
 pub get-rootfs-spec : {M : Type 1} → statement M
 get-rootfs-spec =
@@ -80,9 +75,11 @@ get-rootfs-spec =
     (λ c κs. search needs)
     returns
     (λ c κs. search needs)
+    (λ c. search needs)
     returns-2
-    (λ c κs. search needs)
+    (λ c. search needs)
     returns-3
+    (λ c. search needs)
     walk-requires
     (λ c. search needs)
     of-node-requires

@@ -14,8 +14,11 @@ same-length c = search needs
 returns : tie.Need-returns
 returns c = search (small, needs)
 
-is-utf8-requires : tie.Need-is-utf8-requires
-is-utf8-requires c κs = search needs
+path-fault-requires : tie.Need-path-fault-requires
+path-fault-requires c κs = search needs
+
+enum-told : tie.Need-enum-told
+enum-told c = search needs
 
 same-length-2 : tie.Need-same-length-2
 same-length-2 c = search needs
@@ -23,14 +26,17 @@ same-length-2 c = search needs
 returns-2 : tie.Need-returns-2
 returns-2 c = search (bad-bytes, needs)
 
-is-rooted-requires : tie.Need-is-rooted-requires
-is-rooted-requires c κs = search needs
+enum-told-2 : tie.Need-enum-told-2
+enum-told-2 c = search needs
 
 same-length-3 : tie.Need-same-length-3
 same-length-3 c = search needs
 
 returns-3 : tie.Need-returns-3
 returns-3 c = search (bad-slash, needs)
+
+enum-told-3 : tie.Need-enum-told-3
+enum-told-3 c = search needs
 
 walk-requires : tie.Need-walk-requires
 walk-requires c κs = search (rule-by, needs)
@@ -41,8 +47,8 @@ enum-known-x c = search needs
 unmount-at-requires : tie.Need-unmount-at-requires
 unmount-at-requires c κs = search (laid-by, needs)
 
-enum-told : tie.Need-enum-told
-enum-told c = search needs
+enum-told-4 : tie.Need-enum-told-4
+enum-told-4 c = search needs
 
 same-length-4 : tie.Need-same-length-4
 same-length-4 c = search needs
@@ -63,16 +69,18 @@ umount-spec =
     is-laid-requires
     same-length
     returns
-    is-utf8-requires
+    path-fault-requires
+    enum-told
     same-length-2
     returns-2
-    is-rooted-requires
+    enum-told-2
     same-length-3
     returns-3
+    enum-told-3
     walk-requires
     enum-known-x
     unmount-at-requires
-    enum-told
+    enum-told-4
     same-length-4
     returns-4
     same-length-5
