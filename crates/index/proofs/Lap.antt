@@ -7,7 +7,7 @@ use Prim.Native.Nat.{ℕ, _+_}
 use native.Mathlib.Omega.{arith}
 use lib.ListN.{length}
 use Rattle.rules.specs.Numbers.{orZero, DONE}
-use Rattle.rules.specs.Laps.{Going, total}
+use Rattle.rules.specs.Laps.{Going, total, LapsBy}
 use Rattle.rules.proofs.Laps.{every-allocator}
 use Rattle.index.specs.Search.{codeFor, told}
 use Rattle.index.specs.Take.{takeRule}
@@ -61,5 +61,4 @@ laps-of-lent t h a d ts r last =
     let found = handed-out t a d in
     let g : Going (searchOf t .counter) (stepsOf ts) = subst (λ n. Going n (stepsOf ts)) (moved t a) (run-goes ts (t .after .«next_super») r) in
     let l = every-allocator (t .before .«next_super») h (stepOf t) (t .answer .index) (refl, refl) found (stepsOf ts) g last in
-    let e : counts ts ≡ total (stepsOf ts) = same-total ts (t .after .«next_super») r in
-    record { positive = omega (arith, l .positive); whole = omega (arith, l .whole); fair = l .fair }
+    subst (λ n. LapsBy n (stepsOf ts)) (sym (same-total ts (t .after .«next_super») r)) l

@@ -1,11 +1,11 @@
 -- Demand 3 of a lent allocator: calls that the contract of `allocate_in` allows, each from the counter that the last one left.
-use Prim.Native.Nat.{ℕ, _+_, _%_, _<_}
+use Prim.Native.Nat.{ℕ, _+_, _<_}
 use mathlib.Core.Path.{_≡_}
 use mathlib.Core.List.{List, [], _∷_}
 use mathlib.Core.Option.{none, some}
 use Rattle.rules.specs.Numbers.{DONE}
 use Rattle.rules.specs.Round.{Allocation, allocate}
-use Rattle.rules.specs.Laps.{Step, lastFound, Met}
+use Rattle.rules.specs.Laps.{Step, lastFound, LapsBy}
 use Rattle.index.specs.Slots.{heldIn}
 use Rattle.index.specs.Take.{Steps}
 use Rattle.index.specs.declared.FsIndexes.{FsIndexes}
@@ -44,13 +44,7 @@ unfoldable pub counts : List Taking → ℕ
 counts [] = 0
 counts (t ∷ ts) = t .answer .count + counts ts
 
--- the sum (R87), and every other index (R88)
-pub record LapsOf (ts : List Taking) : Type 0 where
-  pub positive : 0 < counts ts
-  pub whole : counts ts % 256 ≡ 0
-  pub fair : (j : ℕ) → 0 < j → j < 256 → Met j (stepsOf ts)
-
 -- a call answered the index k, and the last of the calls after it hands k out again (R87, R88, R90)
 abbrev pub EveryLapOfLent : Type 0
 EveryLapOfLent = (t : Taking) → t .before .«next_super» < 256 → Allowed t → t .answer .code ≡ DONE → (ts : List Taking) → Run (t .after .«next_super») ts
-    → lastFound none (stepsOf ts) ≡ some (t .answer .index) → LapsOf ts
+    → lastFound none (stepsOf ts) ≡ some (t .answer .index) → LapsBy (counts ts) (stepsOf ts)

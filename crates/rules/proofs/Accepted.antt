@@ -9,11 +9,11 @@ use lib.ListN.{length}
 use lib.Dec.{leb, ltb, eqb}
 use borrow.Author.Tests.{leb-true, eqb-true, ltb-true}
 use Rattle.rules.specs.Bytes.{Bytes}
-use Rattle.rules.specs.Fields.{read, get, fields, fieldsAt}
+use Rattle.rules.specs.Fields.{read, get, fields}
 use Rattle.rules.specs.Saved.{Entry, nodeRow, optionsRow, trailerRow, nodeBytes, nodesBytes, optionsBytes, trailerBytes, encode, nodeAt, behind, nodesAt, endAt, optionsAt, optionsIn, trailerIn, offsetOf, countOf, nextOf, counterIn, stateOf, laidOut, valid, accepted}
 use Rattle.rules.specs.RoundTrip.{EntriesFit, Fits}
 use Rattle.rules.proofs.Tests.{and-both, Holds, passed}
-use Rattle.rules.proofs.Fields.{length-read, read-add, read-all, get-fits, total, fields-back}
+use Rattle.rules.proofs.Fields.{fieldsAt, length-read, read-add, read-all, get-fits, total, fields-back}
 
 ends-on : (b : List ℕ) (k at : ℕ) → at ≤ endAt b k at
 unfolding endAt

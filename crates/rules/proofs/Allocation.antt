@@ -9,7 +9,7 @@ use native.Mathlib.Nat.{eq-zero-or-pos}
 use lib.Dec.{eqb}
 use borrow.Author.Tests.{eq-eqb, ne-eqb, eqb-false, not-true}
 use Rattle.rules.specs.Round.{untilTwice, freeOf, allocate}
-use Rattle.rules.specs.Allocation.{FirstFree, Exact}
+use Rattle.rules.specs.Allocation.{FirstFree, EveryAllocation}
 use Rattle.rules.proofs.Tests.{known, le-or-lt, and-both}
 use Rattle.rules.proofs.Round.{meets, finds-none, spent, At, found-at, at-found}
 
@@ -82,12 +82,12 @@ module _ (held : ℕ → Bool) (c : ℕ) (h : c < 256) where
       finds-none (freeOf held) 257 c h
       (λ j l. zero-held held j (⊎-elim (λ (z : j ≡ 0). inl z) (λ (p : 0 < j). inr (all j p (omega arith))) (eq-zero-or-pos j)))
 
-  -- the theorem
-  pub exact : Exact held c
-  unfolding allocate untilTwice
-  exact = record {
-    handed-out = λ k. (handed-out k, taken-first k);
-    refused = (all-held, none-found);
-    refused-count = λ e. spent (freeOf held) 257 c e;
-    moved = refl;
-  }
+-- the theorem
+pub exact : EveryAllocation
+unfolding allocate untilTwice
+exact held c h = record {
+  handed-out = λ k. (handed-out held c h k, taken-first held c h k);
+  refused = (all-held held c h, none-found held c h);
+  refused-count = λ e. spent (freeOf held) 257 c e;
+  moved = refl;
+}

@@ -20,10 +20,11 @@ use Rattle.rules.specs.Create.{Creation, Created, outside, unknown, badO
 use Rattle.rules.specs.Saved.{stateOf, valid, accepted, goodNodes}
 use Rattle.rules.specs.Restore.{entriesFor, nodesFrom, noNodes, fresh, restoredTo, restoreRule}
 use Rattle.rules.specs.Calls.{Call, rule}
-use Rattle.rules.specs.Driven.{Typed, creation, call, Rises, Below, Named, Unique, Shape, IsAt, MountIn, Mounted, Facts, EveryDriven}
+use Rattle.rules.specs.Driven.{Typed, creation, call, Rises, Below, Named, Unique, Shape, IsAt, MountIn, Mounted, Facts, EveryDriven, EveryReached}
 use Rattle.rules.proofs.Tests.{le-or-lt, and-both, or-neither, passed}
 use Rattle.rules.proofs.Rows.{first-of}
 use Rattle.rules.proofs.Ids.{within}
+use Rattle.rules.proofs.Walk.{path-rooted}
 use Rattle.rules.proofs.Still.{every-call}
 use Rattle.rules.proofs.Accepted.{clauses, fits}
 use Rattle.rules.proofs.Shape.{entries-from, entries-length}
@@ -89,7 +90,7 @@ restore-facts i b bytes f =
 
 call-facts : (i : Instance) (c : Call) → Typed c → Facts i → Keeps (rule i c)
 call-facts = every-call (λ (i : Instance) (c : Call) (o : Outcome). Typed c → Facts i → Keeps o) (record {
-  still = λ i c o s t f. subst Facts (sym (s .after)) f;
+  still = λ i c o m s t f. subst Facts (sym (s .after)) f;
   mounts = λ i r t f. mount-facts i r f;
   restores-mount = λ i k r t f. restored-facts i k r f;
   unmounts = λ i path t f. unmount-facts i path f;
@@ -168,3 +169,7 @@ created-facts bytes q i m =
 pub facts : EveryDriven
 facts i (creation bytes q j m e) = created-facts bytes q i m e
 facts i (call j k c t d e) = subst Facts e (call-facts j c t (facts j d))
+
+-- the theorem: a path leads to what live nodes lead up from
+pub reached-rooted : EveryReached
+reached-rooted i d path x e = path-rooted i (i .tree .next) (facts i d .shape .rises) path x e

@@ -7,12 +7,12 @@ use native.Mathlib.Nat.{zero-add, add-assoc}
 use native.Mathlib.Omega.{arith}
 use lib.ListN.{length, length-append}
 use borrow.Author.Tests.{le-leb, lt-ltb, eq-eqb}
-use Rattle.rules.specs.Fields.{read, get, fields, fieldsAt}
+use Rattle.rules.specs.Fields.{read, get, fields}
 use Rattle.rules.specs.Instance.{Options}
 use Rattle.rules.specs.Saved.{Entry, State, nodeRow, optionsRow, trailerRow, nodeBytes, nodesBytes, optionsBytes, trailerBytes, encode, nodeAt, behind, nodesAt, endAt, optionsAt, optionsIn, offsetOf, countOf, nextOf, counterIn, stateOf, laidOut, valid, accepted}
 use Rattle.rules.specs.RoundTrip.{EntryFits, EntriesFit, Fits}
 use Rattle.rules.proofs.Tests.{pass}
-use Rattle.rules.proofs.Fields.{read-behind, total, Fit, fields-length, fields-read}
+use Rattle.rules.proofs.Fields.{fieldsAt, read-behind, total, Fit, fields-length, fields-read}
 
 -- ---- one record, written and read
 

@@ -17,7 +17,7 @@ use Rattle.rules.specs.Instance.{Instance, heldIn, tagOf, mountOf, count
 use Rattle.rules.specs.Round.{allocate}
 use Rattle.rules.specs.Outcome.{Outcome, _⇒_, firstOf, refused}
 use Rattle.rules.specs.Create.{Creation, Created, outside, unknown, badOptions, tooSmall, createRule}
-use Rattle.rules.specs.Mount.{Request, noRoom, allocation, mountAs, mountRule, restoreMountRule}
+use Rattle.rules.specs.Mount.{Request, noRoom, allocation, mountAs, mountRule, restoreAs, restoreMountRule}
 use Rattle.rules.specs.Unmount.{badPath, reached, mountUnder, walkRule, unmounts, unmountAt, unmountRule, rootHeld, rootAt, rootRule}
 use Rattle.rules.specs.Lookup.{routeTag, routeTree, routeRule, entryOf, entryAt, lookupBy, lookupRule, remapRule}
 use Rattle.rules.specs.Listing.{ListRequest, listRule}
@@ -75,10 +75,10 @@ mount-settles i r h =
     settle codeOf _ _ _ _ _ _ refl (settle codeOf _ _ _ _ _ _ refl (settle codeOf _ _ _ _ _ _ refl (settle codeOf _ _ _ _ _ _ refl (settle-last codeOf _ _ (rw (← found-or-held i h) (mount-as i r (allocation i .found)))))))
 
 restored-settles : (i : Instance) (k : ℕ) (r : Request) → Settles (restoreMountRule i k r .code) (restoreMountTests i k r)
-unfolding restoreMountRule noRoom
+unfolding restoreMountRule restoreAs noRoom
 restored-settles i k r =
     settle codeOf _ _ _ _ _ _ refl (settle codeOf _ _ _ _ _ _ refl (settle codeOf _ _ _ _ _ _ refl (settle codeOf _ _ _ _ _ _ refl (settle codeOf _ _ _ _ _ _ refl
-    (settle codeOf _ _ _ _ _ _ refl (settle codeOf _ _ _ _ _ _ refl (end _ refl)))))))
+    (settle-last codeOf _ _ (settle codeOf _ _ _ _ _ _ refl (settle codeOf _ _ _ _ _ _ refl (end _ refl))))))))
 
 -- ---- calls that take a path
 

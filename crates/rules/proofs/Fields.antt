@@ -11,7 +11,7 @@ use lib.Arith.{mod-mul}
 use lib.Pow.{pow-add}
 use lib.Dec.{lit<}
 use Rattle.rules.specs.Bytes.{Bytes}
-use Rattle.rules.specs.Fields.{read, value, bytesOf, get, fields, fieldsAt}
+use Rattle.rules.specs.Fields.{read, value, bytesOf, get, fields}
 
 -- ---- lengths
 
@@ -119,6 +119,11 @@ fields-length [] vs e = refl
 fields-length (w ∷ ws) [] e = absurd (omega arith)
 fields-length (w ∷ ws) (v ∷ vs) e =
     length-append (bytesOf w v) (fields ws vs) ∙ ap₂ (λ (x y : ℕ). x + y) (length-bytesOf w v) (fields-length ws vs (omega arith))
+
+-- a row of fields, read: the widths, and the place of the first
+unfoldable pub fieldsAt : List ℕ → List ℕ → ℕ → List ℕ
+fieldsAt [] b at = []
+fieldsAt (w ∷ ws) b at = get w b at ∷ fieldsAt ws b (at + w)
 
 -- read and written again
 pub fields-back : (ws b : List ℕ) (at : ℕ) → Bytes b → fields ws (fieldsAt ws b at) ≡ read b at (total ws)

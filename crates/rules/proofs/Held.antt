@@ -3,11 +3,11 @@ use mathlib.Core.Path.{_≡_, refl, sym, ap, _∙_}
 use mathlib.Core.Bool.{Bool, true, false, cond, not, _&&_, true≢false}
 use mathlib.Core.Logic.{_⊎_, inl, inr, ⊎-elim}
 use mathlib.Core.List.{List, [], _∷_, _++_}
-use mathlib.Core.Option.{Option, none, some}
+use mathlib.Core.Option.{Option, none, some, Option·none-ne-some}
 use Prim.Native.Nat.{ℕ, _≤_, _<_}
 use native.Mathlib.Omega.{arith}
 use native.Mathlib.Decide.{ℕ-discrete}
-use lib.ListN.{length, getD, set, List·getD-eq-default}
+use lib.ListN.{length, getD, set, length-set, List·getD-eq-default}
 use lib.Seq.{getD-set-same, getD-set-other, set-out}
 use lib.Dec.{eqb}
 use borrow.Author.Tests.{eqb-true, eqb-false}
@@ -16,9 +16,9 @@ use Rattle.rules.specs.Tree.{Mount, Node, nodeIn, withMount, mountAt, wi
 use Rattle.rules.specs.Instance.{Slot, Tree, Instance, emptySlot, heldBy, heldIn, withSlot, withTree, mountIn, mountOf, setMount, grown, cut}
 use Rattle.rules.specs.Mount.{Request, freed, mountOn, placed}
 use Rattle.rules.specs.Unmount.{taken}
-use Rattle.rules.specs.Driven.{IsAt, MountIn, Mounted}
+use Rattle.rules.specs.Driven.{IsAt, MountIn, Mounted, Rooted}
 use Rattle.rules.proofs.Tests.{le-or-lt}
-use Rattle.rules.proofs.Walk.{Reached, reached-live}
+use Rattle.rules.proofs.Walk.{reached-live}
 
 abbrev pub Held : Instance → Type 0
 Held i = (q : ℕ) → heldIn i q ≡ true → Mounted q (i .tree)
@@ -69,7 +69,7 @@ mount-left q (n ∷ ns) x h a = go (eqb (n .number) x) h a (mount-left q ns x)
 -- a node that is there has the mount that is set
 mount-set : (m : Mount) (ns : List Node) (x : ℕ) (n : Node) → nodeIn ns x ≡ some n → MountIn (m .index) (mountAt (some m) ns x)
 unfolding MountIn mountAt nodeIn
-mount-set m [] x n e = let z : _≡_ {A = ℕ} 0 1 = cc in absurd (omega arith)
+mount-set m [] x n e = absurd (Option·none-ne-some n e)
 mount-set m (o ∷ ns) x n e = go (eqb (o .number) x) e (mount-set m ns x n)
   where
     go : (b : Bool) → cond b (some o) (nodeIn ns x) ≡ some n → (nodeIn ns x ≡ some n → MountIn (m .index) (mountAt (some m) ns x))
@@ -99,7 +99,7 @@ tree-kept q m t x h a = go (eqb x rootNumber) h a
     go false (inl w) f = inl w
     go false (inr w) f = inr (mount-kept q m (t .nodes) x w f)
 
-tree-set : (m : Mount) (t : Tree) (x : ℕ) → Reached (t .nodes) x → Mounted (m .index) (setMount t x (some m))
+tree-set : (m : Mount) (t : Tree) (x : ℕ) → Rooted (t .nodes) x → Mounted (m .index) (setMount t x (some m))
 unfolding setMount
 tree-set m t x r = go (eqb x rootNumber) refl (reached-live (t .nodes) x r)
   where
@@ -142,12 +142,18 @@ held-freed (some m) i h q e =
     let b = held-before (i .indexes .slots) (m .index) q e in
     (h q (b .1), λ w. b .0 (sym w))
 
+-- freeing leaves as many slots
+pub freed-slots : (m : Option Mount) (i : Instance) → length (freed m i .indexes .slots) ≡ length (i .indexes .slots)
+unfolding freed
+freed-slots none i = refl
+freed-slots (some m) i = length-set (i .indexes .slots) (m .index) emptySlot
+
 pub freed-tree : (m : Option Mount) (i : Instance) → freed m i .tree ≡ i .tree
 unfolding freed
 freed-tree none i = refl
 freed-tree (some m) i = refl
 
-pub held-placed : (k : ℕ) (r : Request) (x : ℕ) (i : Instance) → Reached (i .tree .nodes) x → Held i → Held (placed k r x i)
+pub held-placed : (k : ℕ) (r : Request) (x : ℕ) (i : Instance) → Rooted (i .tree .nodes) x → Held i → Held (placed k r x i)
 unfolding placed
 held-placed k r x i w h q e =
     let old = mountOf (i .tree) x in

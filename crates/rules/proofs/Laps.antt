@@ -3,7 +3,7 @@ use mathlib.Core.Path.{_≡_, refl, sym, ap, _∙_}
 use mathlib.Core.Bool.{true}
 use mathlib.Core.Logic.{inl, inr, ⊎-elim}
 use mathlib.Core.List.{List, [], _∷_, _++_}
-use mathlib.Core.Option.{Option, none, some}
+use mathlib.Core.Option.{Option, none, some, Option·none-ne-some}
 use Prim.Native.Nat.{ℕ, _+_, _-_, _%_, _≤_, _<_}
 use native.Mathlib.Omega.{arith}
 use lib.ListN.{length}
@@ -29,8 +29,8 @@ module _ (c : ℕ) (h : c < 256) (s : Step) where
   idle-turn (v, f) = record {
     round = rw v;
     moved = rw v (omega arith);
-    ended-at = λ k e. let z : _≡_ {A = ℕ} 0 1 = cc f in absurd (omega arith);
-    counted = λ k e. let z : _≡_ {A = ℕ} 0 1 = cc f in absurd (omega arith);
+    ended-at = λ k e. absurd (Option·none-ne-some k (sym f ∙ e));
+    counted = λ k e. absurd (Option·none-ne-some k (sym f ∙ e));
     sees = λ e l p. absurd (omega (arith, rw v at l));
   }
 
@@ -106,9 +106,8 @@ every-allocator c h s k is first ss g last =
     let d : ℕ = allocate (s .held) c .counter in
     let low : d < 256 = omega (arith, t .moved) in
     let here : d ≡ after k = t .ended-at k first in
-    let none-yet : none ≡ some k → ⊥ = λ e. let z : _≡_ {A = ℕ} 0 1 = cc in omega arith in
-    let again : (d + total ss) % 256 ≡ after k = run-ends ss d k none low g (λ e. absurd (none-yet e)) last in
-    let positive : 0 < total ss = run-counts ss d k none low g none-yet last in
+    let again : (d + total ss) % 256 ≡ after k = run-ends ss d k none low g (λ e. absurd (Option·none-ne-some k e)) last in
+    let positive : 0 < total ss = run-counts ss d k none low g (Option·none-ne-some k) last in
     record { positive = positive; whole = omega arith; fair = λ x p q. run-meets ss d ((x + 256 - d) % 256) x low g (omega arith) (omega arith) p }
 
 -- ---- steps behind steps
@@ -127,6 +126,6 @@ going-append (s ∷ ss) ts c h (inr (a, g)) r =
 
 pub last-append : (ss ts : List Step) (x : Option ℕ) (k : ℕ) → lastFound none ts ≡ some k → lastFound x (ss ++ ts) ≡ some k
 unfolding lastFound
-last-append [] [] x k e = let z : _≡_ {A = ℕ} 0 1 = cc in absurd (omega arith)
+last-append [] [] x k e = absurd (Option·none-ne-some k e)
 last-append [] (t ∷ ts) x k e = e
 last-append (s ∷ ss) ts x k e = last-append ss ts (s .found) k e

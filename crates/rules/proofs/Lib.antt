@@ -24,5 +24,6 @@ pub mod Held
 pub mod MountFacts
 pub mod Driven
 pub mod Restored
+pub mod Restart
 pub mod Stays
 pub mod Needed

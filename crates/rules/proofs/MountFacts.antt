@@ -15,15 +15,15 @@ use Rattle.rules.specs.Round.{allocate}
 use Rattle.rules.specs.Tree.{Mount, mountAt}
 use Rattle.rules.specs.Instance.{Slot, Tree, Instance, emptySlot, heldBy, mountOf, setMount, withSlot, withTree, grown, cut, live, counterOf}
 use Rattle.rules.specs.Outcome.{Outcome}
-use Rattle.rules.specs.Mount.{Request, planned, needed, noRoom, freed, mountOn, placed, allocation, stepped, walkedTo, ended, mountAs, mountRule, restoreMountRule}
+use Rattle.rules.specs.Mount.{Request, planned, needed, noRoom, freed, mountOn, placed, allocation, stepped, walkedTo, ended, mountAs, mountRule, restoreAs, restoreMountRule}
 use Rattle.rules.specs.Unmount.{reached, mountUnder, taken, unmounts, unmountAt, unmountRule}
 use Rattle.rules.specs.Restore.{entriesFor}
-use Rattle.rules.specs.Driven.{Shape, Facts}
+use Rattle.rules.specs.Driven.{Shape, Facts, Rooted}
 use Rattle.rules.proofs.Tests.{or-neither}
 use Rattle.rules.proofs.Rows.{first-of, each-of}
 use Rattle.rules.proofs.Shape.{entries-mount, shape-less, length-less, length-mount}
-use Rattle.rules.proofs.Walk.{Reached, Walking, planned-walking}
-use Rattle.rules.proofs.Held.{Held, held-grown, held-placed, held-taken}
+use Rattle.rules.proofs.Walk.{Walking, planned-walking}
+use Rattle.rules.proofs.Held.{Held, freed-slots, held-grown, held-placed, held-taken}
 
 -- ---- the parts of an instance that a call changes
 
@@ -108,11 +108,6 @@ module _ (i : Instance) (f : Facts i) (path : List ℕ) (l : tooLong path ≡ fa
       })
       (held-grown i ms (f .held))
 
-freed-slots : (m : Option Mount) (i : Instance) → length (freed m i .indexes .slots) ≡ length (i .indexes .slots)
-unfolding freed
-freed-slots none i = refl
-freed-slots (some m) i = length-set (i .indexes .slots) (m .index) emptySlot
-
 -- the tree and the slots of an instance where a mount was placed
 placed-is : (k : ℕ) (r : Request) (x : ℕ) (i : Instance) (m : Option Mount)
     → withSlot k (heldBy (r .tag)) (withTree (setMount (freed m i .tree) x (some (mountOn k r))) (freed m i))
@@ -121,7 +116,7 @@ unfolding freed
 placed-is k r x i none = refl
 placed-is k r x i (some m) = refl
 
-placed-facts : (k : ℕ) (r : Request) (x : ℕ) (i : Instance) → Reached (i .tree .nodes) x → Facts i → Facts (placed k r x i)
+placed-facts : (k : ℕ) (r : Request) (x : ℕ) (i : Instance) → Rooted (i .tree .nodes) x → Facts i → Facts (placed k r x i)
 unfolding placed
 placed-facts k r x i w f =
     let m = mountOf (i .tree) x in
@@ -163,11 +158,16 @@ module _ (i : Instance) (r : Request) (f : Facts i) (l : tooLong (r .path) ≡ f
             (λ b. w, λ b. placed-facts k r (ended i (r .path)) (walkedTo (r .path) (stepped i)) (walks (stepped i) s (r .path) l u n .reached) w),
       )
 
-  restored-as : (k : ℕ) → not (rooted (r .path)) ≡ false → Facts (walkedTo (r .path) i) × Facts (placed k r (ended i (r .path)) (walkedTo (r .path) i))
-  restored-as k a =
-      let n = room-left (rooted (r .path)) (noRoom i (r .path)) room a in
-      let w = walked-facts i f (r .path) l u n in
-      (w, placed-facts k r (ended i (r .path)) (walkedTo (r .path) i) (walks i f (r .path) l u n .reached) w)
+  restored-as : (k : ℕ) → Keeps (restoreAs i k r)
+  unfolding restoreAs
+  restored-as k =
+      first-of Keeps _ _ (
+        λ a. f,
+        λ a.
+            let n = room-left (rooted (r .path)) (noRoom i (r .path)) room a in
+            let w = walked-facts i f (r .path) l u n in
+            (λ b. w, λ b. placed-facts k r (ended i (r .path)) (walkedTo (r .path) i) (walks i f (r .path) l u n .reached) w),
+      )
 
 pub mount-facts : (i : Instance) (r : Request) → Facts i → Keeps (mountRule i r)
 unfolding mountRule
@@ -177,26 +177,7 @@ mount-facts i r f =
 pub restored-facts : (i : Instance) (k : ℕ) (r : Request) → Facts i → Keeps (restoreMountRule i k r)
 unfolding restoreMountRule
 restored-facts i k r f =
-    first-of Keeps _ _ (
-      λ a. f,
-      λ a. (
-        λ b. f,
-        λ b. (
-          λ c. f,
-          λ c. (
-            λ d. f,
-            λ d. (
-              λ e. f,
-              λ e. (
-                λ g. f,
-                λ g.
-                    (λ h. restored-as i r f a (not-false _ b) e k g .0, λ h. restored-as i r f a (not-false _ b) e k g .1),
-              ),
-            ),
-          ),
-        ),
-      ),
-    )
+    first-of Keeps _ _ (λ a. f, λ a. (λ b. f, λ b. (λ c. f, λ c. (λ d. f, λ d. (λ e. f, λ e. restored-as i r f a (not-false _ b) e k)))))
 
 -- ---- unmount
 

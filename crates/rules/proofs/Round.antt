@@ -3,7 +3,7 @@ use mathlib.Core.Path.{_≡_, refl, sym, ap, _∙_}
 use mathlib.Core.Bool.{Bool, true, false}
 use mathlib.Core.Logic.{_⊎_, inl, inr, ⊎-elim}
 use mathlib.Core.List.{List, _∷_, _++_}
-use mathlib.Core.Option.{none, some}
+use mathlib.Core.Option.{none, some, Option·none-ne-some}
 use Prim.Native.Nat.{ℕ, zero, suc, _+_, _%_, _<_}
 use native.Mathlib.Omega.{arith}
 use lib.ListN.{length}
@@ -34,7 +34,7 @@ module _ (free : ℕ → Bool) where
   -- where i is found, the counter has moved to the index after it
   pub ends : (n c i : ℕ) → c < 256 → firstFree free (goingRound n c) ≡ some i → (c + length (visited free (goingRound n c))) % 256 ≡ after i
   unfolding goingRound visited firstFree
-  ends zero c i h e = let z : _≡_ {A = ℕ} 0 1 = cc in absurd (omega arith)
+  ends zero c i h e = absurd (Option·none-ne-some i e)
   ends (suc n) c i h e =
       ⊎-elim (λ (t : free c ≡ true). let same : c ≡ i = cc (rw t at e) in rw t (omega arith))
       (λ (f : free c ≡ false). let rest = ends n (after c) i (omega arith) (rw f at e) in rw f (omega arith)) (known (free c))
@@ -65,7 +65,7 @@ module _ (free : ℕ → Bool) where
   unfolding goingRound firstFree visited
   spent zero c e = refl
   spent (suc n) c e =
-      ⊎-elim (λ (t : free c ≡ true). let z : _≡_ {A = ℕ} 0 1 = cc (rw t at e) in absurd (omega arith))
+      ⊎-elim (λ (t : free c ≡ true). absurd (Option·none-ne-some c (sym (rw t at e))))
       (λ (f : free c ≡ false). rw f (ap suc (spent n (after c) (rw f at e)))) (known (free c))
 
   -- k is the first free one, d steps on
@@ -78,7 +78,7 @@ module _ (free : ℕ → Bool) where
 
   pub found-at : (n c k : ℕ) → c < 256 → firstFree free (goingRound n c) ≡ some k → (d : ℕ) × At n c k d
   unfolding goingRound firstFree visited
-  found-at zero c k h e = let z : _≡_ {A = ℕ} 0 1 = cc in absurd (omega arith)
+  found-at zero c k h e = absurd (Option·none-ne-some k e)
   found-at (suc n) c k h e =
       ⊎-elim (λ (t : free c ≡ true).
       let same : c ≡ k = cc (rw t at e) in

@@ -2,7 +2,7 @@
 use mathlib.Core.Path.{_≡_, refl, sym, ap, _∙_}
 use mathlib.Core.Bool.{Bool, true, false, cond, _&&_, _||_}
 use mathlib.Core.List.{List, [], _∷_, _++_}
-use mathlib.Core.Option.{Option, none, some}
+use mathlib.Core.Option.{Option, none, some, Option·none-ne-some}
 use Prim.Native.Nat.{ℕ, suc, _+_, _≤_, _<_}
 use native.Mathlib.Omega.{arith}
 use lib.ListN.{length}
@@ -48,7 +48,7 @@ child-unused [] here p e = refl
 child-unused (n ∷ ns) here p e = go (eqb (n .above) here && same (n .called) p) e (child-unused ns here p)
   where
     go : (b : Bool) → cond b (some (n .number)) (childIn ns here p) ≡ none → (childIn ns here p ≡ none → used here p (entriesFor ns) ≡ false) → (b || used here p (entriesFor ns)) ≡ false
-    go true f k = let z : _≡_ {A = ℕ} 0 1 = cc in absurd (omega arith)
+    go true f k = absurd (Option·none-ne-some (n .number) (sym f))
     go false f k = k f
 
 -- ---- the same parent and name, either way round

@@ -11,7 +11,7 @@ use Rattle.rules.specs.Numbers.{rootNumber}
 use Rattle.rules.specs.Tree.{Mount, Node, isNone}
 use Rattle.rules.specs.Instance.{Tree, Instance, mountOf, setMount}
 use Rattle.rules.specs.Outcome.{Outcome, refused}
-use Rattle.rules.specs.Mount.{Request, freed, placed, allocation, stepped, walkedTo, ended, mountAs, mountRule, restoreMountRule}
+use Rattle.rules.specs.Mount.{Request, freed, placed, allocation, stepped, walkedTo, ended, mountAs, mountRule, restoreAs, restoreMountRule}
 use Rattle.rules.specs.Unmount.{reached, mountUnder, taken, unmounts, unmountAt, unmountRule}
 use Rattle.rules.specs.Saved.{Entry, stateOf}
 use Rattle.rules.specs.Restore.{entriesFor, nodesFrom, noNodes, fresh, restoredTo, restoreRule}
@@ -78,31 +78,18 @@ mount-stays i r =
     keeps-stays i (mount r) _ (λ n. n .no-mount r refl)
     (each-of (Keeps i) _ _ (kept i _, (kept i _, (kept i _, (kept i _, mount-as i r (allocation i .found))))))
 
+restored-as : (i : Instance) (k : ℕ) (r : Request) → Keeps i (restoreAs i k r)
+unfolding restoreAs
+restored-as i k r =
+    let p = placed-keeps k r (ended i (r .path)) (walkedTo (r .path) i) in
+    each-of (Keeps i) _ _
+    (kept i _, (record { fixed = refl; removal = refl; next = omega arith }, record { fixed = p .0; removal = p .1; next = omega (arith, p .2) }))
+
 restored-stays : (i : Instance) (k : ℕ) (r : Request) → Stays i (restore-mount k r) (restoreMountRule i k r)
 unfolding restoreMountRule
 restored-stays i k r =
-    let j = walkedTo (r .path) i in
-    let p = placed-keeps k r (ended i (r .path)) j in
     keeps-stays i (restore-mount k r) _ (λ n. n .no-restored k r refl)
-    (each-of (Keeps i) _ _ (
-      kept i _,
-      (
-        kept i _,
-        (
-          kept i _,
-          (
-            kept i _,
-            (
-              kept i _,
-              (
-                kept i _,
-                (record { fixed = refl; removal = refl; next = omega arith }, record { fixed = p .0; removal = p .1; next = omega (arith, p .2) }),
-              ),
-            ),
-          ),
-        ),
-      ),
-    ))
+    (each-of (Keeps i) _ _ (kept i _, (kept i _, (kept i _, (kept i _, (kept i _, restored-as i k r))))))
 
 taken-next : (i : Instance) (x : ℕ) → taken i x .next ≡ i .tree .next
 unfolding taken
@@ -168,7 +155,7 @@ restore-stays i b =
 -- the theorem
 pub stays : EveryStays
 stays = every-call Stays (record {
-  still = still-stays;
+  still = λ i c o m. still-stays i c o;
   mounts = mount-stays;
   restores-mount = restored-stays;
   unmounts = unmount-stays;

@@ -1,5 +1,6 @@
 -- Calls that change nothing, and a way to prove a thing of every call: once for all of these, and once for each that changes something. Assumes nothing.
 use mathlib.Core.Path.{_≡_, refl}
+use mathlib.Core.Bool.{Bool, true, false}
 use mathlib.Core.Logic.{_⊎_, inl, inr}
 use mathlib.Core.List.{List, []}
 use mathlib.Core.Option.{Option, none, some}
@@ -30,19 +31,19 @@ module _ (i : Instance) where
   pub still-refused : (code : ℕ) → (code ≡ FULL → ⊥) → Still i (refused code i)
   still-refused code h = record { visits = refl; found = refl; after = refl; not-full = h; bare = inr (refl, refl) }
 
-  pub still-says : (a : Answer) → Still i (says a i)
+  still-says : (a : Answer) → Still i (says a i)
   still-says a = record { visits = refl; found = refl; after = refl; not-full = λ e. omega arith; bare = inl refl }
 
   still-writes : (bs : List ℕ) → Still i (writes bs i)
   still-writes bs = record { visits = refl; found = refl; after = refl; not-full = λ e. omega arith; bare = inl refl }
 
-  pub inval-still : Still i (refused INVAL i)
+  inval-still : Still i (refused INVAL i)
   inval-still = still-refused INVAL (λ e. omega arith)
 
-  pub noent-still : Still i (refused NOENT i)
+  noent-still : Still i (refused NOENT i)
   noent-still = still-refused NOENT (λ e. omega arith)
 
-  pub notfound-still : Still i (refused NOTFOUND i)
+  notfound-still : Still i (refused NOTFOUND i)
   notfound-still = still-refused NOTFOUND (λ e. omega arith)
 
   pub walk-still : (path : List ℕ) → Still i (walkRule i path)
@@ -88,7 +89,7 @@ module _ (i : Instance) where
   entry-at mounts none = noent-still
   entry-at mounts (some x) = entry-of x (mounts x)
 
-  pub lookup-by-still : (mounts : ℕ → Option Mount) (x : ℕ) (p : List ℕ) → Still i (lookupBy mounts i x p)
+  lookup-by-still : (mounts : ℕ → Option Mount) (x : ℕ) (p : List ℕ) → Still i (lookupBy mounts i x p)
   unfolding lookupBy
   lookup-by-still mounts x p =
       each-of (Still i) _ _
@@ -106,10 +107,27 @@ module _ (i : Instance) where
   unfolding saveRule
   save-still n = each-of (Still i) _ _ (still-refused SMALL (λ e. omega arith), still-writes _)
 
+-- the call is a mount or a restored mount
+abbrev pub isMount : Call → Bool
+isMount (mount r) = true
+isMount (restore-mount k r) = true
+isMount (umount path) = false
+isMount set-remove-pseudo-root = false
+isMount (path-walk path) = false
+isMount (get-rootfs path) = false
+isMount (route x) = false
+isMount (lookup x p) = false
+isMount (readdir q) = false
+isMount (remap-attr-id out uid gid) = false
+isMount options = false
+isMount initialized = false
+isMount (save n) = false
+isMount (restore b) = false
+
 -- what holds of every call
 module _ (P : Instance → Call → Outcome → Type 0) where
   pub record Cases : Type 0 where
-    pub still : (i : Instance) (c : Call) (o : Outcome) → Still i o → P i c o
+    pub still : (i : Instance) (c : Call) (o : Outcome) → isMount c ≡ false → Still i o → P i c o
     pub mounts : (i : Instance) (r : Request) → P i (mount r) (mountRule i r)
     pub restores-mount : (i : Instance) (k : ℕ) (r : Request) → P i (restore-mount k r) (restoreMountRule i k r)
     pub unmounts : (i : Instance) (path : List ℕ) → P i (umount path) (unmountRule i path)
@@ -122,13 +140,13 @@ module _ (P : Instance → Call → Outcome → Type 0) where
   every-call h i (restore-mount k r) = h .restores-mount i k r
   every-call h i (umount path) = h .unmounts i path
   every-call h i set-remove-pseudo-root = h .sets-removal i
-  every-call h i (path-walk path) = h .still i _ _ (walk-still i path)
-  every-call h i (get-rootfs path) = h .still i _ _ (root-still i path)
-  every-call h i (route x) = h .still i _ _ (route-still i x)
-  every-call h i (lookup x p) = h .still i _ _ (lookup-still i x p)
-  every-call h i (readdir q) = h .still i _ _ (list-still i q)
-  every-call h i (remap-attr-id out uid gid) = h .still i _ _ (still-says i _)
-  every-call h i options = h .still i _ _ (still-says i _)
-  every-call h i initialized = h .still i _ _ (still-says i _)
-  every-call h i (save n) = h .still i _ _ (save-still i n)
+  every-call h i (path-walk path) = h .still i _ _ refl (walk-still i path)
+  every-call h i (get-rootfs path) = h .still i _ _ refl (root-still i path)
+  every-call h i (route x) = h .still i _ _ refl (route-still i x)
+  every-call h i (lookup x p) = h .still i _ _ refl (lookup-still i x p)
+  every-call h i (readdir q) = h .still i _ _ refl (list-still i q)
+  every-call h i (remap-attr-id out uid gid) = h .still i _ _ refl (still-says i _)
+  every-call h i options = h .still i _ _ refl (still-says i _)
+  every-call h i initialized = h .still i _ _ refl (still-says i _)
+  every-call h i (save n) = h .still i _ _ refl (save-still i n)
   every-call h i (restore b) = h .restores i b

@@ -1,8 +1,8 @@
 -- Runs of calls from any instance: demand 3 over every call. Assumes nothing.
-use mathlib.Core.Path.{_≡_, refl, _∙_, subst}
+use mathlib.Core.Path.{_≡_, refl, sym, _∙_, subst}
 use mathlib.Core.Logic.{inl, inr, ⊎-elim}
 use mathlib.Core.List.{List, [], _∷_, _++_}
-use mathlib.Core.Option.{none, some}
+use mathlib.Core.Option.{none, some, Option·none-ne-some}
 use Prim.Native.Nat.{ℕ, _+_, _%_, _<_}
 use native.Mathlib.Omega.{arith}
 use lib.ListN.{length}
@@ -44,7 +44,7 @@ goes-round cs i h u = record { round = runs-round (stepsOf i cs) (counterOf i) h
 searches : (i : Instance) (c : Call) (k : ℕ) → rule i c .found ≡ some k → Searches (counterOf i) (stepOf i c) × (counterOf (rule i c .after) ≡ allocation i .counter)
 unfolding allocation
 searches i c k e =
-    ⊎-elim (λ q. let z : _≡_ {A = ℕ} 0 1 = cc (q .found) in absurd (omega arith)) (λ q. ((q .1 .visits, q .1 .found), q .1 .counter)) (only-mounts i c (found-no-restore i c k e))
+    ⊎-elim (λ q. absurd (Option·none-ne-some k (sym (q .found) ∙ e))) (λ q. ((q .1 .visits, q .1 .found), q .1 .counter)) (only-mounts i c (found-no-restore i c k e))
 
 -- the theorem: after a call that handed k out, calls, and then calls on another instance with the counter carried over, up to one that hands k out again
 pub laps-over : EveryRestart

@@ -1,22 +1,26 @@
 -- What one call does to the counter. Assumes nothing.
-use mathlib.Core.Path.{_≡_, refl, ap, _∙_}
+use mathlib.Core.Path.{_≡_, refl, sym, ap, _∙_, subst}
 use mathlib.Core.Logic.{_⊎_, inl, inr}
 use mathlib.Core.List.{List}
-use mathlib.Core.Option.{Option, none, some}
-use Prim.Native.Nat.{ℕ, _+_, _%_}
+use mathlib.Core.Option.{Option, none, some, Option·some-injective, Option·none-ne-some}
+use Prim.Native.Nat.{ℕ, _+_, _%_, _<_}
 use native.Mathlib.Omega.{arith}
 use lib.ListN.{length}
+use lib.Seq.{getD-set-same}
+use borrow.Author.Tests.{le-ltb}
+use Rattle.rules.specs.Numbers.{maxIno, INVAL, INODE, FULL}
 use Rattle.rules.specs.Round.{after, allocate}
 use Rattle.rules.specs.Tree.{Mount}
-use Rattle.rules.specs.Instance.{Instance, counterOf, mountOf}
-use Rattle.rules.specs.Outcome.{Answer, Outcome, refused}
-use Rattle.rules.specs.Mount.{Request, freed, placed, allocation, stepped, allocated, walkedTo, ended, mountAs, mountRule, restoreMountRule}
+use Rattle.rules.specs.Instance.{Instance, counterOf, emptySlot, heldBy, tagOf, mountOf}
+use Rattle.rules.specs.Outcome.{Answer, nothing, Outcome, refused, firstOf}
+use Rattle.rules.specs.Mount.{Request, freed, placed, allocation, stepped, allocated, walkedTo, ended, mountAs, mountRule, restoreAs, restoreMountRule}
 use Rattle.rules.specs.Unmount.{unmounts, unmountAt, unmountRule, reached, mountUnder}
 use Rattle.rules.specs.Restore.{restoreRule}
 use Rattle.rules.specs.Calls.{Call, mount, rule}
-use Rattle.rules.specs.Trace.{NoRestore, Moves, Keeps, OnlyMounts}
+use Rattle.rules.specs.Trace.{NoRestore, Moves, Keeps, Allocates, EveryMount, OnlyMounts}
 use Rattle.rules.proofs.Rows.{each-of}
 use Rattle.rules.proofs.Still.{every-call}
+use Rattle.rules.proofs.Held.{freed-slots}
 
 keeps-refused : (i : Instance) (code : ℕ) → Keeps i (refused code i)
 keeps-refused i code = record { visits = refl; found = refl; counter = refl }
@@ -35,12 +39,40 @@ placed-counter k r x i = freed-counter (mountOf (i .tree) x) i
 moves : (i j : Instance) (r : Request) (code : ℕ) (a : Answer) → counterOf j ≡ counterOf (stepped i) → Moves i (mount r) (allocated i code a j) r
 moves i j r code a e = record { call = refl; visits = refl; found = refl; counter = e }
 
-mount-as : (i : Instance) (r : Request) (k : Option ℕ) → Moves i (mount r) (mountAs i r k) r
+-- a refused one answers no index
+refused-allocates : (i j : Instance) (r : Request) (code : ℕ) → (code ≡ 0 → ⊥) → counterOf j ≡ counterOf (stepped i) → Allocates i r (allocated i code nothing j)
+refused-allocates i j r code h e = record { moves = moves i j r code nothing e; answered = λ z. absurd (h z); holds = λ z. absurd (h z) }
+
+placed-tag : (k : ℕ) (r : Request) (x : ℕ) (i : Instance) → k < length (i .indexes .slots) → tagOf (placed k r x i) k ≡ some (r .tag)
+unfolding placed
+placed-tag k r x i h =
+    let j = freed (mountOf (i .tree) x) i in
+    rw (getD-set-same (j .indexes .slots) k (heldBy (r .tag)) emptySlot (rw (freed-slots (mountOf (i .tree) x) i) h))
+
+mount-as : (i : Instance) (r : Request) (k : Option ℕ) → allocation i .found ≡ k → Allocates i r (mountAs i r k)
 unfolding mountAs
-mount-as i r none = moves i (stepped i) r _ _ refl
-mount-as i r (some k) =
-    each-of (λ (o : Outcome). Moves i (mount r) o r) _ _
-    (moves i (stepped i) r _ _ refl, (moves i (walkedTo (r .path) (stepped i)) r _ _ refl, moves i _ r _ _ (placed-counter k r (ended i (r .path)) (walkedTo (r .path) (stepped i)))))
+mount-as i r none e = refused-allocates i (stepped i) r FULL (λ z. omega arith) refl
+mount-as i r (some k) e =
+    let j = walkedTo (r .path) (stepped i) in
+    let x = ended i (r .path) in
+    each-of (Allocates i r) _ _ (
+      refused-allocates i (stepped i) r INVAL (λ z. omega arith) refl,
+      (
+        refused-allocates i j r INODE (λ z. omega arith) refl,
+        record {
+          moves = moves i _ r _ _ (placed-counter k r x j);
+          answered = λ z. (k, _, e, refl);
+          holds = λ z q f h.
+              let s : k ≡ q = Option·some-injective k q (sym e ∙ f) in
+              subst (λ n. tagOf (placed k r x j) n ≡ some (r .tag)) s (placed-tag k r x j (rw s h));
+        },
+      ),
+    )
+
+-- the theorem: a mount that rows 1 to 4 let pass makes its allocation, and what it finds is what is answered
+pub mounts-allocate : EveryMount
+unfolding mountRule firstOf
+mounts-allocate i r l u m n = rw (l, u, le-ltb maxIno (r .largest) m, n) (mount-as i r (allocation i .found) refl)
 
 abbrev Turns : Instance → Call → Outcome → Type 0
 Turns i c o = NoRestore c o → Keeps i o ⊎ ((r : Request) × Moves i c o r)
@@ -49,36 +81,26 @@ mount-turns : (i : Instance) (r : Request) → Turns i (mount r) (mountRule i r)
 unfolding mountRule
 mount-turns i r un =
     each-of (λ (o : Outcome). Keeps i o ⊎ ((q : Request) × Moves i (mount r) o q)) _ _
-    (inl (keeps-refused i _), (inl (keeps-refused i _), (inl (keeps-refused i _), (inl (keeps-refused i _), inr (r, mount-as i r (allocation i .found))))))
+    (inl (keeps-refused i _), (inl (keeps-refused i _), (inl (keeps-refused i _), (inl (keeps-refused i _), inr (r, mount-as i r (allocation i .found) refl .moves)))))
 
 -- ---- the others
+
+restored-as : (i : Instance) (k : ℕ) (r : Request) → Keeps i (restoreAs i k r)
+unfolding restoreAs
+restored-as i k r =
+    each-of (Keeps i) _ _ (
+      keeps-refused i _,
+      (
+        record { visits = refl; found = refl; counter = refl },
+        record { visits = refl; found = refl; counter = placed-counter k r (ended i (r .path)) (walkedTo (r .path) i) },
+      ),
+    )
 
 restored-keeps : (i : Instance) (k : ℕ) (r : Request) → Keeps i (restoreMountRule i k r)
 unfolding restoreMountRule
 restored-keeps i k r =
     let k₀ : (code : ℕ) → Keeps i (refused code i) = keeps-refused i in
-    each-of (Keeps i) _ _ (
-      k₀ _,
-      (
-        k₀ _,
-        (
-          k₀ _,
-          (
-            k₀ _,
-            (
-              k₀ _,
-              (
-                k₀ _,
-                (
-                  record { visits = refl; found = refl; counter = refl },
-                  record { visits = refl; found = refl; counter = placed-counter k r (ended i (r .path)) (walkedTo (r .path) i) },
-                ),
-              ),
-            ),
-          ),
-        ),
-      ),
-    )
+    each-of (Keeps i) _ _ (k₀ _, (k₀ _, (k₀ _, (k₀ _, (k₀ _, restored-as i k r)))))
 
 unmount-at : (i : Instance) (x : Option ℕ) (m : Option Mount) → Keeps i (unmountAt i x m)
 unfolding unmountAt unmounts
@@ -100,7 +122,7 @@ restore-keeps i b =
 -- the theorem: no call but an allocation, and a done state restore, moves the counter
 pub only-mounts : OnlyMounts
 only-mounts = every-call Turns (record {
-  still = λ i c o s un. inl (record { visits = s .visits; found = s .found; counter = ap counterOf (s .after) });
+  still = λ i c o m s un. inl (record { visits = s .visits; found = s .found; counter = ap counterOf (s .after) });
   mounts = mount-turns;
   restores-mount = λ i k r un. inl (restored-keeps i k r);
   unmounts = λ i path un. inl (unmount-keeps i path);
@@ -121,6 +143,4 @@ restore-finds i b = each-of (λ (o : Outcome). o .found ≡ none) _ _ (refl, (re
 pub found-no-restore : (i : Instance) (c : Call) (k : ℕ) → rule i c .found ≡ some k → NoRestore c (rule i c)
 unfolding rule
 found-no-restore i c k e b is done =
-    let f : rule i c .found ≡ none = ap (λ (d : Call). rule i d .found) is ∙ restore-finds i b in
-    let z : _≡_ {A = ℕ} 0 1 = cc in
-    omega arith
+    Option·none-ne-some k (sym (ap (λ (d : Call). rule i d .found) is ∙ restore-finds i b) ∙ e)

@@ -1,9 +1,9 @@
 -- A mount walk from the root ends at a live node, and what it makes keeps the shape. Assumes nothing.
-use mathlib.Core.Path.{_≡_, refl}
+use mathlib.Core.Path.{_≡_, refl, subst}
 use mathlib.Core.Bool.{Bool, true, false, cond, _&&_}
 use mathlib.Core.Logic.{_⊎_, inl, inr}
 use mathlib.Core.List.{List, [], _∷_, _++_, append-assoc, append-nil}
-use mathlib.Core.Option.{Option, none, some}
+use mathlib.Core.Option.{Option, none, some, Option·some-injective, Option·none-ne-some}
 use Prim.Native.Nat.{ℕ, _+_, _≤_, _<_}
 use native.Mathlib.Nat.{add-zero}
 use native.Mathlib.Omega.{arith}
@@ -14,33 +14,29 @@ use Rattle.rules.specs.Numbers.{rootNumber}
 use Rattle.rules.specs.Bytes.{same}
 use Rattle.rules.specs.Path.{Part, name, parent, components, tooLong}
 use Rattle.rules.specs.Utf8.{wellFormed}
-use Rattle.rules.specs.Tree.{Node, Made, bare, isChild, childIn, nodeIn, aboveOf, parentIn, orMake, step, makes, atRoot}
-use Rattle.rules.specs.Instance.{Tree}
+use Rattle.rules.specs.Tree.{Node, Made, bare, isChild, childIn, nodeIn, aboveOf, parentIn, onward, walk, orMake, step, makes, atRoot}
+use Rattle.rules.specs.Instance.{Tree, Instance}
 use Rattle.rules.specs.Saved.{goodName}
 use Rattle.rules.specs.Restore.{entryFor, entriesFor}
 use Rattle.rules.specs.Mount.{planned}
-use Rattle.rules.specs.Driven.{Rises, Shape}
+use Rattle.rules.specs.Unmount.{reached}
+use Rattle.rules.specs.Driven.{Rises, Shape, Rooted, top, under}
 use Rattle.rules.proofs.Names.{GoodParts, components-good}
 use Rattle.rules.proofs.Shape.{entries-append, child-unused, shape-more, rises-end}
 
--- a number that live nodes lead up from to the root
-pub data Reached (ns : List Node) : ℕ → Type 0 where
-  top : Reached ns rootNumber
-  under : (x : ℕ) (n : Node) → nodeIn ns x ≡ some n → Reached ns (n .above) → Reached ns x
-
 -- the root, or a live node
-pub reached-live : (ns : List Node) (x : ℕ) → Reached ns x → (x ≡ rootNumber) ⊎ ((n : Node) × (nodeIn ns x ≡ some n))
+pub reached-live : (ns : List Node) (x : ℕ) → Rooted ns x → (x ≡ rootNumber) ⊎ ((n : Node) × (nodeIn ns x ≡ some n))
 reached-live ns x top = inl refl
 reached-live ns x (under y n e r) = inr (n, e)
 
 -- ---- up
 
-up : (ns : List Node) (x : ℕ) → Reached ns x → Reached ns (parentIn ns x)
+up : (ns : List Node) (x : ℕ) → Rooted ns x → Rooted ns (parentIn ns x)
 unfolding parentIn
 up ns x top = top
 up ns x (under y n e r) = go (eqb x rootNumber)
   where
-    go : (b : Bool) → Reached ns (cond b rootNumber (aboveOf (nodeIn ns x)))
+    go : (b : Bool) → Rooted ns (cond b rootNumber (aboveOf (nodeIn ns x)))
     go true = top
     go false = rw e r
 
@@ -51,7 +47,7 @@ Place ns low high here x = (n : Node) × (nodeIn ns x ≡ some n) × (n .above �
 
 child-place : (ns : List Node) (low high here : ℕ) (p : List ℕ) (x : ℕ) → Rises low (entriesFor ns) high → childIn ns here p ≡ some x → Place ns low high here x
 unfolding childIn isChild nodeIn entriesFor Rises
-child-place [] low high here p x r e = let z : _≡_ {A = ℕ} 0 1 = cc in absurd (omega arith)
+child-place [] low high here p x r e = absurd (Option·none-ne-some x e)
 child-place (n ∷ ns) low high here p x r e =
     go (eqb (n .above) here) refl (same (n .called) p) e (child-place ns (n .number + 1) high here p x (r .1))
   where
@@ -66,24 +62,41 @@ child-place (n ∷ ns) low high here p x r e =
     go true q false f k = later (k f)
     go false q b f k = later (k f)
 
-down : (ns : List Node) (high here : ℕ) (p : List ℕ) (x : ℕ) → Rises 2 (entriesFor ns) high → childIn ns here p ≡ some x → Reached ns here → Reached ns x
+down : (ns : List Node) (high here : ℕ) (p : List ℕ) (x : ℕ) → Rises 2 (entriesFor ns) high → childIn ns here p ≡ some x → Rooted ns here → Rooted ns x
 down ns high here p x r e h = go (child-place ns 2 high here p x r e)
   where
-    go : Place ns 2 high here x → Reached ns x
+    go : Place ns 2 high here x → Rooted ns x
     go (n, f, g, l, k) = under x n f (rw g h)
+
+-- ---- the walk
+
+walk-rooted : (ns : List Node) (high : ℕ) → Rises 2 (entriesFor ns) high → (ps : List Part) (here x : ℕ) → Rooted ns here → walk ns here ps ≡ some x → Rooted ns x
+unfolding walk
+walk-rooted ns high r [] here x h e = subst (Rooted ns) (Option·some-injective here x e) h
+walk-rooted ns high r (parent at ∷ ps) here x h e = walk-rooted ns high r ps (parentIn ns here) x (up ns here h) e
+walk-rooted ns high r (name at p ∷ ps) here x h e = go (childIn ns here p) refl e (λ y. walk-rooted ns high r ps y x)
+  where
+    go : (o : Option ℕ) → childIn ns here p ≡ o → onward o (λ (y : ℕ). walk ns y ps) ≡ some x → ((y : ℕ) → Rooted ns y → walk ns y ps ≡ some x → Rooted ns x) → Rooted ns x
+    go none q f on = absurd (Option·none-ne-some x f)
+    go (some y) q f on = on y (down ns high here p y r q h) f
+
+-- the walk along a path
+pub path-rooted : (i : Instance) (high : ℕ) → Rises 2 (entriesFor (i .tree .nodes)) high → (path : List ℕ) (x : ℕ) → reached i path ≡ some x → Rooted (i .tree .nodes) x
+unfolding reached
+path-rooted i high r path x e = walk-rooted (i .tree .nodes) high r (components 0 path) rootNumber x top e
 
 -- ---- more nodes
 
 pub node-append : (ns ms : List Node) (x : ℕ) (n : Node) → nodeIn ns x ≡ some n → nodeIn (ns ++ ms) x ≡ some n
 unfolding nodeIn
-node-append [] ms x n e = let z : _≡_ {A = ℕ} 0 1 = cc in absurd (omega arith)
+node-append [] ms x n e = absurd (Option·none-ne-some n e)
 node-append (m ∷ ns) ms x n e = go (eqb (m .number) x) e (node-append ns ms x n)
   where
     go : (b : Bool) → cond b (some m) (nodeIn ns x) ≡ some n → (nodeIn ns x ≡ some n → nodeIn (ns ++ ms) x ≡ some n) → cond b (some m) (nodeIn (ns ++ ms) x) ≡ some n
     go true f k = f
     go false f k = k f
 
-reached-append : (ns ms : List Node) (x : ℕ) → Reached ns x → Reached (ns ++ ms) x
+reached-append : (ns ms : List Node) (x : ℕ) → Rooted ns x → Rooted (ns ++ ms) x
 reached-append ns ms x top = top
 reached-append ns ms x (under y n e r) = under y n (node-append ns ms y n e) (reached-append ns ms (n .above) r)
 
@@ -98,7 +111,7 @@ node-last (m ∷ ns) low high n r e =
 -- the bounds of what is reached
 node-bounds : (ns : List Node) (low high x : ℕ) (n : Node) → Rises low (entriesFor ns) high → nodeIn ns x ≡ some n → (low ≤ x) × (x < high)
 unfolding nodeIn entriesFor Rises
-node-bounds [] low high x n r e = let z : _≡_ {A = ℕ} 0 1 = cc in absurd (omega arith)
+node-bounds [] low high x n r e = absurd (Option·none-ne-some n e)
 node-bounds (m ∷ ns) low high x n r e = go (eqb (m .number) x) refl e (node-bounds ns (m .number + 1) high x n (r .1))
   where
     go : (b : Bool) → eqb (m .number) x ≡ b → cond b (some m) (nodeIn ns x) ≡ some n → (nodeIn ns x ≡ some n → (m .number + 1 ≤ x) × (x < high)) → (low ≤ x) × (x < high)
@@ -109,7 +122,7 @@ node-bounds (m ∷ ns) low high x n r e = go (eqb (m .number) x) refl e (node-bo
         let b = k f in
         (omega (arith, r .0, b .0), b .1)
 
-reached-bounds : (ns : List Node) (high x : ℕ) → Rises 2 (entriesFor ns) high → Reached ns x → (1 ≤ x) × (x < high)
+reached-bounds : (ns : List Node) (high x : ℕ) → Rises 2 (entriesFor ns) high → Rooted ns x → (1 ≤ x) × (x < high)
 reached-bounds ns high x r top = (omega arith, omega (arith, rises-end 2 high (entriesFor ns) r))
 reached-bounds ns high x r (under y n e h) =
     let b = node-bounds ns 2 high x n r e in
@@ -119,7 +132,7 @@ reached-bounds ns high x r (under y n e h) =
 
 pub record Walking (live : List Node) (next : ℕ) (m : Made) : Type 0 where
   pub shape : Shape (entriesFor (live ++ m .nodes)) (next + length (m .nodes))
-  pub reached : Reached (live ++ m .nodes) (m .here)
+  pub reached : Rooted (live ++ m .nodes) (m .here)
 
 module _ (live : List Node) (next : ℕ) where
   makes-one : (m : Made) (p : List ℕ) → goodName p ≡ true → Walking live next m → childIn (live ++ m .nodes) (m .here) p ≡ none → Walking live next (orMake next m p none)

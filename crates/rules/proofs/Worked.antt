@@ -16,12 +16,8 @@ use Rattle.rules.specs.Lookup.{routeTag, routeTree, routeRule, entryOf, 
 use Rattle.rules.specs.Calls.{rule}
 use Rattle.rules.specs.Session.{isDigit, allDigits, spelt, number, digits, decimal, anyEmpty, lineOf, parsed, joined, numbers, textOf, values, shown, routed, says, answers, replyTo}
 use Rattle.rules.specs.Whole.{linesOf, replies, session}
-use Rattle.rules.specs.Worked.{Worked, said, wanted, results, expected, WorkedWhole, input, output, writes, outputs}
+use Rattle.rules.specs.Worked.{Worked, input, output, results, expected}
 
 pub worked : Worked
-unfolding same holds ascii table fits firstRow sequence endFrom validTo wellFormed partsBy sorted kept components rooted anyLonger tooLong full indexOf numberOf inside mapped goingRound untilTwice visited firstFree allocate isChild childIn nodeIn isKnown parentIn walk step makes mountAt without mountOf setMount firstOf newInstance planned needed noRoom freed tagAt placed allocation mountAs mountRule badPath reached walkRule taken unmounts unmountAt unmountRule routeTag routeTree routeRule entryOf entryAt lookupBy lookupRule rule isDigit allDigits spelt number digits decimal anyEmpty lineOf parsed joined numbers textOf values shown routed says answers replyTo said wanted results expected
+unfolding same holds ascii table fits firstRow sequence endFrom validTo wellFormed partsBy sorted kept components rooted anyLonger tooLong full indexOf numberOf inside mapped goingRound untilTwice visited firstFree allocate isChild childIn nodeIn isKnown parentIn walk step makes mountAt without mountOf setMount firstOf newInstance planned needed noRoom freed tagAt placed allocation mountAs mountRule badPath reached walkRule taken unmounts unmountAt unmountRule routeTag routeTree routeRule entryOf entryAt lookupBy lookupRule rule isDigit allDigits spelt number digits decimal anyEmpty lineOf parsed joined numbers textOf values shown routed says answers replyTo linesOf replies session input output results expected
 worked = refl
-
-pub worked-whole : WorkedWhole
-unfolding same holds ascii table fits firstRow sequence endFrom validTo wellFormed partsBy sorted kept components rooted anyLonger tooLong full indexOf numberOf inside mapped goingRound untilTwice visited firstFree allocate isChild childIn nodeIn isKnown parentIn walk step makes mountAt without mountOf setMount firstOf newInstance planned needed noRoom freed tagAt placed allocation mountAs mountRule badPath reached walkRule taken unmounts unmountAt unmountRule routeTag routeTree routeRule entryOf entryAt lookupBy lookupRule rule isDigit allDigits spelt number digits decimal anyEmpty lineOf parsed joined numbers textOf values shown routed says answers replyTo linesOf replies session input output writes outputs
-worked-whole = refl

@@ -28,3 +28,7 @@ module _ (held : ℕ → Bool) (counter : ℕ) where
     pub refused : (allocate held counter .found ≡ none) ↔ ((j : ℕ) → 1 ≤ j → j ≤ 255 → held j ≡ true)
     pub refused-count : allocate held counter .found ≡ none → countOf ≡ 257
     pub moved : allocate held counter .counter ≡ (counter + countOf) % 256
+
+-- of every set of held indexes and every counter, a byte
+abbrev pub EveryAllocation : Type 0
+EveryAllocation = (held : ℕ → Bool) (counter : ℕ) → counter < 256 → Exact held counter

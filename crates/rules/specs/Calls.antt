@@ -27,7 +27,7 @@ pub data Call : Type 0 where
   save : ℕ → Call
   restore : List ℕ → Call
 
--- the rule of each call: every request has an outcome (R4); the remove call sets its flag at any time (R32)
+-- the rule of each call: every request has an outcome (R4); the remove call sets its flag at any time (R32); options and `initialized` are answered as they stand (R33)
 unfoldable pub rule : Instance → Call → Outcome
 rule i (mount r) = mountRule i r
 rule i (restore-mount k r) = restoreMountRule i k r

@@ -6,12 +6,13 @@ use mathlib.Core.List.{List, [], _∷_}
 use mathlib.Core.Option.{Option, none, some}
 use mathlib.Core.Path.{_≡_}
 use lib.ListN.{length}
-use Rattle.rules.specs.Numbers.{topNumber, maxNodes}
+use Rattle.rules.specs.Numbers.{rootNumber, topNumber, maxNodes}
 use Rattle.rules.specs.Bytes.{Bytes}
 use Rattle.rules.specs.Ids.{badMapping}
-use Rattle.rules.specs.Tree.{Mount, Node, isKnown}
+use Rattle.rules.specs.Tree.{Mount, Node, nodeIn, isKnown}
 use Rattle.rules.specs.Instance.{Tree, Instance, heldIn, live, counterOf}
 use Rattle.rules.specs.Create.{Creation, unknown, createRule}
+use Rattle.rules.specs.Unmount.{reached}
 use Rattle.rules.specs.Saved.{Entry, used, goodName}
 use Rattle.rules.specs.Restore.{entriesFor}
 use Rattle.rules.specs.RoundTrip.{OptionsFit}
@@ -90,6 +91,17 @@ pub record Facts (i : Instance) : Type 0 where
 -- of every driven instance
 abbrev pub EveryDriven : Type 0
 EveryDriven = (i : Instance) → Driven i → Facts i
+
+-- ---- what a path reaches
+
+-- a number from which live nodes lead up to the root
+pub data Rooted (ns : List Node) : ℕ → Type 0 where
+  top : Rooted ns rootNumber
+  under : (x : ℕ) (n : Node) → nodeIn ns x ≡ some n → Rooted ns (n .above) → Rooted ns x
+
+-- a path leads to such a number alone; so what stands under a removed node stays live, and no path reaches it (R101)
+abbrev pub EveryReached : Type 0
+EveryReached = (i : Instance) → Driven i → (path : List ℕ) (x : ℕ) → reached i path ≡ some x → Rooted (i .tree .nodes) x
 
 -- ---- save and restore
 

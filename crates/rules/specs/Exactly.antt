@@ -1,6 +1,6 @@
 -- Demand 1, when a call is refused: each call's tests written out in their order. A call answers a number exactly if the test of a row with that number holds and
 -- none before it does.
-use Prim.Native.Nat.{ℕ, zero, suc, _+_, _<_}
+use Prim.Native.Nat.{ℕ, zero, suc, _+_, _-_, _^_, _<_}
 use mathlib.Core.Bool.{Bool, true, false, not, _&&_, _||_}
 use mathlib.Core.List.{List, [], _∷_}
 use mathlib.Core.Logic.{_↔_, _⊎_}
@@ -133,8 +133,8 @@ createTests bytes q =
     ∷ (outside (q .known) (q .options .inOpts) ⟼ BADOPT)
     ∷ (outside (q .known) (q .options .outOpts) ⟼ BADOPT)
     ∷ (ltb 63 (q .options .flags) ⟼ BADOPT)
-    ∷ (ltb 4294967295 (q .options .mapping .internal + q .options .mapping .range) ⟼ BADMAP)
-    ∷ (ltb 4294967295 (q .options .mapping .external + q .options .mapping .range) ⟼ BADMAP)
+    ∷ (ltb (2 ^ 32 - 1) (q .options .mapping .internal + q .options .mapping .range) ⟼ BADMAP)
+    ∷ (ltb (2 ^ 32 - 1) (q .options .mapping .external + q .options .mapping .range) ⟼ BADMAP)
     ∷ []
 
 -- of every call on every instance, and of creation (R15, R18)

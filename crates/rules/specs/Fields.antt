@@ -27,8 +27,3 @@ unfoldable pub fields : List ℕ → List ℕ → List ℕ
 fields [] vs = []
 fields (w ∷ ws) [] = []
 fields (w ∷ ws) (v ∷ vs) = bytesOf w v ++ fields ws vs
-
--- and read
-unfoldable pub fieldsAt : List ℕ → List ℕ → ℕ → List ℕ
-fieldsAt [] b at = []
-fieldsAt (w ∷ ws) b at = get w b at ∷ fieldsAt ws b (at + w)

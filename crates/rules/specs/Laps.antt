@@ -56,11 +56,15 @@ unfoldable pub Met : ℕ → List Step → Type 0
 Met j [] = ⊥
 Met j (s ∷ ss) = Meets j s ⊎ Met j ss
 
--- of steps up to one that hands out again what was handed out just before them: the sum (R87), and every other index (R88)
-pub record Laps (ss : List Step) : Type 0 where
-  pub positive : 0 < total ss
-  pub whole : total ss % 256 ≡ 0
+-- of steps up to one that hands out again what was handed out just before them: the sum of their counts (R87), and every other index (R88)
+pub record LapsBy (sum : ℕ) (ss : List Step) : Type 0 where
+  pub positive : 0 < sum
+  pub whole : sum % 256 ≡ 0
   pub fair : (j : ℕ) → 0 < j → j < 256 → Met j ss
+
+-- by the lengths of their visited lists
+abbrev pub Laps : List Step → Type 0
+Laps ss = LapsBy (total ss) ss
 
 -- a search handed k out, and the last of the steps after it hands k out again (R87, R88)
 abbrev pub EveryAllocator : Type 0

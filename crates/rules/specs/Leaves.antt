@@ -1,10 +1,11 @@
 -- Demand 1, what a refusal leaves: the column "leaves" of the refusal table, once over all calls, by the number.
-use Prim.Native.Nat.{ℕ, _+_, _%_}
+use Prim.Native.Nat.{ℕ, _+_, _%_, _<_}
 use mathlib.Core.Bool.{false}
 use mathlib.Core.Logic.{_⊎_}
 use mathlib.Core.List.{[]}
 use mathlib.Core.Path.{_≡_}
-use Rattle.rules.specs.Numbers.{INVAL, INODE, FULL}
+use Rattle.rules.specs.Numbers.{maxIno, INVAL, INODE, FULL}
+use Rattle.rules.specs.Utf8.{wellFormed}
 use Rattle.rules.specs.Path.{rooted}
 use Rattle.rules.specs.Instance.{Instance, withCounter, counterOf}
 use Rattle.rules.specs.Outcome.{nothing, Outcome, count}
@@ -24,22 +25,32 @@ pub record Row6 (i : Instance) (c : Call) (o : Outcome) (r : Request) : Type 0 w
 -- a mount refused for its root number: the counter, the next number, and the nodes made behind the others (R74)
 pub record Row7 (i : Instance) (c : Call) (o : Outcome) (r : Request) : Type 0 where
   pub call : c ≡ mount r
+  pub root : maxIno < r .root
   pub leaves : o .after ≡ walkedTo (r .path) (moved i o)
 
 -- the same of a restored mount, without the counter (R92)
 pub record RestoredRow7 (i : Instance) (c : Call) (o : Outcome) (k : ℕ) (r : Request) : Type 0 where
   pub call : c ≡ restore-mount k r
+  pub root : maxIno < r .root
   pub leaves : o .after ≡ walkedTo (r .path) i
 
 -- nothing was visited, and the instance is as it was
 abbrev pub Unchanged : Instance → Outcome → Type 0
 Unchanged i o = (o .visits ≡ []) × (o .after ≡ i)
 
+-- if the call is a mount, its path is not UTF-8: it was refused by row 2 and not by row 6 (R69, R73)
+abbrev pub ByRow2 : Call → Type 0
+ByRow2 c = (r : Request) → c ≡ mount r → wellFormed (r .path) ≡ false
+
+-- if the call is a mount or a restored mount, its largest number is too big: it was refused by row 3 and not by row 7 (R70, R74, R92)
+abbrev pub ByRow3 : Call → Type 0
+ByRow3 c = (r : Request) → (c ≡ mount r) ⊎ ((k : ℕ) × (c ≡ restore-mount k r)) → maxIno < r .largest
+
 -- what the outcome o of the call c on the instance i leaves, by its number (R15), with every value none and nothing written (R16, R17)
 pub record Leaves (i : Instance) (c : Call) (o : Outcome) : Type 0 where
   pub full : o .code ≡ FULL → o .after ≡ withCounter ((counterOf i + 1) % 256) i
-  pub inval : o .code ≡ INVAL → Unchanged i o ⊎ ((r : Request) × Row6 i c o r)
-  pub inode : o .code ≡ INODE → Unchanged i o ⊎ (((r : Request) × Row7 i c o r) ⊎ ((k : ℕ) × (r : Request) × RestoredRow7 i c o k r))
+  pub inval : o .code ≡ INVAL → (Unchanged i o × ByRow2 c) ⊎ ((r : Request) × Row6 i c o r)
+  pub inode : o .code ≡ INODE → (Unchanged i o × ByRow3 c) ⊎ (((r : Request) × Row7 i c o r) ⊎ ((k : ℕ) × (r : Request) × RestoredRow7 i c o k r))
   pub others : (o .code ≡ 0 → ⊥) → (o .code ≡ FULL → ⊥) → (o .code ≡ INVAL → ⊥) → (o .code ≡ INODE → ⊥) → Unchanged i o
   pub values : (o .code ≡ 0 → ⊥) → (o .answer ≡ nothing) × (o .written ≡ [])
 

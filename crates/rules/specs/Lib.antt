@@ -28,5 +28,6 @@ pub mod Exactly
 pub mod RoundTrip
 pub mod Driven
 pub mod Restored
+pub mod Restart
 pub mod Stays
 pub mod Needed

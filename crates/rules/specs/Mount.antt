@@ -108,7 +108,17 @@ mountRule i r =
 
 -- ---- restored mount: no allocation
 
--- rows 1, 2, BADINDEX, 3, 4, 6, 7, 8, with the index given; the counter stays; what then still stands in the slot is displaced (R91 to R95)
+-- rows 6 to 8 with the index given: INVAL, INODE, done; the counter stays; what then still stands in the slot is displaced (R92 to R95)
+unfoldable pub restoreAs : Instance → ℕ → Request → Outcome
+restoreAs i k r =
+    firstOf
+    ((not (rooted (r .path)) ⇒ refused INVAL i)
+    ∷ (ltb maxIno (r .root) ⇒ refused INODE (walkedTo (r .path) i))
+    ∷ [])
+    (let old = mountThere i (r .path) in
+    says (restored (tagAt old i) (tagOf (freed old i) k)) (placed k r (ended i (r .path)) (walkedTo (r .path) i)))
+
+-- rows 1, 2, BADINDEX, 3 and 4, which change nothing; then the rest (R91)
 unfoldable pub restoreMountRule : Instance → ℕ → Request → Outcome
 restoreMountRule i k r =
     firstOf
@@ -117,8 +127,5 @@ restoreMountRule i k r =
     ∷ (eqb k 0 ⇒ refused BADINDEX i)
     ∷ (ltb maxIno (r .largest) ⇒ refused INODE i)
     ∷ (rooted (r .path) && noRoom i (r .path) ⇒ refused NOROOM i)
-    ∷ (not (rooted (r .path)) ⇒ refused INVAL i)
-    ∷ (ltb maxIno (r .root) ⇒ refused INODE (walkedTo (r .path) i))
     ∷ [])
-    (let old = mountThere i (r .path) in
-    says (restored (tagAt old i) (tagOf (freed old i) k)) (placed k r (ended i (r .path)) (walkedTo (r .path) i)))
+    (restoreAs i k r)

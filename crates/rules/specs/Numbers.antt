@@ -40,7 +40,7 @@ blockSize = 4096
 abbrev pub storageFor : ℕ → ℕ
 storageFor n = 512 * n + 8192
 
--- a number, or 0 where there is none (R16)
+-- a number, or 0 where there is none (R16, R47)
 abbrev pub orZero : Option ℕ → ℕ
 orZero none = 0
 orZero (some x) = x

@@ -30,7 +30,7 @@ pub data Answer : Type 0 where
   ids : ℕ → ℕ → Answer
   -- how many bytes were written (R66, R125)
   wrote : ℕ → Answer
-  -- the options (R27)
+  -- the options (R27, R33)
   settings : Options → Answer
   -- whether it is initialized (R33, R134)
   truth : Bool → Answer

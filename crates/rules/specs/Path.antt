@@ -45,7 +45,7 @@ isDots p = same p (dot ∷ dot ∷ [])
 unfoldable pub sorted : ℕ → List ℕ → List Part → List Part
 sorted at p ps = cond (same p []) ps (cond (isDot p) ps (cond (isDots p) (parent at ∷ ps) (name at p ∷ ps)))
 
--- of the pieces, the first of which stands at a place; a slash stands behind each (R37)
+-- the components among pieces, the first of which stands at a place, with one slash between two (R37)
 unfoldable pub kept : ℕ → List (List ℕ) → List Part
 kept at [] = []
 kept at (p ∷ ps) = sorted at p (kept (at + length p + 1) ps)

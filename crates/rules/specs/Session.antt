@@ -106,7 +106,7 @@ pub record Reply : Type 0 where
   pub text : List ℕ
   pub instance : Instance
 
--- the values of an answer that a line shows, the first at place 0; a missing name is 0, and a refusal has none (R138 to R141)
+-- what a line shows of an answer behind its number; a missing name is 0, and a refusal has none (R138 to R141)
 unfoldable pub values : Answer → List ℕ
 values nothing = []
 values (mounted k t) = k ∷ []
@@ -114,8 +114,8 @@ values (restored a b) = []
 values (unmounted x p t) = x ∷ p ∷ []
 values (walked x) = orZero x ∷ []
 values (rootfs r) = []
-values (toTree x) = x ∷ []
-values (toBackend t k x) = t ∷ x ∷ []
+values (toTree x) = []
+values (toBackend t k x) = []
 values (entry x mode uid gid size) = x ∷ []
 values (ids u g) = []
 values (wrote n) = []

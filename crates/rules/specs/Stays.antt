@@ -1,4 +1,4 @@
--- What never changes over any calls, and what only some calls change.
+-- What no call changes, and what only some calls change.
 use Prim.Native.Nat.{ℕ, _≤_}
 use mathlib.Core.Bool.{true}
 use mathlib.Core.List.{List, [], _∷_}
@@ -12,7 +12,7 @@ use Rattle.rules.specs.Mount.{Request}
 use Rattle.rules.specs.Calls.{Call, mount, restore-mount, umount, restore, rule}
 use Rattle.rules.specs.Driven.{Driven}
 
--- a node with its mount, before others
+-- the mount of a node, if it has one, put before others
 abbrev pub mounted : ℕ → Option Mount → List (ℕ × Mount) → List (ℕ × Mount)
 mounted x none ms = ms
 mounted x (some m) ms = (x, m) ∷ ms

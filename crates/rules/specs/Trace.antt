@@ -1,13 +1,18 @@
 -- Demand 3 over any calls on any instance: the calls as steps of the allocator, and what is claimed of them.
-use Prim.Native.Nat.{ℕ, _+_, _%_, _<_}
+use Prim.Native.Nat.{ℕ, _+_, _%_, _≤_, _<_}
+use mathlib.Core.Bool.{true, false, _&&_}
 use mathlib.Core.Path.{_≡_}
 use mathlib.Core.Logic.{_⊎_}
 use mathlib.Core.List.{List, [], _∷_, _++_}
-use mathlib.Core.Option.{none, some}
+use mathlib.Core.Option.{Option, none, some}
+use lib.ListN.{length}
+use Rattle.rules.specs.Numbers.{maxIno}
+use Rattle.rules.specs.Utf8.{wellFormed}
+use Rattle.rules.specs.Path.{rooted, tooLong}
 use Rattle.rules.specs.Round.{goingRound}
-use Rattle.rules.specs.Instance.{Instance, counterOf, heldIn}
-use Rattle.rules.specs.Outcome.{Outcome}
-use Rattle.rules.specs.Mount.{Request, allocation}
+use Rattle.rules.specs.Instance.{Instance, counterOf, heldIn, tagOf}
+use Rattle.rules.specs.Outcome.{mounted, Outcome}
+use Rattle.rules.specs.Mount.{Request, noRoom, allocation, mountRule}
 use Rattle.rules.specs.Calls.{Call, mount, restore, rule}
 use Rattle.rules.specs.Laps.{Step, visitsOf, total, lastFound, Laps}
 
@@ -46,6 +51,17 @@ pub record Keeps (i : Instance) (o : Outcome) : Type 0 where
   pub visits : o .visits ≡ []
   pub found : o .found ≡ none
   pub counter : counterOf (o .after) ≡ counterOf i
+
+-- the mount made its allocation; done, the index found is the one answered, and its slot holds the request's tag (R75, R76, R82, R83, R85)
+pub record Allocates (i : Instance) (r : Request) (o : Outcome) : Type 0 where
+  pub moves : Moves i (mount r) o r
+  pub answered : o .code ≡ 0 → (k : ℕ) × (t : Option ℕ) × (o .found ≡ some k) × (o .answer ≡ mounted k t)
+  pub holds : o .code ≡ 0 → (k : ℕ) → o .found ≡ some k → k < length (i .indexes .slots) → tagOf (o .after) k ≡ some (r .tag)
+
+-- every mount that rows 1 to 4 let pass (R68 to R71)
+abbrev pub EveryMount : Type 0
+EveryMount = (i : Instance) (r : Request) → tooLong (r .path) ≡ false → wellFormed (r .path) ≡ true → r .largest ≤ maxIno
+    → (rooted (r .path) && noRoom i (r .path)) ≡ false → Allocates i r (mountRule i r)
 
 -- no call but an allocation, and a done state restore, moves the counter or visits an index (R89)
 abbrev pub OnlyMounts : Type 0

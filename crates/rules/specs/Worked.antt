@@ -8,7 +8,6 @@ use Rattle.rules.specs.Numbers.{indexes}
 use Rattle.rules.specs.Bytes.{ascii}
 use Rattle.rules.specs.Instance.{Slot, Instance, withIndexes, emptySlot, heldBy, counterOf}
 use Rattle.rules.specs.Create.{newInstance}
-use Rattle.rules.specs.Session.{replyTo}
 use Rattle.rules.specs.Whole.{lineEnd, session}
 
 -- an instance of n nodes: no option bits, no mapping, nodes kept (R137)
@@ -71,40 +70,12 @@ cases =
     ∷ record { from = plain 1; said = ("mount /a 7 1 1000" ↝ "6 0 0") ∷ ("mount / 7 1 1000" ↝ "0 1 1") ∷ []; counter = 2 }
     ∷ []
 
--- ---- what the rules say to the lines, and what the table says
+-- ---- what a session writes for the lines, and what the table says
 
--- the answers, the last first, and the counter at the end
+-- what is written, and the counter at the end
 pub record Result : Type 0 where
-  pub answers : List (List ℕ)
+  pub text : List ℕ
   pub counter : ℕ
-
--- what the rules answer to the lines, one after another
-unfoldable pub said : Instance → List Said → List (List ℕ) → Result
-said i [] before = record { answers = before; counter = counterOf i }
-said i (s ∷ ss) before =
-    let r = replyTo i (ascii (s .line)) in
-    said (r .instance) ss (r .text ∷ before)
-
--- what the table answers to them
-unfoldable pub wanted : List Said → List (List ℕ) → List (List ℕ)
-wanted [] before = before
-wanted (s ∷ ss) before = wanted ss (ascii (s .answer) ∷ before)
-
--- of every case by the rules
-unfoldable pub results : List Case → List Result
-results [] = []
-results (c ∷ cs) = said (c .from) (c .said) [] ∷ results cs
-
--- of every case by the table
-unfoldable pub expected : List Case → List Result
-expected [] = []
-expected (c ∷ cs) = record { answers = wanted (c .said) []; counter = c .counter } ∷ expected cs
-
--- every line is answered as the table says, and the counter ends where it says (R166)
-abbrev pub Worked : Type 0
-Worked = results cases ≡ expected cases
-
--- ---- the same lines of each case as one input
 
 -- the lines, each with its end
 unfoldable pub input : List Said → List ℕ
@@ -116,16 +87,18 @@ unfoldable pub output : List Said → List ℕ
 output [] = []
 output (s ∷ ss) = ascii (s .answer) ++ (lineEnd ∷ output ss)
 
--- of every case, what a session writes
-unfoldable pub writes : List Case → List (List ℕ)
-writes [] = []
-writes (c ∷ cs) = session (c .from) (input (c .said)) .text ∷ writes cs
+-- of every case by the rules: its lines as one input
+unfoldable pub results : List Case → List Result
+results [] = []
+results (c ∷ cs) =
+    let r = session (c .from) (input (c .said)) in
+    record { text = r .text; counter = counterOf (r .instance) } ∷ results cs
 
--- and what the table says
-unfoldable pub outputs : List Case → List (List ℕ)
-outputs [] = []
-outputs (c ∷ cs) = output (c .said) ∷ outputs cs
+-- of every case by the table
+unfoldable pub expected : List Case → List Result
+expected [] = []
+expected (c ∷ cs) = record { text = output (c .said); counter = c .counter } ∷ expected cs
 
--- every case, read as one input, writes what the table says (R137, R151, R166)
-abbrev pub WorkedWhole : Type 0
-WorkedWhole = writes cases ≡ outputs cases
+-- every line is answered as the table says, and the counter ends where it says (R137, R151, R166)
+abbrev pub Worked : Type 0
+Worked = results cases ≡ expected cases

@@ -3,14 +3,14 @@ use mathlib.Core.Path.{_≡_, refl, sym, ap, _∙_, subst}
 use mathlib.Core.Bool.{true}
 use mathlib.Core.List.{List, [], _∷_}
 use mathlib.Core.Option.{none, some}
-use Prim.Native.Nat.{ℕ, _+_, _%_, _<_}
+use Prim.Native.Nat.{ℕ, _+_}
 use Rattle.rules.specs.Instance.{Instance}
 use Rattle.rules.specs.Outcome.{Outcome, count}
 use Rattle.rules.specs.Mount.{Request, mountRule, restoreMountRule}
 use Rattle.rules.specs.Unmount.{unmountRule}
 use Rattle.rules.specs.Restore.{restoreRule}
 use Rattle.rules.specs.Calls.{Call, mount, restore-mount, umount, restore, rule}
-use Rattle.rules.specs.Laps.{total, lastFound, Laps}
+use Rattle.rules.specs.Laps.{total, lastFound, LapsBy, Laps}
 use Rattle.rules.specs.Trace.{Unrestored, stepsOf}
 use Rattle.rules.proofs.Trace.{laps}
 use Rattle.tables.specs.View.{view}
@@ -40,12 +40,7 @@ laps-of-bytes s a l bytes k f ss r u last =
     let z : Laps (stepsOf (rule (view (s .before)) (s .call) .after) (callsOf ss)) =
     laps (view (s .before)) (counter-in (s .before) bytes) (s .call) k f (callsOf ss) (subst (λ i. Unrestored i (callsOf ss)) e u) (subst (λ i. lastFound none (stepsOf i (callsOf ss)) ≡ some k) e last) in
     let y : Laps (stepsOf (view (s .after)) (callsOf ss)) = subst (λ i. Laps (stepsOf i (callsOf ss))) (sym e) z in
-    let t : counts ss ≡ total (stepsOf (view (s .after)) (callsOf ss)) = same-total ss (s .after) (a .keeps l) r in
-    record {
-      positive = subst (λ n. 0 < n) (sym t) (y .positive);
-      whole = ap (λ n. n % 256) t ∙ y .whole;
-      fair = y .fair;
-    }
+    subst (λ n. LapsBy n (stepsOf (view (s .after)) (callsOf ss))) (sym (same-total ss (s .after) (a .keeps l) r)) y
 
 -- ---- the steps of the calls
 

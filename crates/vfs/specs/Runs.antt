@@ -1,12 +1,12 @@
 -- Demand 3 of the bytes: steps that the contracts allow, each on what the last one left, and what is claimed of the counts in their answers.
-use Prim.Native.Nat.{ℕ, _+_, _%_, _<_}
+use Prim.Native.Nat.{ℕ, _+_}
 use mathlib.Core.Bool.{true}
 use mathlib.Core.List.{List, [], _∷_}
 use mathlib.Core.Option.{none, some}
 use mathlib.Core.Path.{_≡_}
 use Rattle.rules.specs.Bytes.{Bytes}
 use Rattle.rules.specs.Calls.{Call, rule}
-use Rattle.rules.specs.Laps.{lastFound, Met}
+use Rattle.rules.specs.Laps.{lastFound, LapsBy}
 use Rattle.rules.specs.Trace.{Unrestored, stepsOf}
 use Rattle.tables.specs.View.{view}
 use Rattle.tables.specs.Rule.{laid}
@@ -40,13 +40,8 @@ unfoldable pub counts : List Step → ℕ
 counts [] = 0
 counts (s ∷ ss) = s .told .count + counts ss
 
--- the sum (R87), and every other index (R88)
-pub record LapsOf (mem : List ℕ) (ss : List Step) : Type 0 where
-  pub positive : 0 < counts ss
-  pub whole : counts ss % 256 ≡ 0
-  pub fair : (j : ℕ) → 0 < j → j < 256 → Met j (stepsOf (view mem) (callsOf ss))
-
 -- from any bytes that keep the layout rule: a step handed k out, and the last of the steps after it hands k out again (R87, R88)
 abbrev pub EveryLapOfBytes : Type 0
 EveryLapOfBytes = (s : Step) → Allowed s → laid (s .before) ≡ true → Bytes (s .before) → (k : ℕ) → rule (view (s .before)) (s .call) .found ≡ some k
-    → (ss : List Step) → Run (s .after) ss → Unrestored (view (s .after)) (callsOf ss) → lastFound none (stepsOf (view (s .after)) (callsOf ss)) ≡ some k → LapsOf (s .after) ss
+    → (ss : List Step) → Run (s .after) ss → Unrestored (view (s .after)) (callsOf ss) → lastFound none (stepsOf (view (s .after)) (callsOf ss)) ≡ some k
+    → LapsBy (counts ss) (stepsOf (view (s .after)) (callsOf ss))
