@@ -10,7 +10,7 @@ use Rattle.rules.specs.Numbers.{maxIno, INVAL, INODE, BADINDEX}
 use Rattle.rules.specs.Path.{rooted}
 use Rattle.rules.specs.Instance.{Instance}
 use Rattle.rules.specs.Outcome.{Outcome, refused, firstOf}
-use Rattle.rules.specs.Mount.{Request, restoreMountRule}
+use Rattle.rules.specs.Mount.{Request, restoreAs, restoreMountRule}
 use Rattle.tables.specs.View.{view}
 use Rattle.tables.specs.Call.{toldBy, Does}
 use Rattle.vfs.specs.Mounting.{requestOf, Follows}
@@ -60,11 +60,11 @@ module _ (mem path : List ℕ) (k : ℕ) (b : Backend) where
         top = le-ltb maxIno (b .max) low
 
         pub no-slash-back : not r ≡ true → Gives Inval mem
-        unfolding restoredTold restoreMountRule firstOf stopped
+        unfolding restoredTold restoreMountRule restoreAs firstOf stopped
         no-slash-back e = let z : rooted path ≡ false = sym re ∙ not-true r e in refusal Inval INVAL (rw (p .fits, p .formed, held, top, z)) refl (rw (p .fits, p .formed, held, top, z))
 
         pub slash-back : not r ≡ false → (v : Restored) (after : List ℕ) → Follows (restoredRule (view mem) k Q) (restoredMem k Q mem) (restoredTold v) after → Gives v after
-        unfolding restoreMountRule restoreMem firstOf stopped
+        unfolding restoreMountRule restoreAs restoreMem firstOf stopped
         slash-back e v after w =
             let at : rooted path ≡ true = sym re ∙ not-false r e in
             does mem F (restoredTold v) after (restoreMem k Q mem) (restoredRule (view mem) k Q) (p .laid) (rw (p .fits, p .formed, held, top, at)) (w .told) (w .bytes ∙ sym (rw (p .laid, p .fits, p .formed, held, top, at))) (w .stands) (w .keeps)
