@@ -4,9 +4,10 @@
     python3 tools/draw.py            writes each picture anew
     python3 tools/draw.py --check    writes nothing; says which picture is not what its text and crates.txt give
 
-A text has a line for each thing: a word, then its parts between `|`. `#` begins a line that is not drawn. Each picture has a
-ground of its own, so that it can be read on a light page and on a dark one.
-Exit status 0 if all is well, 1 if a picture is stale or a crate has no line, or a line no crate."""
+A text has a line for each thing: a word, then its parts between `|`. `#` begins a line that is not drawn. Each picture is 900
+wide, with letters that can be read at that width, and has a ground of its own, so that it can be read on a light page and on a dark one.
+Exit status 0 if all is well. 1 if a picture is stale, a crate has no line or no place, a line no crate, words do not fit into
+their box, or a crate rests on one that stands in a group above it, where no arrow can go."""
 import glob
 import math
 import os
@@ -14,8 +15,15 @@ import sys
 
 ROOT = os.path.dirname(os.path.dirname(os.path.abspath(__file__)))
 FONT = "font-family='Helvetica, Arial, sans-serif'"
-GROUND, INK, SOFT, LINE = "#fbfaf5", "#1d2733", "#4d5b6a", "#8a97a5"
-FILLS = {"believed": "#ffe3a3", "inner": "#dbe7f3", "call": "#cfeccf", "program": "#eadcf5", "kit": "#f6d3c6", "host": "#f6d3c6"}
+WIDTH, MARGIN = 900, 16
+GROUND, INK, SOFT, LINE, THICK = "#fbfaf5", "#1d2733", "#46535f", "#5d6b79", "#8fa0b1"
+GREEN, YELLOW, SALMON = "#cfeccf", "#ffdf94", "#f6c6b4"
+FILLS = {"blank": "#ffffff", "outside": SALMON, "read": YELLOW, "call": GREEN, "inner": "#d8e6f5", "program": "#e8d9f4"}
+EDGES = {"outside": "#d9623b", "read": "#e0a100"}
+RED, BLUE, BROWN = "#b3261e", "#1f5fa8", "#6b5900"
+
+
+# ---- pieces of a picture
 
 
 def escaped(s):
@@ -27,20 +35,37 @@ def text(x, y, words, size=13, anchor="middle", fill=INK, weight="normal"):
             f"{FONT}>{escaped(words)}</text>")
 
 
-def box(x, y, w, h, fill, dash=""):
-    return (f"<rect x='{x:.1f}' y='{y:.1f}' width='{w:.1f}' height='{h:.1f}' rx='6' fill='{fill}' stroke='{SOFT}' "
-            f"stroke-width='1'{dash and f' stroke-dasharray={chr(39)}{dash}{chr(39)}'}/>")
+def room_for(words, size, bold=False):
+    """How wide the words are, about, in a wide font."""
+    ems = sum(0.3 if c in "ijl.,:;'| " else 0.41 if c in "frt()-" else 0.9 if c in "mwMW" else 0.7 if c.isupper() else 0.61 for c in words)
+    return size * ems * (1.14 if bold else 1)
 
 
-def path(d, stroke=LINE, width=1.3, fill="none"):
-    return f"<path d='{d}' fill='{fill}' stroke='{stroke}' stroke-width='{width}'/>"
+def box(x, y, w, h, fill, stroke=SOFT, round_=6):
+    return (f"<rect x='{x:.1f}' y='{y:.1f}' width='{w:.1f}' height='{h:.1f}' rx='{round_}' fill='{fill}' stroke='{stroke}' "
+            f"stroke-width='1'/>")
 
 
-def picture(width, height, title, parts):
-    head = (f"<svg xmlns='http://www.w3.org/2000/svg' width='{width:.0f}' height='{height:.0f}' "
-            f"viewBox='0 0 {width:.0f} {height:.0f}' role='img'>")
-    ground = f"<rect width='{width:.0f}' height='{height:.0f}' rx='10' fill='{GROUND}'/>"
-    return "\n".join([head, f"<title>{escaped(title)}</title>", ground] + parts + ["</svg>", ""])
+def path(d, stroke=LINE, width=1.4, fill="none", dash=""):
+    broken = f" stroke-dasharray='{dash}'" if dash else ""
+    return f"<path d='{d}' fill='{fill}' stroke='{stroke}' stroke-width='{width}'{broken}/>"
+
+
+def head(x, y, u, v, size=7, fill=LINE):
+    """The head of an arrow that ends at a point and comes along (u, v)."""
+    a, b = x - size * u, y - size * v
+    half = size * 0.6
+    return path(f"M {x:.1f} {y:.1f} L {a - half * v:.1f} {b + half * u:.1f} L {a + half * v:.1f} {b - half * u:.1f} Z", fill, 0.5, fill)
+
+
+def picture(height, title, parts):
+    opening = f"<svg xmlns='http://www.w3.org/2000/svg' width='{WIDTH}' height='{height:.0f}' viewBox='0 0 {WIDTH} {height:.0f}' role='img'>"
+    ground = f"<rect width='{WIDTH}' height='{height:.0f}' rx='10' fill='{GROUND}'/>"
+    parts = [text(WIDTH / 2, 34, title, 20, weight="bold")] + parts
+    return "\n".join([opening, f"<title>{escaped(title)}</title>", ground] + parts + ["</svg>", ""])
+
+
+# ---- what is read
 
 
 def lines_of(name):
@@ -65,9 +90,6 @@ def dependencies():
     return {name: [d for d in deps if d in out] for name, deps in out.items()}
 
 
-# ---- crates in layers
-
-
 def reach(deps, name):
     """All that a crate rests on, at one remove or more."""
     out = set()
@@ -76,78 +98,113 @@ def reach(deps, name):
     return out
 
 
-def needed_edges(deps):
+def needed(deps):
     """Who rests on whom, without what follows from the others."""
     far = {n: set().union(*(reach(deps, d) for d in deps[n])) if deps[n] else set() for n in deps}
     return [(n, d) for n in deps for d in deps[n] if d not in far[n]]
 
 
-def depth(deps, name):
-    return 1 + max((depth(deps, d) for d in deps[name]), default=-1)
+# ---- crates in groups
 
 
-def chains(deps):
-    """The layers from below, with a place of their own for lines that pass through a layer; and the lines as lists of places."""
-    at = {n: depth(deps, n) for n in deps}
-    layers = [[n for n in deps if at[n] == k] for k in range(max(at.values()) + 1)]
-    lines = []
-    for top, low in needed_edges(deps):
-        line = [top]
-        for k in range(at[top] - 1, at[low], -1):
-            layers[k].append((top, low, k))
-            line.append((top, low, k))
-        lines.append(line + [low])
-    return layers, lines
+BOX_H, GAP, PAD, HEADING, BETWEEN, LANE = 44, 24, 12, 28, 24, 22
+NAME, WORDS = 14.5, 12.5
 
 
-def crossings(layers, lines):
-    place = {x: i for layer in layers for i, x in enumerate(layer)}
-    level = {x: k for k, layer in enumerate(layers) for x in layer}
-    pairs = {}
-    for line in lines:
-        for a, b in zip(line, line[1:]):
-            pairs.setdefault(level[a], []).append((place[a], place[b]))
-    return sum((a - c) * (b - d) < 0 for ps in pairs.values() for i, (a, b) in enumerate(ps) for c, d in ps[:i])
+class Place:
+    """A crate's box: its row and its place in the row, its left upper corner and its width."""
+
+    def __init__(self, row, column, x, y, w):
+        self.row, self.column, self.x, self.y, self.w = row, column, x, y, w
+
+    def clamp(self, x):
+        return min(max(x, self.x + 16), self.x + self.w - 16)
 
 
-def ordered(layers, lines):
-    """The layers, each in the order that its neighbours ask for; the best of a fixed number of passes."""
-    near = {}
-    for line in lines:
-        for a, b in zip(line, line[1:]):
-            near.setdefault(a, []).append(b)
-            near.setdefault(b, []).append(a)
-    level = {x: k for k, layer in enumerate(layers) for x in layer}
-    best = [list(layer) for layer in layers]
-    for turn in range(24):
-        down = turn % 2 == 0
-        for k in (range(len(layers)) if down else reversed(range(len(layers)))):
-            share = {x: i / max(1, len(layer) - 1) for layer in layers for i, x in enumerate(layer)}
+class Groups:
+    """The groups of the text, from above, with what crates.txt says of their crates."""
 
-            def middle(x):
-                ys = [share[y] for y in near.get(x, []) if (level[y] < k) == down]
-                return sum(ys) / len(ys) if ys else share[x]
+    def __init__(self, told):
+        self.deps, self.told = dependencies(), told
+        self.said = {p[0]: (p[1].split(), p[2]) for p in told["crate"]}
+        self.rows = [[row.split() for row in p[2:]] for p in told["group"]]
+        self.of = {n: i for i, rows in enumerate(self.rows) for row in rows for n in row}
+        below = {i: [] for i in range(len(self.rows))}
+        for n, ds in self.deps.items():
+            for d in ds:
+                a, b = self.of.get(n), self.of.get(d)
+                if a is not None and b is not None and a < b and b not in below[a]:
+                    below[a].append(b)
+        self.thick = needed(below)
 
-            layers[k] = sorted(layers[k], key=lambda x: (middle(x), str(x)))
-        if crossings(layers, lines) < crossings(best, lines):
-            best = [list(layer) for layer in layers]
-    return best
+    def thin(self, i):
+        """The arrows within a group."""
+        inside = {n: [d for d in self.deps[n] if self.of.get(d) == i] for n in self.deps if self.of.get(n) == i}
+        return needed(inside)
+
+    def faults(self):
+        placed = [n for rows in self.rows for row in rows for n in row]
+        out = [f"no line for the crate {n}" for n in self.deps if n not in self.said]
+        out += [f"the crate {n} stands in no group" for n in self.deps if n not in placed]
+        out += [f"{n} is named here and is no crate" for n in dict.fromkeys([*self.said, *placed]) if n not in self.deps]
+        out += [f"the crate {n} stands in two places" for n in dict.fromkeys(placed) if placed.count(n) > 1]
+        out += [f"{n} rests on {d}, whose group stands above its own" for n in self.deps for d in self.deps[n]
+                if n in self.of and d in self.of and self.of[n] > self.of[d]]
+        return out
 
 
-BOX_W, BOX_H, GAP, PASS, ROW = 184, 46, 20, 14, 104
+def brick_width(groups, row, room):
+    most = (room - GAP * (len(row) - 1)) / len(row)
+    said = [(n, groups.said.get(n, ([], ""))[1]) for n in row]
+    want = max(max(room_for(n, NAME, True), room_for(w, WORDS)) for n, w in said) + 26
+    return min(most, max(want, 176)), want <= most
 
 
-def spread(layers, width):
-    """The middle of each place, each layer spread over the width."""
-    out = {}
-    for layer in layers:
-        size = [BOX_W if isinstance(x, str) else PASS for x in layer]
-        room = (width - sum(size)) / (len(layer) + 1)
-        x = room
-        for place, w in zip(layer, size):
-            out[place] = x + w / 2
-            x += w + room
-    return out
+def place_rows(groups, i, left, top, room):
+    """The boxes of a group, where its last line ends, and the crates whose words do not fit."""
+    rows, out, tight = groups.rows[i], {}, []
+    thin = groups.thin(i)
+    y = top + HEADING
+    for k, row in enumerate(rows):
+        w, fits = brick_width(groups, row, room)
+        tight += [] if fits else row
+        gap = min((room - w * len(row)) / max(1, len(row) - 1), 56)
+        x = left + (room - w * len(row) - gap * (len(row) - 1)) / 2
+        for j, n in enumerate(row):
+            out[n] = Place(k, j, x + j * (w + gap), y, w)
+        arcs = [abs(row.index(a) - row.index(b)) for a, b in thin if a in row and b in row]
+        y += BOX_H + (8 + 4 * max(arcs) if max(arcs, default=0) > 1 else 0) + (26 if k < len(rows) - 1 else 0)
+    return out, y + PAD, tight
+
+
+def crossing_gap(places, row, x):
+    """The place between the boxes of a row that is nearest to x, and the row's upper end."""
+    boxes = sorted((p for p in places.values() if p.row == row), key=lambda p: p.x)
+    free = [boxes[0].x - 9] + [(p.x + p.w + q.x) / 2 for p, q in zip(boxes, boxes[1:])] + [boxes[-1].x + boxes[-1].w + 9]
+    return min(free, key=lambda f: abs(f - x)), boxes[0].y
+
+
+def thin_arrow(places, a, b):
+    """An arrow from a box to one that it rests on: straight to a neighbour, below its row to another, else between the rows."""
+    p, q = places[a], places[b]
+    if p.row == q.row:
+        right = 1 if q.x > p.x else -1
+        if abs(p.column - q.column) == 1:
+            x, u, y = (p.x + p.w, q.x, p.y + BOX_H / 2) if right == 1 else (p.x, q.x + q.w, p.y + BOX_H / 2)
+            return [path(f"M {x:.1f} {y:.1f} L {u - 3 * right:.1f} {y:.1f}"), head(u, y, right, 0)]
+        x, u, y = p.x + p.w / 2 + 12 * right, q.x + q.w / 2 - 12 * right, p.y + BOX_H
+        dip = y + 14 + 5 * abs(p.column - q.column)
+        return [path(f"M {x:.1f} {y:.1f} C {x:.1f} {dip:.1f} {u:.1f} {dip:.1f} {u:.1f} {y + 4:.1f}"), head(u, y, 0, -1)]
+    down = 1 if q.row > p.row else -1
+    low, high = max(p.x, q.x), min(p.x + p.w, q.x + q.w)
+    near = abs(p.row - q.row) == 1 and high - low > 32
+    x = (low + high) / 2 if near else p.clamp(p.x + p.w / 2 + 0.2 * (q.x + q.w / 2 - p.x - p.w / 2))
+    points = [(x, p.y + (BOX_H if down == 1 else 0))]
+    for row in range(p.row + down, q.row, down):
+        x, y = crossing_gap(places, row, x)
+        points += [(x, y), (x, y + BOX_H)][::down]
+    end = (q.clamp(x), q.y + (0 if down == 1 else BOX_H))
+    return [curve(points + [(end[0], end[1] - 4 * down)]), head(*end, 0, down)]
 
 
 def curve(points):
@@ -158,51 +215,92 @@ def curve(points):
     return path(d)
 
 
-def named_box(x, y, w, name, words, fill):
-    return [box(x - w / 2, y, w, BOX_H, fill), text(x, y + 19, name, 14, weight="bold"), text(x, y + 36, words, 11.5, fill=SOFT)]
+def edged(x, y, w, h, colours):
+    """A box in its colour, and on its left the edge in another, if it has one."""
+    edge = [f"<rect x='{x + 1:.1f}' y='{y + 1:.1f}' width='9' height='{h - 2:.1f}' rx='4' fill='{EDGES[c]}'/>" for c in colours[1:]]
+    return [box(x, y, w, h, FILLS[colours[0]])] + edge
 
 
-def draw_layers(told):
-    deps = dependencies()
-    words = {p[0]: (p[1], p[2]) for p in told["crate"]}
-    layers, lines = chains(deps)
-    layers = ordered(layers, lines)
-    most = max(sum(BOX_W if isinstance(x, str) else PASS for x in layer) + GAP * (len(layer) + 1) for layer in layers)
-    width, left = most, 20
-    top = 64 + 26 * ((len(told["kind"]) + 1) // 2) + 24
-    hosts = [p for p in told["over"]]
-    first = top + ROW
-    y_of = {x: first + ROW * (len(layers) - 1 - k) for k, layer in enumerate(layers) for x in layer}
-    x_of = {x: left + v for x, v in spread(layers, width).items()}
-    parts = [text(left + width / 2, 38, told["title"][0][0], 20, weight="bold")]
-    for i, (kind, means) in enumerate(told["kind"]):
-        x, y = left + 20 + (i % 2) * width / 2, 58 + 26 * (i // 2)
-        parts += [box(x, y, 26, 16, FILLS[kind]), text(x + 36, y + 13, means, 13, "start")]
-    for line in lines:
-        points = [(x_of[line[0]], y_of[line[0]] + BOX_H)]
-        for p in line[1:-1]:
-            points += [(x_of[p], y_of[p]), (x_of[p], y_of[p] + BOX_H)]
-        parts.append(curve(points + [(x_of[line[-1]], y_of[line[-1]])]))
-    for name, where, means in hosts:
-        at = where.split()[-1]
-        x = min(max(x_of[at], left + 230), left + width - 230)
-        parts.append(curve([(x, top + BOX_H), (x_of[at], y_of[at])]))
-        parts += named_box(x, top, 440, name, means, FILLS["host"])
-    for name in deps:
-        kind, means = words.get(name, ("call", ""))
-        parts += named_box(x_of[name], y_of[name], BOX_W, name, means, FILLS[kind])
-    bottom = first + ROW * (len(layers) - 1) + BOX_H + 22
-    parts += [box(left + 10, bottom, width - 20, 34, FILLS["kit"]), text(left + width / 2, bottom + 22, told["under"][0][0], 14, weight="bold")]
-    note = "A line goes from a crate to one that it rests on; what follows from other lines is left out. Every crate also rests on the kit."
-    parts.append(text(left + width / 2, bottom + 56, note, 12, fill=SOFT))
-    faults = [f"no line for the crate {n}" for n in deps if n not in words] + [f"a line for {n}, which is no crate" for n in words if n not in deps]
-    return picture(width + 2 * left, bottom + 74, told["title"][0][0], parts), faults
+def crate_box(groups, name, p):
+    colours, words = groups.said.get(name, (["call"], ""))
+    x = p.x + p.w / 2 + (4 if len(colours) > 1 else 0)
+    return edged(p.x, p.y, p.w, BOX_H, colours) + [text(x, p.y + 18, name, NAME, weight="bold"), text(x, p.y + 36, words, WORDS)]
+
+
+def legend(told):
+    """What the colours mean, in two columns; and where it ends."""
+    parts, top = [], 54
+    entries = [([kind], means) for kind, means in told["kind"]] + [(["blank", kind], means) for kind, means in told["edge"]]
+    half = (len(entries) + 1) // 2
+    for i, (colours, means) in enumerate(entries):
+        x, y = MARGIN + (i // half) * 430, top + 26 * (i % half)
+        parts += edged(x, y, 30, 18, colours) + [text(x + 40, y + 14, means, 13, "start")]
+    return parts, top + 26 * half + 12
+
+
+def draw_host(told, left, right, span, called):
+    """The host beside the group of the crate that it calls, and its arrow into it."""
+    _, name, *words = told["host"][0]
+    x, y = called.x + called.w, called.y + BOX_H / 2
+    parts = [box(left, span[0], right - left, span[1] - span[0], SALMON), text((left + right) / 2, span[0] + 20, name, NAME, weight="bold")]
+    parts += [text((left + right) / 2, span[0] + 39 + 17 * i, w, WORDS) for i, w in enumerate(words)]
+    return parts + [path(f"M {left:.1f} {y:.1f} L {x + 3:.1f} {y:.1f}", LINE, 2), head(x, y, -1, 0, 8)]
+
+
+def thick_arrows(groups, spans, left, lanes):
+    """Arrows between groups: in the space between two neighbours, and on the left past others."""
+    parts, lane = [], 0
+    for a, b in groups.thick + [(len(spans) - 2, len(spans) - 1)]:
+        bottom, low = spans[a][1], spans[b][0]
+        if b == a + 1:
+            parts += [path(f"M {left + 56} {bottom:.1f} L {left + 56} {low - 8:.1f}", THICK, 6), head(left + 56, low - 1, 0, 1, 13, THICK)]
+            continue
+        x, y, v = left - LANE * (lanes - lane) + 8, bottom - 20 - 14 * lane, low + 18 + 14 * lane
+        parts += [path(f"M {left} {y:.1f} L {x} {y:.1f} L {x} {v:.1f} L {left - 8} {v:.1f}", THICK, 6), head(left - 1, v, 1, 0, 13, THICK)]
+        lane += 1
+    return parts
+
+
+def draw_group(groups, i, left, right, top):
+    """A group's frame, heading, arrows and boxes; where it ends; where its boxes stand; and the crates whose words do not fit."""
+    name, words = groups.told["group"][i][:2]
+    places, bottom, tight = place_rows(groups, i, left + PAD, top, right - left - 2 * PAD)
+    parts = [box(left, top, right - left, bottom - top, "#ffffff", LINE, 9), text(left + PAD, top + 19, name, NAME, "start", BLUE, "bold")]
+    parts.append(text(left + PAD + 14 + room_for(name, NAME, True), top + 19, words, WORDS, "start", SOFT))
+    for a, b in groups.thin(i):
+        parts += thin_arrow(places, a, b)
+    for n, p in places.items():
+        parts += crate_box(groups, n, p)
+    return parts, bottom, places, tight
+
+
+def draw_bands(told):
+    groups = Groups(told)
+    faults = groups.faults()
+    lanes = sum(b > a + 1 for a, b in groups.thick)
+    left, right, spans = MARGIN + LANE * lanes, WIDTH - MARGIN, []
+    parts, y = legend(told)
+    for i in range(len(groups.rows)):
+        called = groups.of.get(told["host"][0][0]) == i
+        end = right - 250 if called else right
+        drawn, bottom, places, tight = draw_group(groups, i, left, end, y)
+        parts += drawn
+        faults += [f"the words of {n} do not fit into its box" for n in tight]
+        if called:
+            parts += draw_host(told, end + 34, right, (y, bottom), places[told["host"][0][0]])
+        spans.append((y, bottom))
+        y = bottom + BETWEEN
+    spans.append((y, y + BOX_H))
+    name, words = told["kit"][0]
+    parts += [box(left, y, right - left, BOX_H, SALMON, LINE, 9), text(left + PAD, y + 27, name, NAME, "start", weight="bold")]
+    parts.append(text(left + PAD + 14 + room_for(name, NAME, True), y + 27, words, WORDS, "start"))
+    parts += thick_arrows(groups, spans, left, lanes)
+    for i, (words,) in enumerate(told["note"]):
+        parts.append(text(left, y + BOX_H + 24 + 19 * i, words, WORDS, "start", SOFT))
+    return picture(y + BOX_H + 24 + 19 * len(told["note"]) + 4, told["title"][0][0], parts), faults
 
 
 # ---- the ring
-
-
-RED, BLUE, BROWN = "#b3261e", "#1f5fa8", "#6b5900"
 
 
 class Ring:
@@ -224,65 +322,85 @@ class Ring:
         x, y = self.at(k, far)
         side = "end" if shift < 0 else "start"
         parts = [self.line(k, 14, far, fill, 1.2, shift)]
-        for i, part in enumerate(words.split(": ")):
-            parts.append(text(x + shift + (-6 if shift < 0 else 6), y + 4 + 16 * i, part, 13, side, fill, "bold" if i == 0 else "normal"))
+        for i, part in enumerate(words.split(" / ")):
+            parts.append(text(x + shift + (-6 if shift < 0 else 6), y + 4 + 17 * i, part, 13.5, side, fill, "bold" if i == 0 else "normal"))
         return parts
 
-    def arrow(self, first, last, out, stroke):
-        a, b = self.at(first, out), self.at(last - 4, out)
-        tip, one, other = self.at(last, out), self.at(last - 5, out - 8), self.at(last - 5, out + 8)
-        way = f"M {a[0]:.1f} {a[1]:.1f} A {self.r + out} {self.r + out} 0 0 1 {b[0]:.1f} {b[1]:.1f}"
-        head = f"M {tip[0]:.1f} {tip[1]:.1f} L {one[0]:.1f} {one[1]:.1f} L {other[0]:.1f} {other[1]:.1f} Z"
-        return [path(way, stroke, 2), path(head, stroke, 1, stroke)]
+    def way(self, first, last, out, dash=""):
+        """An arrow along the circle."""
+        (x, y), (u, v), tip = self.at(first, out), self.at(last - 4, out), self.at(last, out)
+        r, far = self.r + out, 1 if last - first > self.n / 2 else 0
+        a = 2 * math.pi * (last - 2) / self.n
+        return [path(f"M {x:.1f} {y:.1f} A {r} {r} 0 {far} 1 {u:.1f} {v:.1f}", BLUE, 2.2, dash=dash),
+                head(*tip, math.cos(a), math.sin(a), 12, BLUE)]
 
 
 def draw_ring(told):
-    ring = Ring(int(told["places"][0][0]), 250, 300, 165)
-    held = [int(k) for k in told["held"][0][0].split()]
+    ring = Ring(int(told["places"][0][0]), 222, 262, 128)
+    used = [int(k) for k in told["used"][0][0].split()]
     kept, skipped, counter = (int(told[w][0][0]) for w in ("kept", "skipped", "counter"))
-    parts = [text(540, 38, told["title"][0][0], 20, weight="bold")]
-    for k in range(ring.n):
-        parts.append(ring.line(k, -6, 6, BROWN if k in held else LINE, 3.4 if k in held else 1.1))
-    for k in range(0, ring.n, 32):
-        x, y = ring.at(k, -22)
-        parts.append(text(x, y + 4, str(k), 11, fill=SOFT))
-    for k, stroke, width in ((skipped, SOFT, 2), (kept, RED, 4), (counter, BLUE, 4)):
-        parts.append(ring.line(k, -10, 14, stroke, width))
-    parts += ring.label(skipped, 54, -30, told["skipped"][0][1], SOFT)
-    parts += ring.label(kept, 40, 26, told["kept"][0][1], RED)
-    parts += ring.label(held[len(held) // 2], 26, 1, told["held"][0][1], BROWN)
-    parts += ring.label(counter, 30, 1, told["counter"][0][1], BLUE)
-    parts += ring.arrow(8, counter, -44, BLUE)
-    for i, words in enumerate(told["inside"]):
-        parts.append(text(ring.cx, ring.cy - 4 + 20 * i, words[0], 15, fill=SOFT))
-    return picture(1080, 560 + 20 * len(told["below"]), told["title"][0][0], parts + beside(told)), []
-
-
-def beside(told):
-    """The life of the kept number: what was said of it at each sum, and the scale of the sums."""
-    x, y, w = 640, 84, 410
     parts = []
-    for i, (words,) in enumerate(told["beside"]):
-        parts.append(text(x, y + 19 * i, words, 12.5, "start"))
-    y += 19 * len(told["beside"]) + 12
-    fills = ["#cfeccf", "#ffe3a3", "#f6d3c6"]
-    for i, (when, what, then) in enumerate(told["stage"]):
-        top = y + 92 * i
-        parts += [box(x, top, w, 80, fills[i % 3]), text(x + 12, top + 22, f"sum {when}", 14, "start", weight="bold")]
-        parts += [text(x + 12, top + 43, what, 12.5, "start"), text(x + 12, top + 63, then, 12.5, "start", RED if i == 2 else INK)]
-    y += 92 * len(told["stage"]) + 22
-    marks = told["scale"][0]
-    step = w / (len(marks) - 1)
-    parts += [box(x, y, step, 14, fills[1]), box(x + step, y, w - step, 14, fills[2])]
-    for i, m in enumerate(marks):
-        parts.append(text(x + step * i, y + 32, m, 12))
-    parts += [text(x + step / 2, y + 32, "not again", 12, fill=SOFT), text(x + step * 1.5, y + 32, "may be another's", 12, fill=SOFT)]
-    for i, (words,) in enumerate(told["below"]):
-        parts.append(text(540, 548 + 20 * i, words, 13))
-    return parts
+    for k in range(ring.n):
+        parts.append(ring.line(k, -6, 6, BROWN if k in used else THICK, 3 if k in used else 1.1))
+    for k, stroke, width in ((skipped, SOFT, 2.4), (kept, RED, 4), (counter, BLUE, 4)):
+        parts.append(ring.line(k, -10, 14, stroke, width))
+    parts += ring.label(skipped, 46, -26, told["skipped"][0][1], SOFT)
+    parts += ring.label(kept, 46, 24, told["kept"][0][1], RED)
+    parts += ring.label(used[len(used) // 2], 24, 1, told["used"][0][1], BROWN)
+    parts += ring.label(counter, 30, 1, told["counter"][0][1], BLUE)
+    parts += ring.way(kept + 4, counter, -26) + ring.way(counter + 3, ring.n + kept, -26, "5 5")
+    for i, (words,) in enumerate(told["inside"]):
+        parts.append(text(ring.cx, ring.cy - 14 + 20 * i, words, 14, fill=BLUE))
+    cards, y = draw_cards(told, 486, 66)
+    lives, y = draw_lives(told, y + 44)
+    notes = [(words, "bold") for (words,) in told["above-all"]] + [(words, "normal") for (words,) in told["below"]]
+    for i, (words, weight) in enumerate(notes):
+        parts.append(text(MARGIN + 8, y + 26 + 20 * i, words, 13, "start", weight=weight))
+    return picture(y + 26 + 20 * len(notes) + 2, told["title"][0][0], parts + cards + lives), []
 
 
-DRAWN = {"layers": draw_layers, "ring": draw_ring}
+def draw_cards(told, x, y):
+    """The kept number in its two parts, and what it leads to at each sum; and where they end."""
+    index, rest, one, other, words = told["number"][0]
+    parts = [text(x, y + 12, words, 14, "start", weight="bold")]
+    for at, w, n, what, fill in ((x, 120, index, one, RED), (x + 120, 180, rest, other, INK)):
+        parts += [box(at, y + 24, w, 28, "#ffffff", round_=0), text(at + w / 2, y + 43, n, 15, fill=fill, weight="bold")]
+        parts.append(text(at + w / 2, y + 68, what, 12.5, fill=fill))
+    y += 96
+    for i, words in enumerate(told["sum"][0]):
+        parts.append(text(x, y + 17 * i, words, 13, "start"))
+    y += 17 * len(told["sum"][0]) + 2
+    for fill, (when, *words) in zip((GREEN, YELLOW, SALMON), told["stage"]):
+        parts += [box(x, y, WIDTH - MARGIN - x, 68, fill), text(x + 12, y + 20, f"sum {when}", 14, "start", weight="bold")]
+        parts += [text(x + 12, y + 40 + 18 * k, w, 13, "start", RED if fill == SALMON and k else INK) for k, w in enumerate(words)]
+        y += 76
+    return parts, y
+
+
+def draw_lives(told, y):
+    """Lives of a mount along the sum: what its number leads to, part after part; and where they end."""
+    heading, unit, *marks = told["scale"][0]
+    left, right, last = 226, WIDTH - MARGIN - 24, int(marks[-1])
+    at = [left + (right - left) * int(m) / last for m in marks]
+    parts = [text(MARGIN + 8, y, heading, 14, "start", weight="bold")]
+    y += 24
+    parts += [text(left - 12, y, unit, 13, "end")] + [text(x, y, m, 13, weight="bold") for x, m in zip(at, marks)]
+    top, bottom = y + 8, y + 12 + 38 * len(told["life"])
+    parts += [path(f"M {x:.1f} {top:.1f} L {x:.1f} {bottom:.1f}", INK, 1.2, dash="3 3") for x in at]
+    for i, (name, *stages) in enumerate(told["life"]):
+        y, begin = top + 4 + 38 * i, left
+        parts.append(text(left - 12, y + 19, name, 13, "end", weight="bold"))
+        for stage, fill in zip(stages, (GREEN, YELLOW, SALMON)):
+            words, _, till = stage.rpartition(" ") if stage[-1].isdigit() and fill != SALMON else (stage, "", str(last))
+            end = left + (right - left) * int(till) / last
+            parts.append(box(begin, y, end - begin, 28, fill, round_=0))
+            if room_for(words, 13) < end - begin:
+                parts.append(text((begin + end) / 2, y + 19, words, 13, fill=RED if fill == SALMON else INK))
+            begin = end
+    return parts, bottom
+
+
+DRAWN = {"bands": draw_bands, "ring": draw_ring}
 
 
 def main():
