@@ -10,10 +10,9 @@ use Rattle.rules.specs.Fields.{bytesOf, fields}
 use Rattle.rules.specs.Listing.{padding, recordOf, direntRow, dirent}
 use Rattle.rules.proofs.Fields.{length-read, length-bytesOf, bytes-back, get-fits, read-add, read-all}
 use Rattle.le.specs.Mem.{read, get, write, put, Bytes}
-use Rattle.le.proofs.Lens.{length-write, write-append, get-one, read-apart, read-part, read-within, read-same, read-filled}
+use Rattle.le.proofs.Lens.{length-write, zeros, write-append, get-one, read-apart, read-part, read-within, read-same, read-filled}
 use Rattle.dirent.specs.Lays.{Lays}
 use Rattle.dirent.proofs.Records.{frontOf, front-length, entry-length, lays-in, lays-out}
-use Rattle.dirent.proofs.Short.{zeros}
 
 -- ---- words copied: the first of n stands there, and i are done
 

@@ -2,16 +2,16 @@
 use mathlib.Core.Path.{_≡_, refl, sym, ap, _∙_}
 use mathlib.Core.List.{List, [], _∷_, _++_, append-nil}
 use Prim.Native.Nat.{ℕ, _+_, _-_, _%_, _^_, _≤_, _<_}
-use native.Mathlib.Nat.{add-zero, zero-add}
+use native.Mathlib.Nat.{zero-add}
 use native.Mathlib.Omega.{arith}
 use native.Mathlib.Decide.{decLe}
 use lib.ListN.{length, drop, replicate, length-append, length-replicate}
 use borrow.Author.Tests.{le-leb, lt-leb}
-use Rattle.rules.specs.Fields.{bytesOf, fields}
+use Rattle.rules.specs.Fields.{fields}
 use Rattle.rules.specs.Listing.{padding, recordOf, direntRow, dirent, laid}
 use Rattle.rules.proofs.Fields.{length-read, total, fields-length}
 use Rattle.le.specs.Mem.{read, write, put}
-use Rattle.le.proofs.Lens.{length-write, write-append, put-write, bytes-add}
+use Rattle.le.proofs.Lens.{length-write, write-append, put-write, low-bytes}
 use Rattle.le.proofs.Writes.{write-over, write-front, write-read}
 use Rattle.dirent.specs.Lays.{Lays}
 
@@ -166,11 +166,6 @@ module _ (d f g p : List ℕ) (n : ℕ) (e : List ℕ) (l : length f ≡ length 
       lays-out d (length d) (recordOf g p) 0 e (record { short = omega (arith, as-long, v .short); count = refl; bytes = v .bytes })
 
 -- the fixed part of an entry, field by field
-
--- the lowest k bytes of a number
-pub low-bytes : (k v : ℕ) → bytesOf k (v % 256 ^ k) ≡ bytesOf k v
-unfolding bytesOf
-low-bytes k v = sym (append-nil (bytesOf k (v % 256 ^ k))) ∙ sym (bytes-add k 0 v) ∙ ap (λ (n : ℕ). bytesOf n v) (add-zero k)
 
 row-on : (w v : ℕ) (ws vs d : List ℕ) (at : ℕ) (e : List ℕ) → e ≡ put w d at v → write e (at + w) (fields ws vs) ≡ write d at (fields (w ∷ ws) (v ∷ vs))
 unfolding fields

@@ -1,19 +1,17 @@
 -- An entry whose name has 1 to 7 bytes and comes as a number: name and zeros are the bytes of one number. Assumes nothing.
-use mathlib.Core.Path.{_≡_, refl, sym, ap, ap₂, _∙_}
+use mathlib.Core.Path.{_≡_, refl, sym, ap, _∙_}
 use mathlib.Core.List.{List, [], _∷_, _++_}
-use Prim.Native.Nat.{ℕ, zero, suc, _+_, _-_, _*_, _/_, _%_, _^_, _≤_, _<_}
-use native.Mathlib.Nat.{mod-lt, div-eq-of-lt, one-le-pow}
+use Prim.Native.Nat.{ℕ, _+_, _-_, _*_, _%_, _^_, _≤_, _<_}
 use native.Mathlib.Omega.{arith}
 use lib.ListN.{length, replicate}
-use lib.Dec.{lit<}
 use lib.Pow.{pow-pos, shl-exact}
 use Rattle.rules.specs.Fields.{bytesOf, fields}
 use Rattle.rules.specs.Listing.{padding, recordOf, direntRow, dirent}
 use Rattle.rules.proofs.Fields.{bytes-bits, length-bytesOf}
 use Rattle.le.specs.Mem.{write, put}
-use Rattle.le.proofs.Lens.{bytes-add, write-append}
+use Rattle.le.proofs.Lens.{masked, write-append}
 use Rattle.dirent.specs.Lays.{Lays}
-use Rattle.dirent.proofs.Records.{frontOf, front-length, entry-length, lays-in, lays-out, low-bytes}
+use Rattle.dirent.proofs.Records.{frontOf, front-length, entry-length, lays-in, lays-out}
 
 -- ---- the mask
 
@@ -30,21 +28,6 @@ above l h =
     let s : 1 * 2 ^ (8 * l) % 2 ^ 64 ≡ 1 * 2 ^ (8 * l) = shl-exact 1 (8 * l) 64 (omega arith) (omega arith) in
     let t : 2 ^ (8 * l) ≡ 256 ^ l = bytes-bits l in
     omega arith
-
--- ---- the bytes of a number that is masked
-
-pub zeros : (k : ℕ) → bytesOf k 0 ≡ replicate k 0
-unfolding bytesOf
-zeros zero = refl
-zeros (suc k) = ap (λ (bs : List ℕ). 0 ∷ bs) (zeros k)
-
-masked : (l k w : ℕ) → bytesOf (l + k) (w % 256 ^ l) ≡ bytesOf l w ++ replicate k 0
-masked l k w =
-    let v : ℕ = w % 256 ^ l in
-    let p : 1 ≤ 256 ^ l = one-le-pow l 256 (lit< tt) in
-    let z : v / 256 ^ l ≡ 0 = div-eq-of-lt (mod-lt w p) in
-    bytes-add l k v
-    ∙ ap₂ (λ (a b : List ℕ). a ++ b) (low-bytes l v ∙ low-bytes l w) (ap (bytesOf k) z ∙ zeros k)
 
 -- ---- the entry
 

@@ -7,7 +7,7 @@ ghost use Rattle.dirent.specs.Lays.{Lays};
 
 pub mod inner;
 
-// The name length stands in four bytes (R64).
+// One more than the largest number of four bytes, in which the name length stands (R64).
 const TWO_32: usize = 4294967296;
 
 // Lays the name behind a fixed part of `front` bytes, which is the caller's to write, and zeros to a multiple of 8: the

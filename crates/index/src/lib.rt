@@ -60,7 +60,7 @@ pub fn new() -> FsIndexes
 fn is_free(used: &[u8], index: u8) -> bool
     ensures { λ r. ⌜ r ≡ freeOf (heldIn (now (used .entry))) index ⌝ }
 {
-    if index == 0 {
+    if index == rules::VFS_PSEUDO_FS_IDX {
         return false;
     }
     let at = index as usize;

@@ -1,6 +1,5 @@
--- Conversion by cases; index and number of a converted number are what went in, so that conversion is injective; and the answer is known by its meaning.
--- Assumes nothing.
-use mathlib.Core.Path.{_≡_, refl, sym, ap, _∙_}
+-- Conversion by cases; index and number of a converted number are what went in, so that conversion is injective. Assumes nothing.
+use mathlib.Core.Path.{_≡_, sym, _∙_}
 use mathlib.Core.Option.{some}
 use Prim.Native.Nat.{ℕ, _+_, _*_, _^_, _<_, _≤_}
 use native.Mathlib.Omega.{arith}
@@ -8,7 +7,6 @@ use borrow.Author.Tests.{lt-ltb, le-ltb, ne-eqb}
 use Rattle.rules.specs.Numbers.{maxIno, full, convert, indexOf, numberOf}
 use Rattle.inode.specs.Converted.{fullOf, codeOf, Converts}
 use Rattle.inode.specs.declared.VfsInode.{VfsInode}
-use Rattle.inode.specs.declared.Converted.{Converted}
 use Rattle.inode.specs.declared.Converted.the-variants.{Full, Inode}
 
 -- ---- by cases
@@ -43,25 +41,9 @@ module _ (i n x : ℕ) (some-number : 1 ≤ n) (small : n ≤ maxIno) (e : conve
   unfolding numberOf
   number-back = let s = spelt in omega arith
 
-  -- a converted number fits 64 bits
-  pub fits : i < 256 → x < 2 ^ 64
-  fits h = let s = spelt in omega arith
-
 pub convert-injective : (i n j m : ℕ) → 1 ≤ n → n ≤ maxIno → 1 ≤ m → m ≤ maxIno → convert i n ≡ convert j m → (i ≡ j) × (n ≡ m)
 convert-injective i n j m a b c d e =
     let x = i * 2 ^ 56 + n in
     let p : convert i n ≡ some x = joins i n b (λ z. omega arith) in
     let q : convert j m ≡ some x = sym e ∙ p in
     (sym (index-back i n x a b p) ∙ index-back j m x c d q, sym (number-back i n x a b p) ∙ number-back j m x c d q)
-
--- ---- the answer by its meaning
-
-pub fullOf-injective : (a b : Converted) → fullOf a ≡ fullOf b → a ≡ b
-unfolding fullOf
-fullOf-injective (Full x) (Full y) e = ap (λ (n : ℕ). Full (record { 0 = n })) (cc)
-fullOf-injective (Full x) Inode e = cc
-fullOf-injective Inode (Full y) e = cc
-fullOf-injective Inode Inode e = refl
-
-pub one-answer : (i n : ℕ) (a b : Converted) → Converts i n a → Converts i n b → a ≡ b
-one-answer i n a b p q = fullOf-injective a b (p .full ∙ sym (q .full))

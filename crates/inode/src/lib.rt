@@ -46,7 +46,7 @@ pub fn convert_inode(index: u8, number: BackendNumber) -> Converted
 pub fn pseudo_inode(number: NodeNumber) -> Converted
     ensures { λ r. ⌜ Converts 0 (number .0) r ⌝ }
 {
-    joined(0, number.0)
+    joined(rules::VFS_PSEUDO_FS_IDX, number.0)
 }
 
 impl VfsInode {
@@ -68,6 +68,6 @@ impl VfsInode {
     pub fn is_pseudo_fs(self) -> bool
         ensures { λ r. ⌜ r ≡ eqb (indexOf (self .0)) 0 ⌝ }
     {
-        self.fs_idx() == 0
+        self.fs_idx() == rules::VFS_PSEUDO_FS_IDX
     }
 }

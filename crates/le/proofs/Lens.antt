@@ -1,16 +1,16 @@
 -- Reading after writing, over every width, place and memory. Assumes nothing.
-use mathlib.Core.Path.{_≡_, refl, sym, ap, _∙_}
+use mathlib.Core.Path.{_≡_, refl, sym, ap, ap₂, _∙_}
 use mathlib.Core.Logic.{_⊎_, inl, inr}
-use mathlib.Core.List.{List, [], _∷_, _++_}
+use mathlib.Core.List.{List, [], _∷_, _++_, append-nil}
 use Prim.Native.Nat.{ℕ, zero, suc, _+_, _*_, _/_, _%_, _^_, _≤_, _<_}
-use native.Mathlib.Nat.{add-zero, zero-add, suc-add, pow-succ', mod-lt, div-one, mod-eq-of-lt, div-div-eq-div-mul}
+use native.Mathlib.Nat.{add-zero, zero-add, add-comm, mul-comm, suc-add, pow-succ', mod-lt, div-one, mod-eq-of-lt, div-eq-of-lt, one-le-pow, div-div-eq-div-mul}
 use native.Mathlib.Omega.{arith}
 use lib.ListN.{length, getD, set, take, replicate, length-set, length-replicate, getD-replicate}
 use lib.Seq.{getD-set-same, getD-set-other}
 use lib.Arith.{digits-mod, digits-div}
 use lib.Dec.{lit<}
-use Rattle.rules.proofs.Fields.{length-read, length-bytesOf, value-append, value-bytes, mod-step, read-add, read-slice, read-all}
-use Rattle.le.specs.Mem.{read, value, bytesOf, get, write, put}
+use Rattle.rules.proofs.Fields.{length-read, length-bytesOf, value-append, value-bytes, mod-step, read-add, read-slice, read-all, get-fits}
+use Rattle.le.specs.Mem.{read, value, bytesOf, get, write, put, Bytes}
 
 -- ---- lengths are kept
 
@@ -34,6 +34,25 @@ bytes-add (suc k) j v =
     let rest : v / 256 ^ suc k ≡ v / 256 / 256 ^ k = ap (λ (n : ℕ). v / n) (pow-succ' 256 k) ∙ sym (div-div-eq-div-mul v 256 (256 ^ k)) in
     rw (suc-add, low, high, rest, bytes-add k j (v / 256))
 
+-- the lowest k bytes of a number
+pub low-bytes : (k v : ℕ) → bytesOf k (v % 256 ^ k) ≡ bytesOf k v
+unfolding bytesOf
+low-bytes k v = sym (append-nil (bytesOf k (v % 256 ^ k))) ∙ sym (bytes-add k 0 v) ∙ ap (λ (n : ℕ). bytesOf n v) (add-zero k)
+
+pub zeros : (k : ℕ) → bytesOf k 0 ≡ replicate k 0
+unfolding bytesOf
+zeros zero = refl
+zeros (suc k) = ap (λ (bs : List ℕ). 0 ∷ bs) (zeros k)
+
+-- the lowest l bytes of a number, and zeros behind them
+pub masked : (l k w : ℕ) → bytesOf (l + k) (w % 256 ^ l) ≡ bytesOf l w ++ replicate k 0
+masked l k w =
+    let v : ℕ = w % 256 ^ l in
+    let p : 1 ≤ 256 ^ l = one-le-pow l 256 (lit< tt) in
+    let z : v / 256 ^ l ≡ 0 = div-eq-of-lt (mod-lt w p) in
+    bytes-add l k v
+    ∙ ap₂ (λ (a b : List ℕ). a ++ b) (low-bytes l v ∙ low-bytes l w) (ap (bytesOf k) z ∙ zeros k)
+
 pub write-append : (mem : List ℕ) (at : ℕ) (a b : List ℕ) → write mem at (a ++ b) ≡ write (write mem at a) (at + length a) b
 unfolding write
 write-append mem at [] b = rw add-zero
@@ -46,6 +65,14 @@ unfolding get
 get-add k j mem at =
     ap value (read-add mem at k j) ∙ value-append (read mem at k) (read mem (at + k) j)
     ∙ ap (λ (n : ℕ). value (read mem at k) + 256 ^ n * value (read mem (at + k) j)) (length-read mem at k)
+
+-- and they are parted again: the k bytes are what is left over, the j bytes what goes in whole
+pub get-split : (k j : ℕ) (mem : List ℕ) (at : ℕ) → Bytes mem → (get (k + j) mem at % 256 ^ k ≡ get k mem at) × (get (k + j) mem at / 256 ^ k ≡ get j mem (at + k))
+get-split k j mem at b =
+    let whole : get (k + j) mem at ≡ get j mem (at + k) * 256 ^ k + get k mem at =
+    get-add k j mem at ∙ add-comm (get k mem at) (256 ^ k * get j mem (at + k)) ∙ ap (λ (n : ℕ). n + get k mem at) (mul-comm (256 ^ k) (get j mem (at + k))) in
+    let fits : get k mem at < 256 ^ k = get-fits k mem at b in
+    (ap (λ (n : ℕ). n % 256 ^ k) whole ∙ digits-mod (get j mem (at + k)) fits, ap (λ (n : ℕ). n / 256 ^ k) whole ∙ digits-div (get j mem (at + k)) fits)
 
 pub put-add : (k j : ℕ) (mem : List ℕ) (at v : ℕ) → put (k + j) mem at v ≡ put j (put k mem at (v % 256 ^ k)) (at + k) (v / 256 ^ k)
 unfolding put

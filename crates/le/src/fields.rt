@@ -23,7 +23,7 @@ fn join64(low: u32, high: u32) -> u64
     low as u64 + high as u64 * 4294967296
 }
 
-// The byte at a place.
+// The byte at a place (R167).
 pub fn get_u8(s: &[u8], at: usize) -> u8
     requires { ⌜ at + 1 ≤ length (now s) ⌝ }
     ensures { λ r. ⌜ r ≡ get 1 (now (s .entry)) at ⌝ }
@@ -31,7 +31,7 @@ pub fn get_u8(s: &[u8], at: usize) -> u8
     s[at]
 }
 
-// The number of two bytes at a place.
+// The number of two bytes at a place (R167).
 pub fn get_u16(s: &[u8], at: usize) -> u16
     requires { ⌜ at + 2 ≤ length (now s) ⌝ }
     ensures { λ r. ⌜ r ≡ get 2 (now (s .entry)) at ⌝ }
@@ -39,7 +39,7 @@ pub fn get_u16(s: &[u8], at: usize) -> u16
     join16(get_u8(s, at), get_u8(s, at + 1))
 }
 
-// The number of four bytes at a place.
+// The number of four bytes at a place (R167).
 pub fn get_u32(s: &[u8], at: usize) -> u32
     requires { ⌜ at + 4 ≤ length (now s) ⌝ }
     ensures { λ r. ⌜ r ≡ get 4 (now (s .entry)) at ⌝ }
@@ -47,7 +47,7 @@ pub fn get_u32(s: &[u8], at: usize) -> u32
     join32(get_u16(s, at), get_u16(s, at + 2))
 }
 
-// The number of eight bytes at a place.
+// The number of eight bytes at a place (R167).
 pub fn get_u64(s: &[u8], at: usize) -> u64
     requires { ⌜ at + 8 ≤ length (now s) ⌝ }
     ensures { λ r. ⌜ r ≡ get 8 (now (s .entry)) at ⌝ }
@@ -55,7 +55,7 @@ pub fn get_u64(s: &[u8], at: usize) -> u64
     join64(get_u32(s, at), get_u32(s, at + 4))
 }
 
-// Writes a byte at a place.
+// Writes a byte at a place (R167).
 pub fn put_u8(s: &mut [u8], at: usize, v: u8)
     requires { ⌜ at + 1 ≤ length (now s) ⌝ }
     ensures { λ _. ⌜ now (s .exit) ≡ put 1 (now (s .entry)) at v ⌝ }
@@ -63,7 +63,7 @@ pub fn put_u8(s: &mut [u8], at: usize, v: u8)
     s[at] = v;
 }
 
-// Writes a number of two bytes at a place.
+// Writes a number of two bytes at a place (R167).
 pub fn put_u16(s: &mut [u8], at: usize, v: u16)
     requires { ⌜ at + 2 ≤ length (now s) ⌝ }
     ensures { λ _. ⌜ now (s .exit) ≡ put 2 (now (s .entry)) at v ⌝ }
@@ -72,7 +72,7 @@ pub fn put_u16(s: &mut [u8], at: usize, v: u16)
     put_u8(s, at + 1, (v / 256) as u8);
 }
 
-// Writes a number of four bytes at a place.
+// Writes a number of four bytes at a place (R167).
 pub fn put_u32(s: &mut [u8], at: usize, v: u32)
     requires { ⌜ at + 4 ≤ length (now s) ⌝ }
     ensures { λ _. ⌜ now (s .exit) ≡ put 4 (now (s .entry)) at v ⌝ }
@@ -81,7 +81,7 @@ pub fn put_u32(s: &mut [u8], at: usize, v: u32)
     put_u16(s, at + 2, (v / 65536) as u16);
 }
 
-// Writes a number of eight bytes at a place.
+// Writes a number of eight bytes at a place (R167).
 pub fn put_u64(s: &mut [u8], at: usize, v: u64)
     requires { ⌜ at + 8 ≤ length (now s) ⌝ }
     ensures { λ _. ⌜ now (s .exit) ≡ put 8 (now (s .entry)) at v ⌝ }

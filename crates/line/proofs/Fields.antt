@@ -8,11 +8,11 @@ use lib.Seq.{drop-drop}
 use Rattle.rules.specs.Session.{space, words}
 use Rattle.path.specs.Steps.{between, partLength}
 use Rattle.path.proofs.Places.{here}
-use Rattle.path.proofs.Words.{end-from, end-within, end-length, behind, first-part}
+use Rattle.path.proofs.Words.{end-in, end-length, behind, first-part}
 use Rattle.line.specs.Fields.{fieldEnd, Ends}
 
 pub ends : (s : List ℕ) (i r : ℕ) → r ≡ fieldEnd s i → i ≤ length s → Ends s i r
-ends s i r e h = record { end = e; from = rw e (end-from space s i); within = rw e (end-within space s i h) }
+ends s i r e h = let w = end-in space s i e h in record { end = e; from = w .0; within = w .1 }
 
 behind-more : (s : List ℕ) (i : ℕ) → i < length s → behind space (drop i s) ≡ words (drop (i + 1) s)
 behind-more s i h = rw (here s i h)

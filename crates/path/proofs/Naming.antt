@@ -1,5 +1,5 @@
 -- Laws of `.`, `..`, a byte in a name, and the component check. Assumes nothing.
-use mathlib.Core.Path.{_≡_, refl}
+use mathlib.Core.Path.{_≡_}
 use mathlib.Core.Bool.{true, false, _&&_, and-true, or-true}
 use mathlib.Core.List.{List, [], _∷_}
 use Prim.Native.Nat.{ℕ, _+_, _≤_, _<_}
@@ -10,9 +10,7 @@ use borrow.Author.Tests.{eq-eqb, ne-eqb}
 use Rattle.rules.specs.Bytes.{same, holds}
 use Rattle.rules.specs.Numbers.{DONE, INVAL}
 use Rattle.rules.specs.Path.{slash, dot, isDot, isDots, badComponent}
-use Rattle.path.specs.declared.names.Checked.{Checked}
-use Rattle.path.specs.declared.names.Checked.the-variants.{Done, Inval}
-use Rattle.path.specs.Checks.{code, checkCode}
+use Rattle.path.specs.Checks.{checkCode}
 use Rattle.path.proofs.Places.{here}
 
 -- ---- `.` and `..`, by the tests of their bytes
@@ -52,13 +50,6 @@ module _ (b : ℕ) (s : List ℕ) (i : ℕ) where
   holds-more h e = rw (here s i h, ne-eqb (getD s i 0) b e)
 
 -- ---- the check
-
--- no two answers have one number
-pub code-apart : (x y : Checked) → code x ≡ code y → x ≡ y
-code-apart Done Done e = refl
-code-apart Done Inval e = absurd (omega arith)
-code-apart Inval Done e = absurd (omega arith)
-code-apart Inval Inval e = refl
 
 module _ (p : List ℕ) where
   pub bad-dot : isDot p ≡ true → INVAL ≡ checkCode p

@@ -1,6 +1,6 @@
 -- Stepping from place to place with the next component gives the components of the path. Assumes nothing.
 use mathlib.Core.Path.{_≡_, refl, ap, sym, _∙_, subst}
-use mathlib.Core.Bool.{Bool, true, false, cond}
+use mathlib.Core.Bool.{Bool, true, false, cond, true≢false, false≢true}
 use mathlib.Core.List.{List, [], _∷_}
 use Prim.Native.Nat.{ℕ, zero, suc, _+_, _-_, _≤_, _<_}
 use native.Mathlib.Nat.{add-zero}
@@ -14,9 +14,9 @@ use Rattle.rules.specs.Path.{slash, dot, isDot, isDots, Part, name, parent, ont
 use Rattle.rules.proofs.Same.{some-byte, same-eq, same-length}
 use Rattle.path.specs.declared.components.Component.{Component}
 use Rattle.path.specs.declared.components.Component.the-variants.{Name, Parent, End}
-use Rattle.path.specs.Steps.{part, between, wordLength, wordEnd, stepOf, nextAt, onStep, stepped}
+use Rattle.path.specs.Steps.{part, between, stepOf, nextAt, onStep, stepped}
 use Rattle.path.proofs.Places.{here, between-length}
-use Rattle.path.proofs.Words.{part-nil, part-cons, part-le, end-here, end-length, behind, first-part}
+use Rattle.path.proofs.Words.{part-nil, part-cons, part-le, end-here, end-length, behind, first-part, wordLength, wordEnd}
 
 -- ---- the components: what the first part is, and those from its end on
 
@@ -112,6 +112,11 @@ module _ (s : List ℕ) (at end : ℕ) (h : (at ≤ end) × (end ≤ length s)) 
 
 -- ---- one turn of the code: from the place i, by the part that stands there
 
+abbrev pub isEnd : Component → Bool
+isEnd End = true
+isEnd (Parent start next) = false
+isEnd (Name start n next) = false
+
 module _ (s : List ℕ) (i : ℕ) (h : i < length s) where
   dropped : stepOf (sorted i (word s i) []) ≡ End → components i (drop i s) ≡ components (i + 1) (drop (i + 1) s)
   unfolding stepOf sorted same
@@ -122,8 +127,8 @@ module _ (s : List ℕ) (i : ℕ) (h : i < length s) where
       go (single q) =
           let n : wordLength (drop i s) ≡ 1 = sym (word-length s i) ∙ ap length q in
           part-first s i ∙ rw (q, n)
-      go (double q) = absurd (let z : _≡_ {A = ℕ} 0 1 = cc (rw q at e) in omega arith)
-      go (plain l p) = absurd (let z : _≡_ {A = ℕ} 0 1 = cc (rw (p i []) at e) in omega arith)
+      go (double q) = absurd (false≢true (ap isEnd (rw q at e)))
+      go (plain l p) = absurd (false≢true (ap isEnd (rw (p i []) at e)))
 
   found : (stepOf (sorted i (word s i) []) ≡ End → ⊥) → nextAt s i ≡ stepOf (sorted i (word s i) [])
   unfolding nextAt stepOf sorted same
@@ -143,11 +148,8 @@ module _ (s : List ℕ) (i : ℕ) (h : i < length s) where
     unfolding nextAt
     next-dropped e = ap stepOf (dropped (sym told ∙ e))
 
-    pub next-parent : {a n : ℕ} → c ≡ Parent a n → nextAt s i ≡ c
-    next-parent e = found (λ z. absurd (let f : _≡_ {A = ℕ} 0 1 = cc told in omega arith)) ∙ sym told
-
-    pub next-name : {a l n : ℕ} → c ≡ Name a l n → nextAt s i ≡ c
-    next-name e = found (λ z. absurd (let f : _≡_ {A = ℕ} 0 1 = cc told in omega arith)) ∙ sym told
+    pub next-kept : {q : Component} → c ≡ q → isEnd q ≡ false → nextAt s i ≡ c
+    next-kept e n = found (λ z. true≢false (ap isEnd (sym (told ∙ z) ∙ e) ∙ n)) ∙ sym told
 
 pub next-slash : (s : List ℕ) (i : ℕ) → i < length s → getD s i 0 ≡ slash → nextAt s i ≡ nextAt s (i + 1)
 unfolding nextAt

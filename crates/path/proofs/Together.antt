@@ -13,7 +13,7 @@ use Rattle.rules.proofs.Tests.{or-neither}
 use Rattle.scan.specs.First.{anyOf}
 use Rattle.scan.proofs.First.{any-add, any-part, any-last, any-more}
 use Rattle.path.specs.Steps.{partEnd}
-use Rattle.path.specs.Together.{isByte}
+use Rattle.path.specs.Byte.{isByte}
 use Rattle.path.proofs.Words.{end-more}
 use Rattle.path.proofs.Naming.{holds-end, holds-here, holds-more}
 

@@ -10,7 +10,7 @@ use lib.Seq.{drop-drop, length-take-le}
 use lib.Dec.{eqb, ltb}
 use borrow.Author.Tests.{eq-eqb, ne-eqb, lt-ltb, le-ltb}
 use Rattle.rules.specs.Path.{slash, onto, partsBy, pieces, rooted, anyLonger, tooLong}
-use Rattle.path.specs.Steps.{firstLength, partLength, partEnd, wordLength, wordEnd}
+use Rattle.path.specs.Steps.{firstLength, partLength, partEnd}
 use Rattle.path.proofs.Places.{here}
 
 module _ (sep : ℕ) where
@@ -50,13 +50,10 @@ module _ (sep : ℕ) where
     unfolding partEnd
     end-more h e = rw (here s i h, part-cons (getD s i 0) (drop (i + 1) s), ne-eqb (getD s i 0) sep e) (omega arith)
 
-    pub end-from : i ≤ partEnd sep s i
+    -- the end is not before the place, and lies in the string
+    pub end-in : {end : ℕ} → end ≡ partEnd sep s i → i ≤ length s → (i ≤ end) × (end ≤ length s)
     unfolding partEnd
-    end-from = omega arith
-
-    pub end-within : i ≤ length s → partEnd sep s i ≤ length s
-    unfolding partEnd
-    end-within h = omega (arith, part-le (drop i s), length-drop i s)
+    end-in e h = omega (arith, e, part-le (drop i s), length-drop i s)
 
     pub end-length : partEnd sep s i - i ≡ partLength sep (drop i s)
     unfolding partEnd
@@ -84,6 +81,14 @@ module _ (sep : ℕ) where
           → cond t ([] ∷ partsBy sep s) (onto b (partsBy sep s)) ≡ take (cond t 0 (suc (partLength sep s))) (b ∷ s) ∷ behind (drop (cond t 0 (suc (partLength sep s))) (b ∷ s))
       go true e = refl
       go false e = rw e
+
+-- ---- a part between slashes
+
+abbrev pub wordLength : List ℕ → ℕ
+wordLength s = partLength slash s
+
+abbrev pub wordEnd : List ℕ → ℕ → ℕ
+wordEnd s at = partEnd slash s at
 
 -- ---- the leading slash
 

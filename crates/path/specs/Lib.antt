@@ -1,4 +1,4 @@
 -- What the contracts cite besides the rules.
 pub mod Steps
 pub mod Checks
-pub mod Together
+pub mod Byte

@@ -2,7 +2,7 @@
 use Prim.Native.Nat.{ℕ, zero, suc, _+_, _-_}
 use mathlib.Core.List.{List, [], _∷_}
 use lib.ListN.{length, take, drop}
-use Rattle.rules.specs.Path.{slash, Part, name, parent, partsBy, components}
+use Rattle.rules.specs.Path.{Part, name, parent, partsBy, components}
 use Rattle.path.specs.declared.components.Component.{Component}
 use Rattle.path.specs.declared.components.Component.the-variants.{Name, Parent, End}
 
@@ -26,14 +26,6 @@ partLength sep s = firstLength (partsBy sep s)
 -- where the part that stands at a place ends
 unfoldable pub partEnd : ℕ → List ℕ → ℕ → ℕ
 partEnd sep s at = at + partLength sep (drop at s)
-
--- of a part between slashes
-abbrev pub wordLength : List ℕ → ℕ
-wordLength s = partLength slash s
-
--- and where it ends
-abbrev pub wordEnd : List ℕ → ℕ → ℕ
-wordEnd path at = partEnd slash path at
 
 -- the first of these components, with the place where it starts and the place behind it
 unfoldable pub stepOf : List Part → Component

@@ -7,7 +7,7 @@ ghost use mathlib.Core.List.{[]};
 ghost use Prim.Native.Nat.{_≤_};
 ghost use lib.ListN.{length};
 ghost use Rattle.rules.specs.Path.{sorted, rooted};
-ghost use Rattle.path.specs.Steps.{between, partEnd, wordEnd, stepOf, nextAt};
+ghost use Rattle.path.specs.Steps.{between, partEnd, stepOf, nextAt};
 
 // A component with the place where it starts and the place behind it, or the end of the path (R37).
 pub enum Component {
@@ -64,13 +64,6 @@ pub fn part_end(s: &[u8], at: usize, sep: u8) -> usize
     part_by_one(s, i, sep)
 }
 
-// Where the bytes from `at` on meet the next slash, or end (R37).
-pub fn word_end(path: &[u8], at: usize) -> usize
-    ensures { λ r. ⌜ r ≡ wordEnd (now (path .entry)) at ⌝ }
-{
-    part_end(path, at, b'/')
-}
-
 // The component that the part from `at` to `end` is; End where it is dropped.
 fn component_at(path: &[u8], at: usize, end: usize) -> Component
     requires { ⌜ (at ≤ end) × (end ≤ length (now path)) ⌝ }
@@ -106,7 +99,7 @@ pub fn next_component(path: &[u8], at: usize) -> Component
             i += 1;
             continue;
         }
-        let end = word_end(path, i);
+        let end = part_end(path, i, b'/');
         let c = component_at(path, i, end);
         match c {
             Component::End => i += 1,

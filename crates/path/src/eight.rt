@@ -1,11 +1,11 @@
-// Bytes of a slice looked at eight together, with no branch for each.
+// Bytes of a slice looked at eight together: all eight are looked at, with no way out between, so that a compiler may compare them side by side.
 ghost use mathlib.Core.Path.{_≡_};
 ghost use Prim.Native.Nat.{_+_, _≤_};
 ghost use lib.ListN.{length};
 ghost use Rattle.scan.specs.First.{anyOf};
-ghost use Rattle.path.specs.Together.{isByte};
+ghost use Rattle.path.specs.Byte.{isByte};
 
-// Whether one of the eight bytes at a place is b.
+// Whether one of the eight bytes at a place is b (R37, R57).
 pub fn any_byte(s: &[u8], at: usize, b: u8) -> bool
     requires { ⌜ at + 8 ≤ length (now s) ⌝ }
     ensures { λ r. ⌜ r ≡ anyOf (isByte b (now (s .entry))) at 8 ⌝ }

@@ -1,5 +1,5 @@
 // Paths as bytes: components, limits, and the check of one name.
 pub mod components;
-pub mod eight;
+mod eight;
 pub mod limits;
 pub mod names;

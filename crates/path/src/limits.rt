@@ -1,5 +1,5 @@
 // The limits of a mount path and of its parts (R40).
-use crate::components::word_end;
+use crate::components::part_end;
 ghost use mathlib.Core.Path.{_≡_};
 ghost use Rattle.rules.specs.Path.{tooLong};
 
@@ -12,7 +12,7 @@ pub fn is_too_long(path: &[u8]) -> bool
     }
     let mut i = 0;
     while i < path.len() {
-        let end = word_end(path, i);
+        let end = part_end(path, i, b'/');
         if rules::MAX_NAME < end - i {
             return true;
         }

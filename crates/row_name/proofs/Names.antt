@@ -1,15 +1,15 @@
 -- The name of a row, copied from its two cells. Assumes nothing.
 use mathlib.Core.Path.{_≡_, refl, sym, ap, _∙_}
 use mathlib.Core.List.{List, _∷_, _++_}
-use Prim.Native.Nat.{ℕ, zero, suc, _+_, _-_, _*_, _/_, _%_, _^_, _≤_, _<_, min}
+use Prim.Native.Nat.{ℕ, zero, suc, _+_, _-_, _/_, _%_, _≤_, _<_, min}
 use native.Mathlib.Nat.{suc-add}
 use native.Mathlib.Decide.{decLe}
 use native.Mathlib.Omega.{arith}
 use lib.ListN.{length, getD, take, length-append}
 use lib.Seq.{take-all}
-use Rattle.rules.proofs.Fields.{length-read, bytes-back, get-fits}
+use Rattle.rules.proofs.Fields.{length-read, bytes-back}
 use Rattle.le.specs.Mem.{read, bytesOf, get, write, Bytes}
-use Rattle.le.proofs.Lens.{get-one, get-add, take-read, write-append}
+use Rattle.le.proofs.Lens.{get-one, get-split, take-read, write-append}
 use Rattle.tables.specs.Table.{row}
 use Rattle.tables.specs.Layout.{lastAt, firstAt}
 use Rattle.tables.specs.View.{nameFrom, nodeFrom, nodeAt}
@@ -71,10 +71,8 @@ module _ (n : ℕ) (mem : List ℕ) (i : ℕ) where
     -- the cell's bytes: the lowest, and the seven above it
     apart : (v % 256 ≡ byte) × (bytesOf 7 (v / 256) ≡ read mem (lastAt n i + 1) 7)
     apart =
-        let one : v ≡ byte + 256 ^ 1 * get 7 mem (lastAt n i + 1) = e ∙ get-add 1 7 mem (lastAt n i) in
-        let few : byte < 256 ^ 1 = get-fits 1 mem (lastAt n i) b in
-        let high : v / 256 ≡ get 7 mem (lastAt n i + 1) = omega arith in
-        (omega arith, ap (bytesOf 7) high ∙ bytes-back 7 mem (lastAt n i + 1) b)
+        let s = get-split 1 7 mem (lastAt n i) b in
+        (ap (λ (k : ℕ). k % 256) e ∙ s .0, ap (λ (k : ℕ). bytesOf 7 (k / 256)) e ∙ ap (bytesOf 7) (s .1) ∙ bytes-back 7 mem (lastAt n i + 1) b)
 
     -- the lowest is the length
     cell-size : v % 256 ≡ length name

@@ -5,6 +5,9 @@ pub const VFS_MAX_INO: u64 = 72057594037927935;
 
 pub const NUMBERS: u64 = VFS_MAX_INO + 1;
 
+// The index of the tree itself (R11).
+pub const VFS_PSEUDO_FS_IDX: u8 = 0;
+
 pub const ROOT_ID: u64 = 1;
 
 pub const FIRST_NODE: u64 = 2;

@@ -1,5 +1,5 @@
 -- The last 56 bytes: what each test of `is_framed` says. Assumes nothing.
-use mathlib.Core.Path.{_≡_}
+use mathlib.Core.Path.{_≡_, ap, _∙_}
 use mathlib.Core.Bool.{true, false, and-true}
 use mathlib.Core.Logic.{⊎-elim}
 use mathlib.Core.List.{List}
@@ -14,7 +14,7 @@ use Rattle.rules.specs.Fields.{get}
 use Rattle.rules.specs.Saved.{optionsIn, trailerIn, offsetOf, nextOf, every}
 use Rattle.rules.proofs.Tests.{known, passed, fails}
 use Rattle.rules.proofs.Fields.{get-fits}
-use Rattle.le.proofs.Lens.{get-add}
+use Rattle.le.proofs.Lens.{get-add, get-split}
 use Rattle.saved.specs.Scan.{framed}
 
 module _ (b : List ℕ) where
@@ -29,9 +29,7 @@ module _ (b : List ℕ) where
   eight bytes =
       let e : t + 16 + 1 ≡ t + 17 = omega arith in
       let f : t + 17 + 1 ≡ t + 18 = omega arith in
-      let p : get 8 b (t + 16) ≡ get 1 b (t + 16) + 256 ^ 1 * get 7 b (t + 17) = rw e at (get-add 1 7 b (t + 16)) in
-      let q : get 7 b (t + 17) ≡ get 1 b (t + 17) + 256 ^ 1 * get 6 b (t + 18) = rw f at (get-add 1 6 b (t + 17)) in
-      omega (arith, get-fits 1 b (t + 16) bytes)
+      get-split 1 7 b (t + 16) bytes .1 ∙ ap (get 7 b) e ∙ get-add 1 6 b (t + 17) ∙ ap (λ (n : ℕ). get 1 b (t + 17) + 256 * get 6 b n) f
 
   four : get 4 b (o + 28) ≡ get 1 b (o + 28) + 256 * get 3 b (o + 29)
   four =

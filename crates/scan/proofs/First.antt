@@ -74,8 +74,8 @@ abbrev pub Left : (ℕ → Bool) → ℕ → ℕ → ℕ → Type 0
 Left f from n i = (i ≤ n) × (firstOf f from (n - from) ≡ firstOf f i (n - i))
 
 module _ (f : ℕ → Bool) (from n : ℕ) where
-  pub none-left : from ≤ n → Left f from n from
-  none-left h = (h, refl)
+  pub all-left : from ≤ n → Left f from n from
+  all-left h = (h, refl)
 
   pub here-left : (i : ℕ) → Left f from n i → i < n → f i ≡ true → i ≡ firstOf f from (n - from)
   unfolding firstOf
@@ -104,15 +104,6 @@ first-passes f P i (suc k) on p = go (f i) refl (λ q. first-passes f P (i + 1) 
     go true e r = p
     go false e r = r (on i (omega arith) e p)
 
-pub first-within : (f : ℕ → Bool) (i k : ℕ) → firstOf f i k ≤ i + k
-unfolding firstOf
-first-within f i zero = omega arith
-first-within f i (suc k) = go (f i) (first-within f (i + 1) k)
-  where
-    go : (b : Bool) → firstOf f (i + 1) k ≤ i + 1 + k → cond b i (firstOf f (i + 1) k) ≤ i + suc k
-    go true h = omega arith
-    go false h = omega (arith, h)
-
 pub first-finds : (f : ℕ → Bool) (i k : ℕ) → firstOf f i k < i + k → f (firstOf f i k) ≡ true
 unfolding firstOf
 first-finds f i zero h = absurd (omega arith)
@@ -135,7 +126,7 @@ first-after f i (suc k) = go (f i) (first-after f (i + 1) k)
 -- i is the first of the places before m: it leaves the first of all, and is that where it is one of them
 module _ (f : ℕ → Bool) (from m n i : ℕ) (e : i ≡ firstOf f from (m - from)) (h : from ≤ m) (l : m ≤ n) where
   pub part-left : Left f from n i
-  part-left = rw e (first-passes f (Left f from n) from (m - from) (λ j k no p. on-left f from n j p (omega arith) no) (none-left f from n (omega arith)))
+  part-left = rw e (first-passes f (Left f from n) from (m - from) (λ j k no p. on-left f from n j p (omega arith) no) (all-left f from n (omega arith)))
 
   pub part-found : i < m → i ≡ firstOf f from (n - from)
   part-found less =

@@ -9,15 +9,15 @@ use lib.ListN.{length}
 use lib.Arith.{digits-div}
 use lib.Pow.{ones-lt, ones-split}
 use Rattle.le.specs.Mem.{read, value, get, Bytes}
-use Rattle.le.proofs.Lens.{get-add}
+use Rattle.le.proofs.Lens.{get-add, get-split}
 use Rattle.rules.proofs.Fields.{get-fits}
-use Rattle.scan.specs.Key.{maskOf, wordOf}
+use Rattle.scan.specs.Key.{ones, maskOf, wordOf}
 
 -- ones, shifted down, are fewer ones
 ones-down : (j k : ℕ) → (2 ^ (j + k) - 1) / 2 ^ k ≡ 2 ^ j - 1
 ones-down j k = ap (λ (x : ℕ). x / 2 ^ k) (ones-split j k) ∙ digits-div (2 ^ j - 1) (ones-lt k)
 
-pub mask-down : (k : ℕ) → k ≤ 7 → 18446744073709551615 / 2 ^ (56 - 8 * k) ≡ 2 ^ (8 * (k + 1)) - 1
+pub mask-down : (k : ℕ) → k ≤ 7 → ones 8 / 2 ^ (56 - 8 * k) ≡ ones (k + 1)
 mask-down k h =
     let e : 8 * (k + 1) + (56 - 8 * k) ≡ 64 = omega arith in
     ap (λ (n : ℕ). (2 ^ n - 1) / 2 ^ (56 - 8 * k)) (sym e) ∙ ones-down (8 * (k + 1)) (56 - 8 * k)
@@ -57,11 +57,11 @@ module _ (p : List ℕ) (v i : ℕ) (s : Spelt p v i) where
 -- ---- the key
 
 module _ (p : List ℕ) where
-  pub short-mask : (m : ℕ) → length p ≤ 7 → m ≡ 2 ^ (8 * (length p + 1)) - 1 → m ≡ maskOf p
+  pub short-mask : (m : ℕ) → length p ≤ 7 → m ≡ ones (length p + 1) → m ≡ maskOf p
   unfolding maskOf
   short-mask m h e = let z : min (length p) 7 ≡ length p = omega arith in e ∙ rw z
 
-  pub long-mask : (m : ℕ) → 8 ≤ length p → m ≡ 2 ^ (8 * (7 + 1)) - 1 → m ≡ maskOf p
+  pub long-mask : (m : ℕ) → 8 ≤ length p → m ≡ ones 8 → m ≡ maskOf p
   unfolding maskOf
   long-mask m h e = let z : min (length p) 7 ≡ 7 = omega arith in e ∙ rw z
 
@@ -82,7 +82,5 @@ module _ (p : List ℕ) where
   long-key v h e b =
       let z : min (length p) 7 ≡ 7 = omega arith in
       let y : length p - 8 + 1 ≡ length p - 7 = omega arith in
-      let step : v ≡ get 1 p (length p - 8) + 256 * get 7 p (length p - 7) =
-      e ∙ get-add 1 7 p (length p - 8) ∙ ap (λ (n : ℕ). get 1 p (length p - 8) + 256 * get 7 p n) y in
-      let d : v / 256 ≡ get 7 p (length p - 7) = omega (arith, step, get-fits 1 p (length p - 8) b) in
+      let d : v / 256 ≡ get 7 p (length p - 7) = ap (λ (n : ℕ). n / 256) e ∙ get-split 1 7 p (length p - 8) b .1 ∙ ap (get 7 p) y in
       rw z (ap (λ (n : ℕ). length p % 256 + 256 * n) d)

@@ -4,7 +4,7 @@ ghost use Prim.Native.Nat.{_+_, _-_, _*_, _≤_};
 ghost use lib.ListN.{length};
 ghost use Rattle.scan.specs.First.{cellIs, anyOf, firstOf};
 
-// Whether one of the eight cells from cell i on is x under the mask: no branch for each, so that they are compared side by side.
+// Whether one of the eight cells from cell i on is x under the mask: all eight are looked at, with no way out between, so that a compiler may compare them side by side.
 fn any_of_eight(s: &[u8], at: usize, i: usize, mask: u64, x: u64) -> bool
     requires { ⌜ at + 8 * (i + 8) ≤ length (now s) ⌝ }
     ensures { λ r. ⌜ r ≡ anyOf (cellIs (now (s .entry)) at mask x) i 8 ⌝ }
@@ -53,7 +53,7 @@ fn find_by_eight(s: &[u8], at: usize, from: usize, n: usize, mask: u64, x: u64) 
 }
 
 // The mask under which a cell is compared whole.
-const ALL: u64 = 0xffff_ffff_ffff_ffff;
+pub const ALL: u64 = 0xffff_ffff_ffff_ffff;
 
 // The first cell from `from` on that is x under the mask; n where there is none (R45, R53). The eight at `from` are asked one by one: in a short table, and where many fit, the first is near.
 pub fn find_cell(s: &[u8], at: usize, from: usize, n: usize, mask: u64, x: u64) -> usize

@@ -11,12 +11,12 @@ pub struct NameKey {
     pub word: u64,
 }
 
-// The mask of a cell's first k + 1 bytes.
+// The mask of a cell's first k + 1 bytes (R45).
 pub fn mask_of(k: usize) -> u64
     requires { ⌜ k ≤ 7 ⌝ }
     ensures { λ r. ⌜ r ≡ ones (k + 1) ⌝ }
 {
-    0xffff_ffff_ffff_ffff >> (56 - 8 * k)
+    crate::cells::ALL >> (56 - 8 * k)
 }
 
 // The bytes of a short name as one number.

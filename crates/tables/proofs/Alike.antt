@@ -4,15 +4,14 @@ use mathlib.Core.Bool.{Bool, true, false, _&&_, true≢false, and-false}
 use mathlib.Core.List.{List}
 use mathlib.Core.Option.{none, some}
 use Prim.Native.Nat.{ℕ, _+_, _-_, _*_, _%_, _^_, _≤_, _<_, min}
-use native.Mathlib.Nat.{mod-eq-of-lt, add-comm, mul-comm}
+use native.Mathlib.Nat.{mod-eq-of-lt}
 use native.Mathlib.Omega.{arith}
 use borrow.Author.Tests.{eq-eqb, eqb-true, eqb-false, leb-true, leb-false}
 use lib.ListN.{length}
-use lib.Arith.{digits-mod}
 use lib.Bits.{bitAnd, and-mask}
 use lib.Dec.{eqb, leb}
 use Rattle.le.specs.Mem.{read, value, get, same, Bytes}
-use Rattle.le.proofs.Lens.{get-add}
+use Rattle.le.proofs.Lens.{get-add, get-split}
 use Rattle.le.proofs.Same.{same-words, other-words}
 use Rattle.rules.proofs.Tests.{and-both}
 use Rattle.rules.proofs.Same.{same-eq}
@@ -33,11 +32,7 @@ use Rattle.tables.proofs.Find.{Sought, child-on, Placed, place-begins, 
 low-of : (mem : List ℕ) (at k : ℕ) → Bytes mem → k ≤ 8 → get 8 mem at % 2 ^ (8 * k) ≡ get k mem at
 low-of mem at k b h =
     let e : 8 ≡ k + (8 - k) = omega arith in
-    let whole : get 8 mem at ≡ get (8 - k) mem (at + k) * 256 ^ k + get k mem at =
-    ap (λ (n : ℕ). get n mem at) e ∙ get-add k (8 - k) mem at
-    ∙ add-comm (get k mem at) (256 ^ k * get (8 - k) mem (at + k))
-    ∙ ap (λ (n : ℕ). n + get k mem at) (mul-comm (256 ^ k) (get (8 - k) mem (at + k))) in
-    ap (λ (n : ℕ). get 8 mem at % n) (bytes-bits k) ∙ ap (λ (n : ℕ). n % 256 ^ k) whole ∙ digits-mod (get (8 - k) mem (at + k)) (get-fits k mem at b)
+    ap (λ (n : ℕ). get 8 mem at % n) (bytes-bits k) ∙ ap (λ (n : ℕ). get n mem at % 256 ^ k) e ∙ get-split k (8 - k) mem at b .0
 
 low-bytes : (mem : List ℕ) (at m : ℕ) → Bytes mem → m ≤ 7 → get 8 mem at % 2 ^ (8 * (m + 1)) ≡ get 1 mem at + 256 * get m mem (at + 1)
 low-bytes mem at m b h =

@@ -7,13 +7,13 @@ use lib.Dec.{eqb, leb, ltb}
 use Rattle.scan.specs.First.{anyOf}
 
 -- a byte that a plain text has not: 0, or 128 and more
-unfoldable pub odd : ℕ → Bool
-odd b = eqb b 0 || ltb 127 b
+unfoldable pub notPlain : ℕ → Bool
+notPlain b = eqb b 0 || ltb 127 b
 
 -- byte i is such a byte
-abbrev pub isOdd : List ℕ → ℕ → Bool
-isOdd s i = odd (getD s i 0)
+abbrev pub notPlainAt : List ℕ → ℕ → Bool
+notPlainAt s i = notPlain (getD s i 0)
 
--- eight bytes or more, and none of them is odd
+-- eight bytes or more, and none of them is such a byte
 unfoldable pub plainLong : List ℕ → Bool
-plainLong s = leb 8 (length s) && not (anyOf (isOdd s) 0 (length s))
+plainLong s = leb 8 (length s) && not (anyOf (notPlainAt s) 0 (length s))

@@ -3,11 +3,11 @@ ghost use mathlib.Core.Path.{_≡_};
 ghost use Prim.Native.Nat.{_+_, _≤_};
 ghost use lib.ListN.{length};
 ghost use Rattle.scan.specs.First.{anyOf};
-ghost use Rattle.utf8.specs.Plain.{odd, isOdd};
+ghost use Rattle.utf8.specs.Plain.{notPlain, notPlainAt};
 
-// Whether a byte is 0, or 128 or more.
-fn is_odd(b: u8) -> bool
-    ensures { λ r. ⌜ r ≡ odd b ⌝ }
+// Whether a byte is 0, or 128 or more (R35, R57).
+fn is_not_plain(b: u8) -> bool
+    ensures { λ r. ⌜ r ≡ notPlain b ⌝ }
 {
     if b == 0 {
         return true;
@@ -15,15 +15,15 @@ fn is_odd(b: u8) -> bool
     127 < b
 }
 
-// Whether one of the eight bytes at a place is 0, or 128 or more.
-pub fn any_odd(s: &[u8], at: usize) -> bool
+// Whether one of the eight bytes at a place is 0, or 128 or more (R35, R57): all eight are looked at, with no way out between, so that a compiler may compare them side by side.
+pub fn any_not_plain(s: &[u8], at: usize) -> bool
     requires { ⌜ at + 8 ≤ length (now s) ⌝ }
-    ensures { λ r. ⌜ r ≡ anyOf (isOdd (now (s .entry))) at 8 ⌝ }
+    ensures { λ r. ⌜ r ≡ anyOf (notPlainAt (now (s .entry))) at 8 ⌝ }
 {
     let mut hit = false;
     let mut k = 0;
     while k < 8 {
-        if is_odd(s[at + k]) {
+        if is_not_plain(s[at + k]) {
             hit = true;
         }
         k += 1;

@@ -7,7 +7,7 @@ ghost use lib.ListN.{length, drop};
 ghost use Rattle.utf8.specs.Plain.{plainLong};
 ghost use Rattle.rules.specs.Utf8.{_‥_, fits, sequence, validTo, wellFormed};
 
-pub mod eight;
+mod eight;
 
 // Whether the byte at `at` is there and lies between low and high.
 fn is_in(s: &[u8], at: usize, low: u8, high: u8) -> bool
@@ -24,14 +24,14 @@ fn is_in(s: &[u8], at: usize, low: u8, high: u8) -> bool
 }
 
 // The second byte in its range: 2, else 0.
-fn two(s: &[u8], at: usize, low: u8, high: u8) -> usize
+fn two_bytes(s: &[u8], at: usize, low: u8, high: u8) -> usize
     ensures { λ r. ⌜ r ≡ cond (fits (low ‥ high ∷ []) (drop at (now (s .entry)))) 2 0 ⌝ }
 {
     if is_in(s, at, low, high) { 2 } else { 0 }
 }
 
 // The second byte in its range, then a tail byte: 3, else 0.
-fn three(s: &[u8], at: usize, low: u8, high: u8) -> usize
+fn three_bytes(s: &[u8], at: usize, low: u8, high: u8) -> usize
     requires { ⌜ at ≤ length (now s) ⌝ }
     ensures { λ r. ⌜ r ≡ cond (fits (low ‥ high ∷ 0x80 ‥ 0xBF ∷ []) (drop at (now (s .entry)))) 3 0 ⌝ }
 {
@@ -44,11 +44,11 @@ fn three(s: &[u8], at: usize, low: u8, high: u8) -> usize
 }
 
 // The second byte in its range, then two tail bytes: 4, else 0.
-fn four(s: &[u8], at: usize, low: u8, high: u8) -> usize
+fn four_bytes(s: &[u8], at: usize, low: u8, high: u8) -> usize
     requires { ⌜ at ≤ length (now s) ⌝ }
     ensures { λ r. ⌜ r ≡ cond (fits (low ‥ high ∷ 0x80 ‥ 0xBF ∷ 0x80 ‥ 0xBF ∷ []) (drop at (now (s .entry)))) 4 0 ⌝ }
 {
-    if three(s, at, low, high) == 3 {
+    if three_bytes(s, at, low, high) == 3 {
         if is_in(s, at + 2, 0x80, 0xBF) {
             return 4;
         }
@@ -70,28 +70,28 @@ fn sequence_at(s: &[u8], at: usize) -> usize
         return 0;
     }
     if b < 0xE0 {
-        return two(s, next, 0x80, 0xBF);
+        return two_bytes(s, next, 0x80, 0xBF);
     }
     if b < 0xE1 {
-        return three(s, next, 0xA0, 0xBF);
+        return three_bytes(s, next, 0xA0, 0xBF);
     }
     if b < 0xED {
-        return three(s, next, 0x80, 0xBF);
+        return three_bytes(s, next, 0x80, 0xBF);
     }
     if b < 0xEE {
-        return three(s, next, 0x80, 0x9F);
+        return three_bytes(s, next, 0x80, 0x9F);
     }
     if b < 0xF0 {
-        return three(s, next, 0x80, 0xBF);
+        return three_bytes(s, next, 0x80, 0xBF);
     }
     if b < 0xF1 {
-        return four(s, next, 0x90, 0xBF);
+        return four_bytes(s, next, 0x90, 0xBF);
     }
     if b < 0xF4 {
-        return four(s, next, 0x80, 0xBF);
+        return four_bytes(s, next, 0x80, 0xBF);
     }
     if b < 0xF5 {
-        return four(s, next, 0x80, 0x8F);
+        return four_bytes(s, next, 0x80, 0x8F);
     }
     0
 }
@@ -121,12 +121,12 @@ pub fn is_plain(s: &[u8]) -> bool
     }
     let mut i = 0;
     while 8 <= n - i {
-        if crate::eight::any_odd(s, i) {
+        if crate::eight::any_not_plain(s, i) {
             return false;
         }
         i += 8;
     }
-    !crate::eight::any_odd(s, n - 8)
+    !crate::eight::any_not_plain(s, n - 8)
 }
 
 // Whether all of the bytes are well formed (R35, R36).

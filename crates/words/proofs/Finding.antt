@@ -11,7 +11,7 @@ use Rattle.rules.specs.Bytes.{same}
 use Rattle.rules.specs.Path.{partsBy}
 use Rattle.rules.specs.Session.{space, words, number, shown}
 use Rattle.path.specs.Steps.{between, partLength, partEnd}
-use Rattle.path.proofs.Words.{behind, first-part, end-from, end-within, end-length, behind-end}
+use Rattle.path.proofs.Words.{behind, first-part, end-length, behind-end}
 use Rattle.decimal.specs.declared.Number.the-variants.{Value, Bad}
 use Rattle.decimal.specs.Read.{valueIn, numberTo}
 use Rattle.decimal.proofs.Steps.{of-width}
@@ -37,11 +37,6 @@ unfolding shown
 shown-sets zero vs = refl
 shown-sets (suc k) [] = ap (λ (l : List ℕ). 0 ∷ l) (shown-none k)
 shown-sets (suc k) (v ∷ vs) = sets-under v (replicate k 0) 0 (take k vs) ∙ ap (λ (l : List ℕ). v ∷ l) (shown-sets k vs)
-
--- ---- where a part ends
-
-pub ends : (sep : ℕ) (s : List ℕ) (at end : ℕ) → end ≡ partEnd sep s at → at < length s → (at ≤ end) × (end ≤ length s)
-ends sep s at end e h = (rw e (end-from sep s at), rw e (end-within sep s at (omega arith)))
 
 -- ---- the words from a place on
 

@@ -1,8 +1,9 @@
 -- `calls_test::run` is safe and ends: the turns are counted down. Assumes nothing.
+use native.Mathlib.Nat.{le-of-lt}
 use native.Mathlib.Omega.{arith}
 use mathlib.Core.Path.{_≡_}
 use lib.ListN.{length}
-use Rattle.words.proofs.Finding.{ends}
+use Rattle.path.proofs.Words.{end-in}
 use borrow.Author.Needs.{needs}
 use Rattle.calls_test.proofs.run.Statement.{statement}
 use Rattle.calls_test.proofs.run.Tie as tie
@@ -46,19 +47,19 @@ part-end-requires : tie.Need-part-end-requires Inv-loop μ-loop
 part-end-requires c κs = search needs
 
 add-regs : tie.Need-add-regs Inv-loop μ-loop
-add-regs c = omega (arith, ends _ _ _ _ (c .part-end .ensures) (c .before .if1 .left) .1)
+add-regs c = omega (arith, end-in _ _ _ (c .part-end .ensures) (le-of-lt (c .before .if1 .left)) .1)
 
 element-write-regs : tie.Need-element-write-regs Inv-loop μ-loop
 element-write-regs c = search needs
 
 sub-expanded : tie.Need-sub-expanded Inv-loop μ-loop
-sub-expanded c = omega (arith, ends _ _ _ _ (c .part-end .ensures) (c .before .if1 .left) .0)
+sub-expanded c = omega (arith, end-in _ _ _ (c .part-end .ensures) (le-of-lt (c .before .if1 .left)) .0)
 
 part-expanded-start : tie.Need-part-expanded-start Inv-loop μ-loop
-part-expanded-start c = omega (arith, ends _ _ _ _ (c .part-end .ensures) (c .before .if1 .left) .0)
+part-expanded-start c = omega (arith, end-in _ _ _ (c .part-end .ensures) (le-of-lt (c .before .if1 .left)) .0)
 
 part-expanded-end : tie.Need-part-expanded-end Inv-loop μ-loop
-part-expanded-end c = omega (arith, ends _ _ _ _ (c .part-end .ensures) (c .before .if1 .left) .0, ends _ _ _ _ (c .part-end .ensures) (c .before .if1 .left) .1)
+part-expanded-end c = omega (arith, end-in _ _ _ (c .part-end .ensures) (le-of-lt (c .before .if1 .left)) .0, end-in _ _ _ (c .part-end .ensures) (le-of-lt (c .before .if1 .left)) .1)
 
 expanded-requires : tie.Need-expanded-requires Inv-loop μ-loop
 expanded-requires c κs = search needs

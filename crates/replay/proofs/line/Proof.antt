@@ -1,7 +1,7 @@
 -- `replay::line` is safe: the place of `x` lies in the line. Assumes nothing.
 use Prim.Native.Nat.{zero-le}
 use native.Mathlib.Omega.{arith}
-use Rattle.path.proofs.Words.{end-within}
+use Rattle.path.proofs.Words.{end-in}
 use borrow.Author.Needs.{needs}
 use Rattle.replay.proofs.line.Statement.{statement}
 use Rattle.replay.proofs.line.Tie as tie
@@ -19,7 +19,7 @@ part-end-requires : tie.Need-part-end-requires
 part-end-requires c κs = search needs
 
 add-pairs : tie.Need-add-pairs
-add-pairs c = omega (arith, c .part-end .ensures, end-within 120 (c .before .before .before .before .before .before .before .before .args .line .now) 0 zero-le)
+add-pairs c = omega (arith, end-in _ _ _ (c .part-end .ensures) zero-le .1)
 
 pairs-requires : tie.Need-pairs-requires
 pairs-requires c κs = search needs

@@ -1,6 +1,7 @@
 -- `replay::lines` is safe and ends: each turn goes past a line end. Assumes nothing.
+use native.Mathlib.Nat.{le-of-lt}
 use native.Mathlib.Omega.{arith}
-use Rattle.words.proofs.Finding.{ends}
+use Rattle.path.proofs.Words.{end-in}
 use borrow.Author.Needs.{needs}
 use Prim.Native.Nat.{_-_}
 use mathlib.Core.Path.{_≡_}
@@ -21,22 +22,22 @@ part-end-requires : tie.Need-part-end-requires Inv-loop μ-loop
 part-end-requires c κs = search needs
 
 sub-line : tie.Need-sub-line Inv-loop μ-loop
-sub-line c = omega (arith, ends _ _ _ _ (c .part-end .ensures) (c .before .loop-test .taken) .0)
+sub-line c = omega (arith, end-in _ _ _ (c .part-end .ensures) (le-of-lt (c .before .loop-test .taken)) .0)
 
 part-line-start : tie.Need-part-line-start Inv-loop μ-loop
-part-line-start c = omega (arith, ends _ _ _ _ (c .part-end .ensures) (c .before .loop-test .taken) .0)
+part-line-start c = omega (arith, end-in _ _ _ (c .part-end .ensures) (le-of-lt (c .before .loop-test .taken)) .0)
 
 part-line-end : tie.Need-part-line-end Inv-loop μ-loop
-part-line-end c = omega (arith, ends _ _ _ _ (c .part-end .ensures) (c .before .loop-test .taken) .0, ends _ _ _ _ (c .part-end .ensures) (c .before .loop-test .taken) .1)
+part-line-end c = omega (arith, end-in _ _ _ (c .part-end .ensures) (le-of-lt (c .before .loop-test .taken)) .0, end-in _ _ _ (c .part-end .ensures) (le-of-lt (c .before .loop-test .taken)) .1)
 
 line-requires : tie.Need-line-requires Inv-loop μ-loop
 line-requires c κs = search needs
 
 add-at : tie.Need-add-at Inv-loop μ-loop
-add-at c = omega (arith, ends _ _ _ _ (c .before .before .before .before .before .before .before .before .before .before .before .part-end .ensures) (c .before .before .before .before .before .before .before .before .before .before .before .before .loop-test .taken) .1)
+add-at c = omega (arith, end-in _ _ _ (c .before .before .before .before .before .before .before .before .before .before .before .part-end .ensures) (le-of-lt (c .before .before .before .before .before .before .before .before .before .before .before .before .loop-test .taken)) .1)
 
 loop-less : tie.Need-loop-less Inv-loop μ-loop
-loop-less c = omega (arith, ends _ _ _ _ (c .before .before .before .before .before .before .before .before .before .before .before .part-end .ensures) (c .before .before .before .before .before .before .before .before .before .before .before .before .loop-test .taken) .0)
+loop-less c = omega (arith, end-in _ _ _ (c .before .before .before .before .before .before .before .before .before .before .before .part-end .ensures) (le-of-lt (c .before .before .before .before .before .before .before .before .before .before .before .before .loop-test .taken)) .0)
 
 loop-again : tie.Need-loop-again Inv-loop μ-loop
 loop-again c = search needs

@@ -21,61 +21,61 @@ returns-2 : tie.Need-returns-2
 unfolding table fits
 returns-2 c = sym (sequence-gap _ _ (c .before .before .before .before .pre) 1 (omega arith))
 
-two-requires : tie.Need-two-requires
-two-requires c κs = search needs
+two-bytes-requires : tie.Need-two-bytes-requires
+two-bytes-requires c κs = search needs
 
 returns-3 : tie.Need-returns-3
 unfolding table fits
-returns-3 c = c .two .ensures ∙ sym (sequence-row _ _ (c .before .before .before .before .before .before .pre) 1 (omega arith))
+returns-3 c = c .two-bytes .ensures ∙ sym (sequence-row _ _ (c .before .before .before .before .before .before .pre) 1 (omega arith))
 
-three-requires : tie.Need-three-requires
-three-requires c κs = search needs
+three-bytes-requires : tie.Need-three-bytes-requires
+three-bytes-requires c κs = search needs
 
 returns-4 : tie.Need-returns-4
 unfolding table fits
-returns-4 c = c .three .ensures ∙ sym (sequence-row _ _ (c .before .before .before .before .before .before .before .pre) 2 (omega arith))
+returns-4 c = c .three-bytes .ensures ∙ sym (sequence-row _ _ (c .before .before .before .before .before .before .before .pre) 2 (omega arith))
 
-three-requires-2 : tie.Need-three-requires-2
-three-requires-2 c κs = search needs
+three-bytes-requires-2 : tie.Need-three-bytes-requires-2
+three-bytes-requires-2 c κs = search needs
 
 returns-5 : tie.Need-returns-5
 unfolding table fits
-returns-5 c = c .three2 .ensures ∙ sym (sequence-row _ _ (c .before .before .before .before .before .before .before .before .pre) 3 (omega arith))
+returns-5 c = c .three-bytes2 .ensures ∙ sym (sequence-row _ _ (c .before .before .before .before .before .before .before .before .pre) 3 (omega arith))
 
-three-requires-3 : tie.Need-three-requires-3
-three-requires-3 c κs = search needs
+three-bytes-requires-3 : tie.Need-three-bytes-requires-3
+three-bytes-requires-3 c κs = search needs
 
 returns-6 : tie.Need-returns-6
 unfolding table fits
-returns-6 c = c .three3 .ensures ∙ sym (sequence-row _ _ (c .before .before .before .before .before .before .before .before .before .pre) 4 (omega arith))
+returns-6 c = c .three-bytes3 .ensures ∙ sym (sequence-row _ _ (c .before .before .before .before .before .before .before .before .before .pre) 4 (omega arith))
 
-three-requires-4 : tie.Need-three-requires-4
-three-requires-4 c κs = search needs
+three-bytes-requires-4 : tie.Need-three-bytes-requires-4
+three-bytes-requires-4 c κs = search needs
 
 returns-7 : tie.Need-returns-7
 unfolding table fits
-returns-7 c = c .three4 .ensures ∙ sym (sequence-row _ _ (c .before .before .before .before .before .before .before .before .before .before .pre) 5 (omega arith))
+returns-7 c = c .three-bytes4 .ensures ∙ sym (sequence-row _ _ (c .before .before .before .before .before .before .before .before .before .before .pre) 5 (omega arith))
 
-four-requires : tie.Need-four-requires
-four-requires c κs = search needs
+four-bytes-requires : tie.Need-four-bytes-requires
+four-bytes-requires c κs = search needs
 
 returns-8 : tie.Need-returns-8
 unfolding table fits
-returns-8 c = c .four .ensures ∙ sym (sequence-row _ _ (c .before .before .before .before .before .before .before .before .before .before .before .pre) 6 (omega arith))
+returns-8 c = c .four-bytes .ensures ∙ sym (sequence-row _ _ (c .before .before .before .before .before .before .before .before .before .before .before .pre) 6 (omega arith))
 
-four-requires-2 : tie.Need-four-requires-2
-four-requires-2 c κs = search needs
+four-bytes-requires-2 : tie.Need-four-bytes-requires-2
+four-bytes-requires-2 c κs = search needs
 
 returns-9 : tie.Need-returns-9
 unfolding table fits
-returns-9 c = c .four2 .ensures ∙ sym (sequence-row _ _ (c .before .before .before .before .before .before .before .before .before .before .before .before .pre) 7 (omega arith))
+returns-9 c = c .four-bytes2 .ensures ∙ sym (sequence-row _ _ (c .before .before .before .before .before .before .before .before .before .before .before .before .pre) 7 (omega arith))
 
-four-requires-3 : tie.Need-four-requires-3
-four-requires-3 c κs = search needs
+four-bytes-requires-3 : tie.Need-four-bytes-requires-3
+four-bytes-requires-3 c κs = search needs
 
 returns-10 : tie.Need-returns-10
 unfolding table fits
-returns-10 c = c .four3 .ensures ∙ sym (sequence-row _ _ (c .before .before .before .before .before .before .before .before .before .before .before .before .before .pre) 8 (omega arith))
+returns-10 c = c .four-bytes3 .ensures ∙ sym (sequence-row _ _ (c .before .before .before .before .before .before .before .before .before .before .before .before .before .pre) 8 (omega arith))
 
 returns-11 : tie.Need-returns-11
 unfolding table fits
@@ -89,20 +89,20 @@ sequence-at-spec =
     add-next
     returns
     returns-2
-    two-requires
+    two-bytes-requires
     returns-3
-    three-requires
+    three-bytes-requires
     returns-4
-    three-requires-2
+    three-bytes-requires-2
     returns-5
-    three-requires-3
+    three-bytes-requires-3
     returns-6
-    three-requires-4
+    three-bytes-requires-4
     returns-7
-    four-requires
+    four-bytes-requires
     returns-8
-    four-requires-2
+    four-bytes-requires-2
     returns-9
-    four-requires-3
+    four-bytes-requires-3
     returns-10
     returns-11)

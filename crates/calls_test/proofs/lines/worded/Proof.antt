@@ -1,23 +1,16 @@
 -- `calls_test::lines::worded` is safe: the words lie in the line. Assumes nothing.
-use Prim.Native.Nat.{ℕ, _≤_, zero-le}
+use Prim.Native.Nat.{zero-le}
 use native.Mathlib.Omega.{arith}
-use mathlib.Core.Path.{_≡_}
-use mathlib.Core.List.{List}
-use lib.ListN.{length}
-use Rattle.path.specs.Steps.{partEnd}
-use Rattle.path.proofs.Words.{end-from, end-within}
+use Rattle.path.proofs.Words.{end-in}
 use borrow.Author.Needs.{needs}
 use Rattle.calls_test.proofs.lines.worded.Statement.{statement}
 use Rattle.calls_test.proofs.lines.worded.Tie as tie
-
-within : (sep : ℕ) (s : List ℕ) (at end : ℕ) → end ≡ partEnd sep s at → at ≤ length s → (at ≤ end) × (end ≤ length s)
-within sep s at end e h = (rw e (end-from sep s at), rw e (end-within sep s at h))
 
 part-end-requires : tie.Need-part-end-requires
 part-end-requires c κs = search needs
 
 add-least : tie.Need-add-least
-add-least c = omega (arith, within _ _ _ _ (c .part-end .ensures) zero-le .1)
+add-least c = omega (arith, end-in _ _ _ (c .part-end .ensures) zero-le .1)
 
 least-requires : tie.Need-least-requires
 least-requires c κs = search needs
@@ -26,13 +19,13 @@ part-end-requires-2 : tie.Need-part-end-requires-2
 part-end-requires-2 c κs = search needs
 
 sub-decoded : tie.Need-sub-decoded
-sub-decoded c = omega (arith, within _ _ _ _ (c .part-end2 .ensures) (search needs) .0)
+sub-decoded c = omega (arith, end-in _ _ _ (c .part-end2 .ensures) (search needs) .0)
 
 part-decoded-start : tie.Need-part-decoded-start
-part-decoded-start c = omega (arith, within _ _ _ _ (c .part-end2 .ensures) (search needs) .0)
+part-decoded-start c = omega (arith, end-in _ _ _ (c .part-end2 .ensures) (search needs) .0)
 
 part-decoded-end : tie.Need-part-decoded-end
-part-decoded-end c = omega (arith, within _ _ _ _ (c .part-end2 .ensures) (search needs) .0, within _ _ _ _ (c .part-end2 .ensures) (search needs) .1)
+part-decoded-end c = omega (arith, end-in _ _ _ (c .part-end2 .ensures) (search needs) .0, end-in _ _ _ (c .part-end2 .ensures) (search needs) .1)
 
 decoded-requires : tie.Need-decoded-requires
 decoded-requires c κs = search needs
@@ -53,7 +46,7 @@ part-vary-start : tie.Need-part-vary-start
 part-vary-start c = search needs
 
 part-vary-end : tie.Need-part-vary-end
-part-vary-end c = omega (arith, within _ _ _ _ (c .before .part-end3 .ensures) zero-le .1)
+part-vary-end c = omega (arith, end-in _ _ _ (c .before .part-end3 .ensures) zero-le .1)
 
 vary-requires : tie.Need-vary-requires
 vary-requires c κs = search needs

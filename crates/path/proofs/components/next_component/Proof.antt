@@ -7,8 +7,8 @@ use lib.ListN.{length}
 use denote.Ref.{now}
 use Rattle.path.specs.Steps.{nextAt}
 use Rattle.rules.specs.Path.{slash}
-use Rattle.path.proofs.Words.{end-from, end-within}
-use Rattle.path.proofs.Steps.{next-slash, next-dropped, next-parent, next-name, next-end}
+use Rattle.path.proofs.Words.{end-in}
+use Rattle.path.proofs.Steps.{next-slash, next-dropped, next-kept, next-end}
 use Rattle.path.proofs.components.next_component.Statement.{statement}
 use Rattle.path.proofs.components.next_component.Tie as tie
 
@@ -24,23 +24,22 @@ loop-holds c = refl
 loop-again : tie.Need-loop-again Inv-loop μ-loop
 loop-again c = sym (next-slash _ _ (c .before .before .loop-test .taken) (c .if1 .taken)) ∙ c .before .before .before .loop .inv
 
-word-end-requires : tie.Need-word-end-requires Inv-loop μ-loop
-word-end-requires c κs = search needs
+part-end-requires : tie.Need-part-end-requires Inv-loop μ-loop
+part-end-requires c κs = search needs
 
 component-at-requires : tie.Need-component-at-requires Inv-loop μ-loop
 component-at-requires c κs =
     let l = c .before .before .before .before in
-    let s = now (l .before .before .args .path) in
-    omega (arith, c .word-end .ensures, end-from slash s (l .loop .i), end-within slash s (l .loop .i) (omega arith))
+    end-in slash (now (l .before .before .args .path)) (l .loop .i) (c .part-end .ensures) (omega arith)
 
 loop-again-2 : tie.Need-loop-again-2 Inv-loop μ-loop
-loop-again-2 c = sym (next-dropped _ _ (c .before .before .before .before .before .before .loop-test .taken) (c .before .before .before .word-end .ensures) (c .before .before .component-at .ensures) (c .enum-told .given .1)) ∙ c .before .before .before .before .before .before .before .loop .inv
+loop-again-2 c = sym (next-dropped _ _ (c .before .before .before .before .before .before .loop-test .taken) (c .before .before .before .part-end .ensures) (c .before .before .component-at .ensures) (c .enum-told .given .1)) ∙ c .before .before .before .before .before .before .before .loop .inv
 
 returns : tie.Need-returns Inv-loop μ-loop
-returns c = sym (next-parent _ _ (c .before .before .before .before .before .before .loop-test .taken) (c .before .before .before .word-end .ensures) (c .before .before .component-at .ensures) (c .enum-told2 .given .1)) ∙ c .before .before .before .before .before .before .before .loop .inv
+returns c = sym (next-kept _ _ (c .before .before .before .before .before .before .loop-test .taken) (c .before .before .before .part-end .ensures) (c .before .before .component-at .ensures) (c .enum-told2 .given .1) refl) ∙ c .before .before .before .before .before .before .before .loop .inv
 
 returns-2 : tie.Need-returns-2 Inv-loop μ-loop
-returns-2 c = sym (next-name _ _ (c .before .before .before .before .before .before .loop-test .taken) (c .before .before .before .word-end .ensures) (c .before .before .component-at .ensures) (c .enum-told3 .given .1)) ∙ c .before .before .before .before .before .before .before .loop .inv
+returns-2 c = sym (next-kept _ _ (c .before .before .before .before .before .before .loop-test .taken) (c .before .before .before .part-end .ensures) (c .before .before .component-at .ensures) (c .enum-told3 .given .1) refl) ∙ c .before .before .before .before .before .before .before .loop .inv
 
 returns-3 : tie.Need-returns-3 Inv-loop μ-loop
 returns-3 c = sym (next-end _ _ (c .loop-test .left)) ∙ c .before .loop .inv
@@ -56,7 +55,7 @@ next-component-spec =
     (λ c. search needs)
     (λ c. search needs)
     loop-again
-    word-end-requires
+    part-end-requires
     component-at-requires
     (λ c. search needs)
     (λ c. search needs)

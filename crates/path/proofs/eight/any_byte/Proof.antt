@@ -1,7 +1,7 @@
 -- After k bytes, whether one of them was hit.
 use mathlib.Core.Logic.{⊎-elim}
 use Prim.Native.Nat.{_-_}
-use Rattle.path.specs.Together.{isByte}
+use Rattle.path.specs.Byte.{isByte}
 use Rattle.scan.proofs.First.{Hit, none-hit, one-hit, not-hit, all-looked}
 use Rattle.path.proofs.Together.{is, is-not}
 use borrow.Author.Needs.{needs}

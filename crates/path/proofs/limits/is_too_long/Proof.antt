@@ -7,7 +7,7 @@ use native.Mathlib.Omega.{arith}
 use lib.ListN.{length, drop}
 use denote.Ref.{now}
 use Rattle.rules.specs.Path.{slash, pieces, anyLonger}
-use Rattle.path.proofs.Words.{long-path, short-path, longer-end, longer-yes, longer-no, end-from, end-within}
+use Rattle.path.proofs.Words.{long-path, short-path, longer-end, longer-yes, longer-no, end-in}
 use Rattle.path.proofs.limits.is_too_long.Statement.{statement}
 use Rattle.path.proofs.limits.is_too_long.Tie as tie
 
@@ -22,11 +22,8 @@ abbrev bytes : tie.At-loop Inv-loop μ-loop → List ℕ
 bytes l = now (l .before .before .before .args .path)
 
 -- the part that starts here ends within the path
-part : (c : tie.After-word-end Inv-loop μ-loop) → (c .before .before .loop .i ≤ c .word-end .result) × (c .word-end .result ≤ length (bytes (c .before .before)))
-part c =
-    let s = bytes (c .before .before) in
-    let i = c .before .before .loop .i in
-    omega (arith, c .word-end .ensures, end-from slash s i, end-within slash s i (omega arith))
+part : (c : tie.After-part-end Inv-loop μ-loop) → (c .before .before .loop .i ≤ c .part-end .result) × (c .part-end .result ≤ length (bytes (c .before .before)))
+part c = end-in slash (bytes (c .before .before)) (c .before .before .loop .i) (c .part-end .ensures) (omega arith)
 
 returns : tie.Need-returns Inv-loop μ-loop
 returns c = long-path _ (c .if1 .taken)
@@ -34,8 +31,8 @@ returns c = long-path _ (c .if1 .taken)
 loop-holds : tie.Need-loop-holds Inv-loop μ-loop
 loop-holds c = (omega arith, refl)
 
-word-end-requires : tie.Need-word-end-requires Inv-loop μ-loop
-word-end-requires c κs = search needs
+part-end-requires : tie.Need-part-end-requires Inv-loop μ-loop
+part-end-requires c κs = search needs
 
 sub-if2 : tie.Need-sub-if2 Inv-loop μ-loop
 sub-if2 c = omega (arith, part c)
@@ -43,7 +40,7 @@ sub-if2 c = omega (arith, part c)
 returns-2 : tie.Need-returns-2 Inv-loop μ-loop
 returns-2 c =
     let s = bytes (c .before .before .before) in
-    sym (short-path s (c .before .before .before .before .if1 .left) ∙ sym (c .before .before .before .loop .inv .1) ∙ longer-yes 255 s (c .before .before .before .loop .i) (omega (arith, c .before .word-end .ensures)))
+    sym (short-path s (c .before .before .before .before .if1 .left) ∙ sym (c .before .before .before .loop .inv .1) ∙ longer-yes 255 s (c .before .before .before .loop .i) (omega (arith, c .before .part-end .ensures)))
 
 add-i : tie.Need-add-i Inv-loop μ-loop
 add-i c = omega (arith, part (c .before))
@@ -55,7 +52,7 @@ loop-again : tie.Need-loop-again Inv-loop μ-loop
 loop-again c =
     let s = bytes (c .before .before .before) in
     let i = c .before .before .before .loop .i in
-    let e = c .before .word-end .ensures in
+    let e = c .before .part-end .ensures in
     (omega (arith, part (c .before)), rw e (sym (longer-no 255 s i (omega (arith, e))) ∙ c .before .before .before .loop .inv .1))
 
 returns-3 : tie.Need-returns-3 Inv-loop μ-loop
@@ -71,7 +68,7 @@ is-too-long-spec =
     μ-loop
     returns
     loop-holds
-    word-end-requires
+    part-end-requires
     sub-if2
     returns-2
     add-i

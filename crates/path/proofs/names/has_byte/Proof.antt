@@ -2,7 +2,7 @@
 use mathlib.Core.Path.{sym, _∙_}
 use Prim.Native.Nat.{_-_}
 use lib.ListN.{length}
-use Rattle.path.specs.Together.{isByte}
+use Rattle.path.specs.Byte.{isByte}
 use Rattle.path.proofs.Together.{None, none-yet, none-on, one-there, last-eight, holds-any}
 use borrow.Author.Needs.{needs}
 use Rattle.path.proofs.names.has_byte.Statement.{statement}

@@ -2,7 +2,7 @@
 use mathlib.Core.Path.{sym, _∙_}
 use Prim.Native.Nat.{_-_}
 use Rattle.scan.specs.First.{cellIs}
-use Rattle.scan.proofs.First.{Left, none-left, eight-left}
+use Rattle.scan.proofs.First.{Left, all-left, eight-left}
 use borrow.Author.Needs.{needs}
 use Rattle.scan.proofs.cells.find_by_eight.Statement.{statement}
 use Rattle.scan.proofs.cells.find_by_eight.Tie as tie
@@ -14,7 +14,7 @@ abbrev μ-loop : tie.MeasureT-loop
 μ-loop s at from n mask x i₀ i = n - i
 
 loop-holds : tie.Need-loop-holds Inv-loop μ-loop
-loop-holds c = none-left _ _ _ (search needs)
+loop-holds c = all-left _ _ _ (search needs)
 
 loop-again : tie.Need-loop-again Inv-loop μ-loop
 loop-again c =

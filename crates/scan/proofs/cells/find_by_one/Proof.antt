@@ -1,7 +1,7 @@
 -- After the cells before i, none of which is the one sought, the cells that are left decide.
 use Prim.Native.Nat.{_-_}
 use Rattle.scan.specs.First.{cellIs}
-use Rattle.scan.proofs.First.{Left, none-left, here-left, on-left, done-left, cell-here, cell-other}
+use Rattle.scan.proofs.First.{Left, all-left, here-left, on-left, done-left, cell-here, cell-other}
 use borrow.Author.Needs.{needs}
 use Rattle.scan.proofs.cells.find_by_one.Statement.{statement}
 use Rattle.scan.proofs.cells.find_by_one.Tie as tie
@@ -13,7 +13,7 @@ abbrev μ-loop : tie.MeasureT-loop
 μ-loop s at from n mask x i₀ i = n - i
 
 loop-holds : tie.Need-loop-holds Inv-loop μ-loop
-loop-holds c = none-left _ _ _ (search needs)
+loop-holds c = all-left _ _ _ (search needs)
 
 returns : tie.Need-returns Inv-loop μ-loop
 returns c =

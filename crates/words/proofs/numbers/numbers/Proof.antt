@@ -1,11 +1,13 @@
 -- `words::numbers::numbers` meets its contract. The invariant: k numbers stand, and with those left to find all of them will. Assumes nothing.
 use Prim.Native.Nat.{_-_}
+use native.Mathlib.Nat.{le-of-lt}
 use native.Mathlib.Omega.{arith}
 use mathlib.Core.Path.{sym, ap, _∙_}
 use mathlib.Core.Logic.{⊎-elim}
 use lib.ListN.{length}
 use Rattle.decimal.specs.Read.{valueIn}
-use Rattle.words.proofs.Finding.{ends, Rest, rest-all, rest-full, rest-past, rest-value, rest-bad}
+use Rattle.path.proofs.Words.{end-in}
+use Rattle.words.proofs.Finding.{Rest, rest-all, rest-full, rest-past, rest-value, rest-bad}
 use borrow.Author.Needs.{needs}
 use Rattle.words.proofs.numbers.numbers.Statement.{statement}
 use Rattle.words.proofs.numbers.numbers.Tie as tie
@@ -26,13 +28,13 @@ part-end-requires : tie.Need-part-end-requires Inv-loop μ-loop
 part-end-requires c κs = search needs
 
 sub-read : tie.Need-sub-read Inv-loop μ-loop
-sub-read c = omega (arith, ends _ _ _ _ (c .part-end .ensures) (c .before .before .loop-test .taken) .0)
+sub-read c = omega (arith, end-in _ _ _ (c .part-end .ensures) (le-of-lt (c .before .before .loop-test .taken)) .0)
 
 part-read-start : tie.Need-part-read-start Inv-loop μ-loop
-part-read-start c = omega (arith, ends _ _ _ _ (c .part-end .ensures) (c .before .before .loop-test .taken) .0)
+part-read-start c = omega (arith, end-in _ _ _ (c .part-end .ensures) (le-of-lt (c .before .before .loop-test .taken)) .0)
 
 part-read-end : tie.Need-part-read-end Inv-loop μ-loop
-part-read-end c = omega (arith, ends _ _ _ _ (c .part-end .ensures) (c .before .before .loop-test .taken) .0, ends _ _ _ _ (c .part-end .ensures) (c .before .before .loop-test .taken) .1)
+part-read-end c = omega (arith, end-in _ _ _ (c .part-end .ensures) (le-of-lt (c .before .before .loop-test .taken)) .0, end-in _ _ _ (c .part-end .ensures) (le-of-lt (c .before .before .loop-test .taken)) .1)
 
 read-requires : tie.Need-read-requires Inv-loop μ-loop
 read-requires c κs = search needs
@@ -53,10 +55,10 @@ enum-told : tie.Need-enum-told Inv-loop μ-loop
 enum-told c = search needs
 
 add-at : tie.Need-add-at Inv-loop μ-loop
-add-at c = let p = c .before .before .before in omega (arith, ends _ _ _ _ (p .part-end .ensures) (p .before .before .loop-test .taken) .1)
+add-at c = let p = c .before .before .before in omega (arith, end-in _ _ _ (p .part-end .ensures) (le-of-lt (p .before .before .loop-test .taken)) .1)
 
 loop-less : tie.Need-loop-less Inv-loop μ-loop
-loop-less c = let p = c .before .before .before in omega (arith, ends _ _ _ _ (p .part-end .ensures) (p .before .before .loop-test .taken) .0)
+loop-less c = let p = c .before .before .before in omega (arith, end-in _ _ _ (p .part-end .ensures) (le-of-lt (p .before .before .loop-test .taken)) .0)
 
 loop-again : tie.Need-loop-again Inv-loop μ-loop
 loop-again c =

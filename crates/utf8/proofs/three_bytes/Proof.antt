@@ -1,12 +1,12 @@
--- `utf8::three` meets its contract. Assumes nothing.
+-- `utf8::three_bytes` meets its contract. Assumes nothing.
 use borrow.Author.Needs.{needs}
 use mathlib.Core.Path.{sym, _∙_}
 use mathlib.Core.List.{[], _∷_}
 use denote.Ref.{now}
 use Rattle.rules.specs.Utf8.{_‥_}
 use Rattle.utf8.proofs.Table.{both-yes, second-no, first-no}
-use Rattle.utf8.proofs.three.Statement.{statement}
-use Rattle.utf8.proofs.three.Tie as tie
+use Rattle.utf8.proofs.three_bytes.Statement.{statement}
+use Rattle.utf8.proofs.three_bytes.Tie as tie
 
 is-in-requires : tie.Need-is-in-requires
 is-in-requires c κs = search needs
@@ -32,6 +32,6 @@ returns-3 c =
     let a = c .before .before .before .args in
     first-no (a .low ‥ a .high ∷ []) (0x80 ‥ 0xBF ∷ []) (now (a .s)) (a .at) 3 (sym (c .before .is-in .ensures) ∙ c .if1 .left)
 
-pub three-spec : {M : Type 1} → statement M
-three-spec =
+pub three-bytes-spec : {M : Type 1} → statement M
+three-bytes-spec =
     tie.close (tie.spec is-in-requires add-is-in is-in-requires-2 returns returns-2 returns-3)

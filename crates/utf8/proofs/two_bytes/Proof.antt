@@ -1,9 +1,9 @@
--- `utf8::two` meets its contract. Assumes nothing.
+-- `utf8::two_bytes` meets its contract. Assumes nothing.
 use borrow.Author.Needs.{needs}
 use mathlib.Core.Path.{sym, _∙_}
 use Rattle.utf8.proofs.Table.{cond-yes, cond-no}
-use Rattle.utf8.proofs.two.Statement.{statement}
-use Rattle.utf8.proofs.two.Tie as tie
+use Rattle.utf8.proofs.two_bytes.Statement.{statement}
+use Rattle.utf8.proofs.two_bytes.Tie as tie
 
 is-in-requires : tie.Need-is-in-requires
 is-in-requires c κs = search needs
@@ -14,5 +14,5 @@ returns c = cond-yes _ _ (sym (c .before .is-in .ensures) ∙ c .if1 .taken)
 returns-2 : tie.Need-returns-2
 returns-2 c = cond-no _ _ (sym (c .before .is-in .ensures) ∙ c .if1 .left)
 
-pub two-spec : {M : Type 1} → statement M
-two-spec = tie.close (tie.spec is-in-requires returns returns-2)
+pub two-bytes-spec : {M : Type 1} → statement M
+two-bytes-spec = tie.close (tie.spec is-in-requires returns returns-2)
