@@ -175,9 +175,9 @@ def settings(s):
 
 
 def every_call(s):
-    """Each call once, with a request that is good on good storage."""
-    for line in ("laid", "init", "options", 'walk "/', 'walk "a', 'look 1 ".', "list 1 0 0 64", "list 1 4096 0 4096", "route 1",
-                 f"route {2 * TOP + 5}", 'root "/', 'lookup 1 "..', "ids 1 2 1", "ids 1 2 0", "remove"):
+    """Each call at least once, some with a request that is refused."""
+    for line in ("laid", "init", "options", 'walk "/', 'walk "a', "list 1 0 0 64", "list 1 4096 0 4096", "route 1", f"route {2 * TOP + 5}",
+                 'root "/', 'lookup 1 "..', "ids 1 2 1", "ids 1 2 0", f"save {H} 4096", "restore 56", "remove"):
         s(line)
     mount(s, '"/')
     mount(s, '"a')
@@ -205,7 +205,6 @@ def tree(s):
         s("root", text(p))
     for node in (1, 2, 3, 4, 0, 13, 14, 1000, TOP - 1, TOP, TOP + 1, MAX64):
         for name in NAMES:
-            s("look", node, text(name))
             s("lookup", node, text(name))
     s(": walks of long paths and names")
     s("text", '"/')
@@ -374,7 +373,7 @@ def random_bytes(s):
         s("random", B, 256)
         s("poke1", 81, "$b")
         s("fold")
-        for line in ('walk "/', 'walk "/..', 'look 1 ".', 'lookup 1 "..', 'lookup 1 "', 'root "/', 'route 1', "list 1 65536 0 4096",
+        for line in ('walk "/', 'walk "/..', 'lookup 1 ".', 'lookup 1 "..', 'lookup 1 "', 'root "/', 'route 1', "list 1 65536 0 4096",
                      "list 0 65536 0 4096", "init", "options"):
             s(line)
         s("watch", 0)
@@ -452,7 +451,6 @@ def odd_tables(s):
     s("views", 0)
     s("loop", C, 0, 13)
     for name in ("a", "b", "c", "d", ".", ".."):
-        s("look", "$c", text(name))
         s("lookup", "$c", text(name))
     s("list", "$c", 4096, 0, 4096)
     s("list", "$c", 100, 1, 300)
@@ -479,6 +477,30 @@ def odd_tables(s):
             s("remove")
     s("plain")
     s("end")
+
+
+def odd_names(s):
+    s(": rows whose names no call makes")
+    n = 16
+    for name in (b"/", b"a/b", b"a/", b"/b", b".", b"..", b"", b"\0", b"a\0b", b"\xff", b"a\xc3", b"a"):
+        fresh(s, n)
+        mount(s, '"/a/b', 5, 9)
+        mount(s, '"/c', 6, 8)
+        s("umount", '"/c')
+        for row in (0, 2):
+            s("poke8", 8192 + 24 * n + 8 * row, int.from_bytes(bytes([len(name)]) + name, "little"))
+        for node in (1, 2, 4, 9):
+            s("lookup", node, text(name))
+        for path in (b"/" + name, b"/" + name + b"/b", b"/" + name + b"/.."):
+            s("walk", text(path))
+            s("root", text(path))
+        s("list", 1, 4096, 0, 4096)
+        mount(s, text(b"/" + name), 7)
+        s("lookup", 1, text(name))
+        s("save", H, 4096)
+        s("umount", text(b"/" + name))
+        create(s, n)
+        s("restore", "$h")
 
 
 # ---- the mount tables
@@ -622,7 +644,7 @@ def removal(s):
     mount(s, '"/a')
     mount(s, '"/a/b', 21, 55)
     s("umount", '"/a')
-    for line in ('walk "/a/b', 'look 3 "..', 'lookup 3 "..', 'look 2 ".', 'lookup 3 ".', "list 2 4096 0 4096", "list 1 4096 0 4096", "list 3 4096 0 4096"):
+    for line in ('walk "/a/b', 'lookup 3 "..', 'lookup 2 ".', 'lookup 3 ".', "list 2 4096 0 4096", "list 1 4096 0 4096", "list 3 4096 0 4096"):
         s(line)
     mount(s, '"/a/b')
     s("list", 1, 4096, 0, 4096)
@@ -691,7 +713,6 @@ def mapped(s):
             mount(s, '"/a', 1, 1, 1, i, top - i, i)
             s("lookup", 1, '"a')
         s("lookup", 1, '".')
-        s("look", 1, '"a')
 
 
 def full_table(s, removes):
@@ -809,10 +830,8 @@ def sessions(s):
                 s("walk", text(path))
             elif what == 11:
                 s("root", text(path))
-            elif what == 12:
+            elif what < 14:
                 s("lookup", node, text(name))
-            elif what == 13:
-                s("look", node, text(name))
             elif what == 14:
                 s("list", node, rng.choice([0, 50, 100, 4096]), rng.randrange(4), rng.choice([40, 90, 4096]))
             else:
@@ -1174,12 +1193,42 @@ def odd_lines(s):
     fresh(s, 2)
     for line in ("bogus", "bogus 1", "Laid", "options7", 'walk', 'walk 3', 'walk "/ 3', "route", "route x", "route 18446744073709551616", "route  1", "route -1",
                  "route 1 2 3 4 5 6 7 8 9", "end", "laid", "random 0 0", "route $a", "set 9 3", "route $b", 'walk "/%zz', 'walk "/%2', 'walk "/%', 'walk "/$', 'walk "/$i',
-                 'walk "/%24a', "save", "save 1 2 3", "restore", "raise 1", "poke8 851964 5", "poke1 1966080 5", "fill 1966070 100 7", "# laid", ""):
+                 'walk "/%24a', "save", "save 1 2 3", "restore", "raise 1", "# laid", ""):
         s(line)
     s("laid")
+    s(": places past the ends")
+    room = script.ROOM
+    s("scatter", 0, room, 3)
+    s("scatter", SAVED, room, 4)
+    fresh(s, 2)
+    s("keep", room)
+    for end in (room, SAVED + room):
+        for at in (end, end + 7, end + 2**40):
+            s("poke1", at, 5)
+            s("raise", at, 5)
+            s("fill", at, 9, 5)
+            s("scatter", at, 9, 5)
+        for at in range(end - 7, end + 2):
+            s("poke8", at, MAX64 // 3)
+        s("same", 0, room)
+        s("save", H, room)
+    for at in (room, SAVED + room):
+        s("poke8", at - 8, MAX64 // 3)
+        s("raise", at - 1, 300)
+        s("fill", at - 20, 100, 7)
+        s("scatter", at - 30, 15, 8)
+        s("same", 0, room - 30)
+        s("same", room - 30, 1)
+        s("same", room - 1, 2**40)
+        s("same", room, 5)
+        s("save", H, room)
+    for n in (room + 1, 2**40):
+        s("back", n)
+        s("same", 0, room)
+        s("keep", n)
 
 
-PARTS = [session, edges, creation, settings, tree, listings, header_bytes, random_bytes, odd_tables, order, numbers, tags, removal, kept_numbers, mapped,
+PARTS = [session, edges, creation, settings, tree, listings, header_bytes, random_bytes, odd_tables, odd_names, order, numbers, tags, removal, kept_numbers, mapped,
          lambda s: full_table(s, 0), lambda s: full_table(s, 1), no_room, sessions, saved_trees, changed_bytes, each_fault, order_of_restore, removed_parents, many_records,
          random_states, odd_lines]
 
