@@ -1,4 +1,5 @@
 //! The options of an instance, and the mapping of user and group ids.
+use crate::exports::OptionsAnswer;
 use crate::sys;
 
 /// One range of ids: those from `internal` on, `range` of them, stand outside from `external` on. Range 0 is no mapping.
@@ -84,7 +85,7 @@ impl VfsOptions {
             | u8::from(self.killpriv_v2) << 5
     }
 
-    pub(crate) fn of(a: &sys::OptionsAnswer) -> VfsOptions {
+    pub(crate) fn of(a: &OptionsAnswer) -> VfsOptions {
         let flag = |bit: u32| a.flags >> bit & 1 == 1;
         VfsOptions {
             no_readdir: flag(0),

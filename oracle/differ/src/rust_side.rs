@@ -157,10 +157,8 @@ impl RustSide {
 impl Side for RustSide {
     fn create(&mut self, c: &Creation) -> Answer {
         FsOptions::set_known(c.known);
-        let (in_opts, out_opts) = match (FsOptions::from_bits(c.in_opts), FsOptions::from_bits(c.out_opts)) {
-            (Some(i), Some(o)) => (i, o),
-            _ => return Answer::of(&[BADOPT]),
-        };
+        let known = |bits| FsOptions::from_bits(bits).expect("known option bits");
+        let (in_opts, out_opts) = (known(c.in_opts), known(c.out_opts));
         self.known = c.known;
         self.vfs = Vfs::new(VfsOptions {
             no_readdir: c.flags & 1 != 0,
@@ -278,13 +276,7 @@ impl Side for RustSide {
     }
 
     fn lookup(&mut self, node: u64, name: &[u8]) -> Answer {
-        let name = match CString::new(name) {
-            Ok(name) => name,
-            Err(_) => {
-                let known = self.lookup(node, b".").code() != NOENT;
-                return Answer::refused(if known { INVAL } else { NOENT }, 6);
-            }
-        };
+        let name = CString::new(name).expect("a name without byte 0");
         match self.vfs.probe_lookup(node, &name) {
             Ok(e) => Answer::of(&[
                 0,
@@ -334,10 +326,7 @@ impl Side for RustSide {
     }
 
     fn validate_path_component(&mut self, name: &[u8]) -> Answer {
-        let name = match CString::new(name) {
-            Ok(name) => name,
-            Err(_) => return Answer::of(&[INVAL]),
-        };
+        let name = CString::new(name).expect("a name without byte 0");
         match validate_path_component(&name) {
             Ok(()) => Answer::of(&[0]),
             Err(e) => Answer::of(&[code_of(&e)]),
@@ -413,6 +402,7 @@ impl Side for RustSide {
             slots,
             mounts,
             options: options_of(&self.vfs.options()),
+            mapping: self.vfs.probe_mapping(),
             initialized: self.vfs.initialized(),
             removes: self.vfs.probe_removes(),
         }
