@@ -99,71 +99,97 @@ def kept(index, number):
     return index * 2**56 + number
 
 
-def script():
-    out = [EIGHT.rstrip(b"\n")]
+class Lines:
+    """The lines so far, and the session that they make."""
 
-    def say(*lines):
-        out.extend(l if isinstance(l, bytes) else l.encode() for l in lines)
+    def __init__(self):
+        self.lines = []
+        self.session = Session()
 
+    def say(self, *lines):
+        """Lines more; the answer of the last."""
+        for l in lines:
+            self.lines.append(l if isinstance(l, bytes) else l.encode())
+            answer = self.session.line(self.lines[-1])
+        return answer
+
+
+def forms(w):
     # lines of no form: other verbs, fields missing, empty or too many, signs, numbers too big
-    say("", " ", "walk", "walk ", " walk /a", "walk  /a", "walk /a ", "Walk /a", "walk /a b", "mount /a 7 1", "mount /a 7 1 1000 5",
-        "umount", "umount /a b", "look 1", "look a a", "look -1 a", "look +1 a", "look 1  a", "walks /a", "mount /x -7 1 1000",
-        "mount /x 4294967296 1 1000", "mount /x 7 18446744073709551616 1000", "mount /x 7 1 18446744073709551616",
-        "mount bad 4294967296 1 1000", "look 18446744073709551616 a", "?", "walk /x")
+    w.say("", " ", "walk", "walk ", " walk /a", "walk  /a", "walk /a ", "Walk /a", "walk /a b", "mount /a 7 1", "mount /a 7 1 1000 5",
+          "umount", "umount /a b", "look 1", "look a a", "look -1 a", "look +1 a", "look 1  a", "walks /a", "mount /x -7 1 1000",
+          "mount /x 4294967296 1 1000", "mount /x 7 18446744073709551616 1000", "mount /x 7 1 18446744073709551616",
+          "mount bad 4294967296 1 1000", "look 18446744073709551616 a", "?", "walk /x")
     # numbers by value: leading zeros, the largest
-    say("mount /n 4294967295 72057594037927935 72057594037927935", "look 1 n", "mount /n 0000000000000000000000000000000000000007 01 0001000", "umount /n")
+    w.say("mount /n 4294967295 72057594037927935 72057594037927935", "look 1 n", "mount /n 0000000000000000000000000000000000000007 01 0001000", "umount /n")
     # walk: root, missing names, dots, `..` above the root; not UTF-8, without slash, empty parts
-    say("walk /", "walk /a", "walk /a/b", "walk //a/./b/", "walk /a/b/..", "walk /../../a", "walk /a/../zz", "walk a", b"walk /\xff", b"walk \xc0\xaf", "walk .")
+    w.say("walk /", "walk /a", "walk /a/b", "walk //a/./b/", "walk /a/b/..", "walk /../../a", "walk /a/../zz", "walk a", b"walk /\xff", b"walk \xc0\xaf", "walk .")
     # other bytes are ordinary bytes of a path
-    say(b"mount /t\tab 3 5 9", b"walk /t\tab", b"mount /cr\r 3 5 9", b"walk /cr\r", b"walk /cr", b"mount /nul\0x 3 5 9", b"walk /nul\0x", "mount /größe 3 5 9", "walk /größe")
+    w.say(b"mount /t\tab 3 5 9", b"walk /t\tab", b"mount /cr\r 3 5 9", b"walk /cr\r", b"walk /cr", b"mount /nul\0x 3 5 9", b"walk /nul\0x", "mount /größe 3 5 9", "walk /größe")
+
+
+def calls(w):
     # umount: unknown, nothing mounted, bad paths
-    say("umount /zz", "umount /a/b", "umount b", b"umount /\xfe", b"umount /t\tab", b"umount /cr\r", b"umount /nul\0x", "umount /größe")
+    w.say("umount /zz", "umount /a/b", "umount b", b"umount /\xfe", b"umount /t\tab", b"umount /cr\r", b"umount /nul\0x", "umount /größe")
     # mount: too long, not UTF-8, numbers above 2^56 - 1, no leading slash; each but the last two leaves the counter
-    say("mount /" + "n" * 256 + " 1 1 1", "mount /" + "n" * 255 + " 1 1 1", "mount " + "/m" * 2049 + " 1 1 1", "mount " + "/./." * 1024 + " 1 1 1", "umount /",
-        b"mount /\xed\xa0\x80 1 1 1", "mount /i 1 1 72057594037927936", "mount i 1 1 1", "mount /i 1 72057594037927936 5", "walk /i", "mount /i 1 1 72057594037927935")
+    w.say("mount /" + "n" * 256 + " 1 1 1", "mount /" + "n" * 255 + " 1 1 1", "mount " + "/m" * 2049 + " 1 1 1", "mount " + "/./." * 1024 + " 1 1 1", "umount /",
+          b"mount /\xed\xa0\x80 1 1 1", "mount /i 1 1 72057594037927936", "mount i 1 1 1", "mount /i 1 72057594037927936 5", "walk /i", "mount /i 1 1 72057594037927935")
     # mounts over each other: a new index each time, the old one freed
-    say("mount /a/b 11 1 9", "mount /a/b 12 1 9", "mount /a/b 0 1 9", "look 2 b", "umount /a/b")
+    w.say("mount /a/b 11 1 9", "mount /a/b 12 1 9", "mount /a/b 0 1 9", "look 2 b", "umount /a/b")
     # lookups: by `.` and `..`, by a name with `/`, of the root number 0; not UTF-8, byte 0; unknown node
-    say("look 1 .", "look 1 ..", "look 2 .", "look 2 ..", "look 3 ..", "look 2 b", "look 1 a/b", "look 1 zz", b"look 1 \xff", b"look 1 a\0", "look 999 a", b"look 999 \xff",
-        "mount /z 5 0 9", "look 1 z", "umount /z")
+    w.say("look 1 .", "look 1 ..", "look 2 .", "look 2 ..", "look 3 ..", "look 2 b", "look 1 a/b", "look 1 zz", b"look 1 \xff", b"look 1 a\0", "look 999 a", b"look 999 \xff",
+          "mount /z 5 0 9", "look 1 z", "umount /z")
     # a mount on the root diverts number 1; its own numbers go to the backend
-    say("mount / 70 41 1000", "look 1 a", "look 2 .", "look 3 ..", "look 2 ..", "umount /", "look 1 .")
-    s = Session()
-    for l in b"\n".join(out).split(b"\n"):
-        s.line(l)
-    # numbers that a host keeps: routed while their index is held, refused once it is free, and alive again only when the index has come round
-    code, k, _ = s.line(b"mount /lab 90 1 1000")
-    say("mount /lab 90 1 1000", f"look {kept(k, 5)} x", "mount /lab 91 1 1000", f"look {kept(k, 5)} x", f"look {kept(k + 1, 1)} {'x' * 300}", f"look {kept(k + 1, 0)} x")
-    s.line(b"mount /lab 91 1 1000")
+    w.say("mount / 70 41 1000", "look 1 a", "look 2 .", "look 3 ..", "look 2 ..", "umount /", "look 1 .")
+
+
+def kept_numbers(w):
+    """Numbers that a host keeps: routed while their index is held, refused once it is free, and alive again only when the index has come round."""
+    _, k, _ = w.say("mount /lab 90 1 1000")
+    w.say(f"look {kept(k, 5)} x", "mount /lab 91 1 1000", f"look {kept(k, 5)} x", f"look {kept(k + 1, 1)} {'x' * 300}", f"look {kept(k + 1, 0)} x")
     seen = 0
-    while s.instance.slots[k] is None:
+    while w.session.instance.slots[k] is None:
         seen += 1
-        l = f"mount /round/{seen % 3} {1000 + seen} {seen} 5000".encode()
-        s.line(l)
-        say(l)
+        w.say(f"mount /round/{seen % 3} {1000 + seen} {seen} 5000")
         if seen % 40 == 0:
-            say(f"look {kept(k, 5)} x")
-    say(f"look {kept(k, 5)} x", f"look {kept(k, 5)} .", f"look {2**64 - 1} x", f"look {kept(255, 1)} x")
-    # 64 nodes: the last that fits, then none; what needs no node still goes
-    have = 1 + len(s.instance.nodes)
-    say("mount /" + "/".join(f"d{n}" for n in range(NODES - have + 1)) + " 2 2 2")
-    say("mount /" + "/".join(f"d{n}" for n in range(NODES - have)) + " 2 2 2", "mount /more 2 2 2", "mount /d0/d1/../x 2 2 2", "mount more 2 2 2", "mount /more 2 72057594037927936 2",
-        "mount /d0 2 2 2", "mount /d0/d1 3 3 3", "walk /d0/d1", "umount /d0", "umount /d0/d1", "look 1 d0", "mount / 4 4 4", "umount /")
+            w.say(f"look {kept(k, 5)} x")
+    w.say(f"look {kept(k, 5)} x", f"look {kept(k, 5)} .", f"look {2**64 - 1} x", f"look {kept(255, 1)} x")
+
+
+def full_tree(w):
+    """64 nodes: the last that fits, then none; what needs no node still goes."""
+    room = NODES - 1 - len(w.session.instance.nodes)
+    w.say("mount /" + "/".join(f"d{n}" for n in range(room + 1)) + " 2 2 2")
+    w.say("mount /" + "/".join(f"d{n}" for n in range(room)) + " 2 2 2", "mount /more 2 2 2", "mount /d0/d1/../x 2 2 2", "mount more 2 2 2", "mount /more 2 72057594037927936 2",
+          "mount /d0 2 2 2", "mount /d0/d1 3 3 3", "walk /d0/d1", "umount /d0", "umount /d0/d1", "look 1 d0", "mount / 4 4 4", "umount /")
+
+
+def long_lines(w):
     # the limit of a line: 8,192 bytes are answered, 8,193 are `?`, and so is far more
-    say("walk /" + "w" * 8186, "walk /" + "w" * 8187, "mount / " + "0" * 8178 + "7 1 9", "mount / " + "0" * 8179 + "7 1 9", "walk /" + "/" * 8186, "x" * 8192, "x" * 8193)
+    w.say("walk /" + "w" * 8186, "walk /" + "w" * 8187, "mount / " + "0" * 8178 + "7 1 9", "mount / " + "0" * 8179 + "7 1 9", "walk /" + "/" * 8186, "x" * 8192, "x" * 8193)
     # one more, up to where the program's next piece of 65,536 bytes begins; that piece has more answers than an output of as many bytes holds
-    before = len(b"\n".join(out)) + 1
-    say("walk /" + "/" * (65536 - before % 65536 + 65536 - 7), *[""] * 33000)
-    # a mixed tail, drawn by a fixed seed
+    before = len(b"\n".join(w.lines)) + 1
+    w.say("walk /" + "/" * (65536 - before % 65536 + 65536 - 7), *[""] * 33000)
+
+
+def drawn(w):
+    """A mixed tail, drawn by a fixed seed."""
     draw = random.Random(20260)
     names = ["a", "b", "lab", "round", "1", "d0", "d1", "..", ".", "zz"]
     for _ in range(150):
         path = "".join("/" + draw.choice(names) for _ in range(draw.randint(1, 4)))
-        say(draw.choice([f"walk {path}", f"umount {path}", f"mount {path} {draw.randrange(9)} {draw.randrange(9)} 9",
-                         f"look {draw.choice([0, 1, 2, 3, 5, kept(draw.randrange(256), 1)])} {draw.choice(names)}"]))
-    # the last line has no line end
-    say("walk /a/b")
-    return b"\n".join(out)
+        w.say(draw.choice([f"walk {path}", f"umount {path}", f"mount {path} {draw.randrange(9)} {draw.randrange(9)} 9",
+                           f"look {draw.choice([0, 1, 2, 3, 5, kept(draw.randrange(256), 1)])} {draw.choice(names)}"]))
+
+
+def script():
+    """The last line has no line end."""
+    w = Lines()
+    w.say(*EIGHT.rstrip(b"\n").split(b"\n"))
+    for part in (forms, calls, kept_numbers, full_tree, long_lines, drawn):
+        part(w)
+    w.say("walk /a/b")
+    return b"\n".join(w.lines)
 
 
 def write(path, b):

@@ -106,6 +106,21 @@ impl PortSide {
             }),
         }
     }
+
+    /// The mounts of the root and of the nodes in their rows.
+    fn mounts(&self, nodes: &[Node], capacity: usize) -> Vec<Mount> {
+        let mut mounts: Vec<Mount> = self.mount_in(1, 88, 96, 100, 104).into_iter().collect();
+        for (i, n) in nodes.iter().enumerate() {
+            mounts.extend(self.mount_in(
+                n.number,
+                8192 + 16 * capacity + 8 * i,
+                8192 + 32 * capacity + 4 * i,
+                8192 + 36 * capacity + 4 * i,
+                8192 + 40 * capacity + 4 * i,
+            ));
+        }
+        mounts
+    }
 }
 
 impl Side for PortSide {
@@ -271,16 +286,7 @@ impl Side for PortSide {
             .chain(nodes.iter().map(|n| n.number))
             .map(|p| (p, nodes.iter().filter(|n| n.parent == p).map(|n| n.number).collect()))
             .collect();
-        let mut mounts: Vec<Mount> = self.mount_in(1, 88, 96, 100, 104).into_iter().collect();
-        for (i, n) in nodes.iter().enumerate() {
-            mounts.extend(self.mount_in(
-                n.number,
-                8192 + 16 * capacity + 8 * i,
-                8192 + 32 * capacity + 4 * i,
-                8192 + 36 * capacity + 4 * i,
-                8192 + 40 * capacity + 4 * i,
-            ));
-        }
+        let mounts = self.mounts(&nodes, capacity);
         Tables {
             nodes,
             children,

@@ -119,6 +119,17 @@ impl RustSide {
         mounts.iter().map(|m| (m.node, m.fs_idx, self.slot(m.fs_idx))).collect()
     }
 
+    /// The numbers of a directory's children, as its listing shows them.
+    fn children(&self, parent: u64) -> Vec<u64> {
+        let mut below = Vec::new();
+        let listed = self.vfs.probe_readdir(parent, u32::MAX, 0, &mut |entry| {
+            below.push(entry.ino);
+            Ok(1)
+        });
+        listed.unwrap();
+        below
+    }
+
     /// Of the mounts that stood before a mount on a path, the one on the same node. The path leads there by now, also where
     /// the mount made some of its names.
     fn found(&self, path: &str, mounted: &[(u64, u8, Option<u32>)]) -> Option<(u64, u8, Option<u32>)> {
@@ -368,16 +379,8 @@ impl Side for RustSide {
 
     fn tables(&self) -> Tables {
         let (next, nodes) = tree_from_shim(&self.vfs.probe_tree()).unwrap();
-        let mut children = Vec::new();
-        for parent in std::iter::once(1).chain(nodes.iter().map(|n| n.number)) {
-            let mut below = Vec::new();
-            let listed = self.vfs.probe_readdir(parent, u32::MAX, 0, &mut |entry| {
-                below.push(entry.ino);
-                Ok(1)
-            });
-            listed.unwrap();
-            children.push((parent, below));
-        }
+        let parents = std::iter::once(1).chain(nodes.iter().map(|n| n.number));
+        let children = parents.map(|p| (p, self.children(p))).collect();
         let mut mounts: Vec<Mount> = self
             .vfs
             .probe_mounts()
