@@ -6,6 +6,7 @@
 The script is made here; the answers come from tools/model, which follows docs/RULES.md and, for what damaged bytes
 mean, docs/LAYOUT.md. Nothing comes from the port. docs/TESTS.md says what the script covers and how it is written.
 """
+import itertools
 import os
 import random
 import sys
@@ -111,7 +112,10 @@ def edges(s):
 
 # ---- creation
 
-def creation(s):
+BAD_MAP = (2**32 - 1, 0, 1)
+
+
+def creation_limits(s):
     s(": creation at the limits of N and of the bytes")
     s("views", 1)
     for n in (1, 2, 64, 1024):
@@ -126,19 +130,24 @@ def creation(s):
                 s(verb)
         for at, end in ((84, 88), (96, 256), (1536, room)):
             s("same", at, end - at)
+
+
+def creation_order(s):
     s(": creation refuses in order: SMALL, BADOPT, BADMAP")
     s("scatter", 0, size(64) + 64, 5)
     s("watch", size(64) + 64)
-    bad_map = (2**32 - 1, 0, 1)
     for length in (size(64) - 1, size(64)):
         s("length", length)
         for known in (1, 0):
-            for mapping in (bad_map, (0, 0, 1)):
+            for mapping in (BAD_MAP, (0, 0, 1)):
                 create(s, 64, known, 1, 0, 0, mapping)
     s("length", 600000)
     for n in (0, 1025, 2**16, 2**32 + 64, 2**55 + 64, 2**63, MAX64):
-        create(s, n, 0, 1, 1, 64, bad_map)
+        create(s, n, 0, 1, 1, 64, BAD_MAP)
     s("length", size(64))
+
+
+def creation_options(s):
     s(": option bits, flags and mappings")
     for bit in range(0, 64, 7):
         word = 1 << bit
@@ -175,9 +184,9 @@ def settings(s):
 
 
 def every_call(s):
-    """Each call once, with a request that is good on good storage."""
-    for line in ("laid", "init", "options", 'walk "/', 'walk "a', 'look 1 ".', "list 1 0 0 64", "list 1 4096 0 4096", "route 1",
-                 f"route {2 * TOP + 5}", 'root "/', 'lookup 1 "..', "ids 1 2 1", "ids 1 2 0", "remove"):
+    """Each call at least once, some with a request that is refused."""
+    for line in ("laid", "init", "options", 'walk "/', 'walk "a', "list 1 0 0 64", "list 1 4096 0 4096", "route 1", f"route {2 * TOP + 5}",
+                 'root "/', 'lookup 1 "..', "ids 1 2 1", "ids 1 2 0", f"save {H} 4096", "restore 56", "remove"):
         s(line)
     mount(s, '"/')
     mount(s, '"a')
@@ -205,7 +214,6 @@ def tree(s):
         s("root", text(p))
     for node in (1, 2, 3, 4, 0, 13, 14, 1000, TOP - 1, TOP, TOP + 1, MAX64):
         for name in NAMES:
-            s("look", node, text(name))
             s("lookup", node, text(name))
     s(": walks of long paths and names")
     s("text", '"/')
@@ -227,7 +235,7 @@ def tree(s):
         s(verb, KEPT)
 
 
-def listings(s):
+def listings_cut(s):
     s(": listings cut at every size, offset and buffer")
     fresh(s, 16)
     for k in (1, 7, 8, 9, 6, 15, 16, 17, 3, 31, 32, 33):
@@ -255,6 +263,9 @@ def listings(s):
         for offset in (0, 1, 11, 12, 13, 2**32, 2**63, MAX64):
             for n in (0, 1, 32, 2**32 - 1):
                 s("list", node, n, offset, 64)
+
+
+def listings_long(s):
     s(": a directory with names of every length, and a full one")
     fresh(s, 1024, watch=False)
     s("views", 0)
@@ -318,6 +329,9 @@ def header_bytes(s):
     s("end")
     s("plain")
     s("end")
+
+
+def header_bytes_called(s):
     s(": a byte of the header changed, and every call")
     s("views", 1)
     s("fold")
@@ -329,6 +343,9 @@ def header_bytes(s):
     s("end")
     s("plain")
     s("back", size(2) + 64)
+
+
+def header_limits(s):
     s(": the limits of the fields that the rule tests")
     for at, values in ((8, (0, 1, 2, 3, 1024, 1025, 2**63, MAX64)), (16, (0, 1, 2, 3, 2**32, MAX64)), (24, (0, 1, 2, 3, TOP - 1, TOP, TOP + 1, MAX64)),
                        (32, (0, 0xFF, 0x0F, 0xF0, MAX64)), (40, (0, 0xFF, 0x100)), (48, (0, 0xFF, 1 << 63))):
@@ -361,43 +378,59 @@ def random_bytes(s):
     s("plain")
     s("end")
     for n in (1, 2, 16, 64, 1024):
-        s("length", size(n))
-        s("watch", size(n) + 64)
-        s("loop", A, 0, 4 if n == 1024 else 30)
-        s("scatter", 0, size(n), "$a")
-        create(s, n, MAX64, 3, 5, 7, (0, 1000, 500))
-        s("scatter", 84, size(n) - 84, "$a")
-        s("poke8", 16, n - 1)
-        s("random", B, 1000)
-        s("add", B, 2)
-        s("poke8", 24, "$b")
-        s("random", B, 256)
-        s("poke1", 81, "$b")
-        s("fold")
-        for line in ('walk "/', 'walk "/..', 'look 1 ".', 'lookup 1 "..', 'lookup 1 "', 'root "/', 'route 1', "list 1 65536 0 4096",
-                     "list 0 65536 0 4096", "init", "options"):
-            s(line)
-        s("watch", 0)
-        s("views", 0)
-        s("set", D, 1)
-        s("loop", C, 0, 256)
-        s("route", "$d")
-        s("add", D, TOP)
-        s("end")
-        s("watch", size(n) + 64)
-        s("views", 1)
-        for p in ("/", "/new", "/new/er", "/x/../y", "/new", "x"):
-            mount(s, text(p), 5, 3)
-            mount_at(s, 200, text(p), 6, 3)
-        s("umount", '"/')
-        s("umount", '"/new')
-        s("remove")
-        mount_at(s, 1, '"/new')
-        s("umount", '"/new')
-        s("umount", '"/new/er')
-        s("list", 1, 65536, 0, 4096)
-        s("plain")
-        s("end")
+        random_tables(s, n)
+
+
+def random_tables(s, n):
+    s("length", size(n))
+    s("watch", size(n) + 64)
+    s("loop", A, 0, 4 if n == 1024 else 30)
+    s("scatter", 0, size(n), "$a")
+    create(s, n, MAX64, 3, 5, 7, (0, 1000, 500))
+    s("scatter", 84, size(n) - 84, "$a")
+    s("poke8", 16, n - 1)
+    s("random", B, 1000)
+    s("add", B, 2)
+    s("poke8", 24, "$b")
+    s("random", B, 256)
+    s("poke1", 81, "$b")
+    s("fold")
+    for line in ('walk "/', 'walk "/..', 'lookup 1 ".', 'lookup 1 "..', 'lookup 1 "', 'root "/', 'route 1', "list 1 65536 0 4096",
+                 "list 0 65536 0 4096", "init", "options"):
+        s(line)
+    random_tables_routed(s, n)
+    random_tables_mounted(s)
+    s("plain")
+    s("end")
+
+
+def random_tables_routed(s, n):
+    """Number 1 of every index."""
+    s("watch", 0)
+    s("views", 0)
+    s("set", D, 1)
+    s("loop", C, 0, 256)
+    s("route", "$d")
+    s("add", D, TOP)
+    s("end")
+    s("watch", size(n) + 64)
+    s("views", 1)
+
+
+def random_tables_mounted(s):
+    for p in ("/", "/new", "/new/er", "/x/../y", "/new", "x"):
+        mount(s, text(p), 5, 3)
+        mount_at(s, 200, text(p), 6, 3)
+    s("umount", '"/')
+    s("umount", '"/new')
+    s("remove")
+    mount_at(s, 1, '"/new')
+    s("umount", '"/new')
+    s("umount", '"/new/er')
+    s("list", 1, 65536, 0, 4096)
+
+
+ODD_PATHS = ["/a", "/b", "/c", "/a/b", "/a/..", "/a/../b", "/b/../..", "/c/c/c/c", "/a/b/c/d/../..", "/d/a/../e"]
 
 
 def odd_tables(s):
@@ -410,6 +443,20 @@ def odd_tables(s):
     s("loop", A, 0, 150)
     s("watch", size(n) + 64)
     s("views", 1)
+    odd_rows(s, n)
+    s("fold")
+    s("watch", 0)
+    s("views", 0)
+    odd_rows_asked(s)
+    s("watch", size(n) + 64)
+    s("views", 1)
+    odd_rows_mounted(s)
+    s("plain")
+    s("end")
+
+
+def odd_rows(s, n):
+    """A new instance whose rows and two slots are drawn."""
     s("fill", 8192, 512 * n, 0)
     create(s, n, 0, 0, 0, 0, (0, 7, 3))
     s("random", B, n)
@@ -422,50 +469,48 @@ def odd_tables(s):
     s("set", G, 8192 + 16 * n)
     s("set", H, 8192 + 24 * n)
     s("loop", C, 0, n - 1)
-    for v, cell in (("$e", E), ("$f", F)):
-        s("random", D, 12)
-        s("poke8", v, "$d")
-        s("add", cell, 7)
-        s("random", D, 3)
-        s("poke1", v, "$d")
-        s("add", cell, 1)
-    s("random", D, 9)
-    s("poke8", "$g", "$d")
-    s("add", G, 7)
-    s("random", D, 6)
-    s("poke1", "$g", "$d")
-    s("add", G, 1)
-    s("poke1", "$h", 1)
-    s("add", H, 1)
-    s("random", D, 4)
-    s("add", D, 97)
-    s("poke1", "$h", "$d")
-    s("add", H, 7)
+    odd_row(s)
     s("end")
     s("loop", C, 0, 6)
     s("random", D, 3)
     s("poke1", 258, "$d")
     s("poke1", 261, "$d")
     s("end")
-    s("fold")
-    s("watch", 0)
-    s("views", 0)
+
+
+def odd_row(s):
+    """Number, parent, mount and name of the row whose cells the variables e to h lead to, which go on to the next row."""
+    for v, cell, limit, top in (("$e", E, 12, 3), ("$f", F, 12, 3), ("$g", G, 9, 6)):
+        s("random", D, limit)
+        s("poke8", v, "$d")
+        s("add", cell, 7)
+        s("random", D, top)
+        s("poke1", v, "$d")
+        s("add", cell, 1)
+    s("poke1", "$h", 1)
+    s("add", H, 1)
+    s("random", D, 4)
+    s("add", D, 97)
+    s("poke1", "$h", "$d")
+    s("add", H, 7)
+
+
+def odd_rows_asked(s):
     s("loop", C, 0, 13)
     for name in ("a", "b", "c", "d", ".", ".."):
-        s("look", "$c", text(name))
         s("lookup", "$c", text(name))
     s("list", "$c", 4096, 0, 4096)
     s("list", "$c", 100, 1, 300)
     s("end")
-    paths = ["/a", "/b", "/c", "/a/b", "/a/..", "/a/../b", "/b/../..", "/c/c/c/c", "/a/b/c/d/../..", "/d/a/../e"]
-    for p in paths:
+    for p in ODD_PATHS:
         s("walk", text(p))
         s("root", text(p))
-    s("watch", size(n) + 64)
-    s("views", 1)
+
+
+def odd_rows_mounted(s):
     rng = random.Random(5)
     for turn in range(3):
-        for p in paths:
+        for p in ODD_PATHS:
             what = rng.randrange(4)
             if what == 0:
                 mount(s, text(p), rng.randrange(9), rng.randrange(9))
@@ -477,8 +522,30 @@ def odd_tables(s):
                 mount(s, text(p), rng.randrange(9), TOP)
         if turn == 1:
             s("remove")
-    s("plain")
-    s("end")
+
+
+def odd_names(s):
+    s(": rows whose names no call makes")
+    n = 16
+    for name in (b"/", b"a/b", b"a/", b"/b", b".", b"..", b"", b"\0", b"a\0b", b"\xff", b"a\xc3", b"a"):
+        fresh(s, n)
+        mount(s, '"/a/b', 5, 9)
+        mount(s, '"/c', 6, 8)
+        s("umount", '"/c')
+        for row in (0, 2):
+            s("poke8", 8192 + 24 * n + 8 * row, int.from_bytes(bytes([len(name)]) + name, "little"))
+        for node in (1, 2, 4, 9):
+            s("lookup", node, text(name))
+        for path in (b"/" + name, b"/" + name + b"/b", b"/" + name + b"/.."):
+            s("walk", text(path))
+            s("root", text(path))
+        s("list", 1, 4096, 0, 4096)
+        mount(s, text(b"/" + name), 7)
+        s("lookup", 1, text(name))
+        s("save", H, 4096)
+        s("umount", text(b"/" + name))
+        create(s, n)
+        s("restore", "$h")
 
 
 # ---- the mount tables
@@ -491,32 +558,34 @@ def order(s):
     s("watch", size(4) + 64)
     s("views", 1)
     s("keep", size(4) + 64)
-    for room in (1, 0):
-        for full in (0, 1):
-            s(f": room {room}, full {full}")
-            for long in (0, 1):
-                for bad in (0, 1):
-                    for rooted in (1, 0):
-                        for largest in (TOP - 1, TOP):
-                            for root in (TOP - 1, TOP):
-                                for k in (None, 1, 0):
-                                    s("back", size(4) + 64)
-                                    if full:
-                                        s("fill", 257, 255, 1)
-                                    s("text", '"/x/../n/' if rooted else '"n/')
-                                    if not room:
-                                        s("more", 1, 47)
-                                        s("more", 1, 46)
-                                        s("more", 1, 47)
-                                        s("more", 1, 98)
-                                    if bad:
-                                        s("more", 1, 255)
-                                    if long:
-                                        s("more", 256, 99)
-                                    if k is None:
-                                        mount(s, KEPT, 3, root, largest)
-                                    else:
-                                        mount_at(s, k, KEPT, 3, root, largest)
+    for room, full in itertools.product((1, 0), (0, 1)):
+        s(f": room {room}, full {full}")
+        for long, bad, rooted in itertools.product((0, 1), (0, 1), (1, 0)):
+            for largest, root, k in itertools.product((TOP - 1, TOP), (TOP - 1, TOP), (None, 1, 0)):
+                s("back", size(4) + 64)
+                if full:
+                    s("fill", 257, 255, 1)
+                faulty_path(s, room, long, bad, rooted)
+                if k is None:
+                    mount(s, KEPT, 3, root, largest)
+                else:
+                    mount_at(s, k, KEPT, 3, root, largest)
+
+
+def faulty_path(s, room, long, bad, rooted):
+    s("text", '"/x/../n/' if rooted else '"n/')
+    if not room:
+        s("more", 1, 47)
+        s("more", 1, 46)
+        s("more", 1, 47)
+        s("more", 1, 98)
+    if bad:
+        s("more", 1, 255)
+    if long:
+        s("more", 256, 99)
+
+
+def path_limits(s):
     s(": paths at their limits")
     s("back", size(4) + 64)
     s("text", '"/')
@@ -606,12 +675,17 @@ def tags(s):
         mount(s, '"/', 13, 0)
         s("route", 1)
         s("lookup", 1, '"..')
-        s("loop", A, 0, 8)
-        mount_at(s, "$a", '"/s$a', "$a")
-        mount_at(s, "$a", '"/t$a', 100)
-        s("umount", '"/s$a')
-        s("umount", '"/t$a')
-        s("end")
+        shared_index(s)
+
+
+def shared_index(s):
+    """Two nodes at each of the indexes 0 to 7, of which 0 is refused."""
+    s("loop", A, 0, 8)
+    mount_at(s, "$a", '"/s$a', "$a")
+    mount_at(s, "$a", '"/t$a', 100)
+    s("umount", '"/s$a')
+    s("umount", '"/t$a')
+    s("end")
 
 
 def removal(s):
@@ -622,7 +696,7 @@ def removal(s):
     mount(s, '"/a')
     mount(s, '"/a/b', 21, 55)
     s("umount", '"/a')
-    for line in ('walk "/a/b', 'look 3 "..', 'lookup 3 "..', 'look 2 ".', 'lookup 3 ".', "list 2 4096 0 4096", "list 1 4096 0 4096", "list 3 4096 0 4096"):
+    for line in ('walk "/a/b', 'lookup 3 "..', 'lookup 2 ".', 'lookup 3 ".', "list 2 4096 0 4096", "list 1 4096 0 4096", "list 3 4096 0 4096"):
         s(line)
     mount(s, '"/a/b')
     s("list", 1, 4096, 0, 4096)
@@ -691,7 +765,6 @@ def mapped(s):
             mount(s, '"/a', 1, 1, 1, i, top - i, i)
             s("lookup", 1, '"a')
         s("lookup", 1, '".')
-        s("look", 1, '"a')
 
 
 def full_table(s, removes):
@@ -710,6 +783,10 @@ def full_table(s, removes):
     mount(s, '"/one/more')
     s("keep", size(n))
     s("views", 0)
+    from_every_counter(s, n, removes)
+
+
+def from_every_counter(s, n, removes):
     rng = random.Random(17 + removes)
     block = [block_line(rng) for _ in range(150)]
     s("seed", 99 + removes)
@@ -809,10 +886,8 @@ def sessions(s):
                 s("walk", text(path))
             elif what == 11:
                 s("root", text(path))
-            elif what == 12:
+            elif what < 14:
                 s("lookup", node, text(name))
-            elif what == 13:
-                s("look", node, text(name))
             elif what == 14:
                 s("list", node, rng.choice([0, 50, 100, 4096]), rng.randrange(4), rng.choice([40, 90, 4096]))
             else:
@@ -863,31 +938,38 @@ def grown(s, n, count, long):
 def saved_trees(s):
     s(": trees of 0, 1, 63 and 1,023 nodes saved and restored")
     for count, long in ((0, 0), (1, 0), (1, 1), (63, 0), (63, 1), (1023, 0), (1023, 1)):
-        length = 56 + count * (18 + (255 if long else 1))
-        s(f": {count} nodes, {length} bytes")
-        n = count + 1
-        s("fold")
-        grown(s, n, count, long)
-        s("plain")
-        s("watch", size(n) + 64)
-        s("views", 1)
-        s("fill", SAVED, length + 128, 165)
-        for room in (0, 55, length - 1, length, length + 7, length + 64):
-            s("save", B, room)
-        s("restore", "$b")
-        for capacity in (n, count, 1024):
-            if not capacity:
-                continue
-            s("scatter", 0, min(size(capacity) + 64, 60000), count)
-            fresh(s, capacity, known=0x85, mapping=(7, 8, 9))
-            for at, turns in (("$b", 1), (length - 1, 1), (length + 1, 1), ("$b", 2)):
-                for _ in range(turns):
-                    s("restore", at)
-            for line in ("init", "options", 'walk "/1', "ids 3 7 1", "list 1 65536 0 4096"):
-                s(line)
-            s("save", C, length)
-            mount(s, '"/1')
-        s("views", 0)
+        saved_tree(s, count, long)
+
+
+def saved_tree(s, count, long):
+    length = 56 + count * (18 + (255 if long else 1))
+    s(f": {count} nodes, {length} bytes")
+    n = count + 1
+    s("fold")
+    grown(s, n, count, long)
+    s("plain")
+    s("watch", size(n) + 64)
+    s("views", 1)
+    s("fill", SAVED, length + 128, 165)
+    for room in (0, 55, length - 1, length, length + 7, length + 64):
+        s("save", B, room)
+    s("restore", "$b")
+    for capacity in (n, count, 1024):
+        if not capacity:
+            continue
+        s("scatter", 0, min(size(capacity) + 64, 60000), count)
+        fresh(s, capacity, known=0x85, mapping=(7, 8, 9))
+        for at, turns in (("$b", 1), (length - 1, 1), (length + 1, 1), ("$b", 2)):
+            for _ in range(turns):
+                s("restore", at)
+        for line in ("init", "options", 'walk "/1', "ids 3 7 1", "list 1 65536 0 4096"):
+            s(line)
+        s("save", C, length)
+        mount(s, '"/1')
+    s("views", 0)
+
+
+def deep_tree(s):
     s(": a deep tree, names that differ late, and mounts that are not saved")
     fresh(s, 64, known=1, in_opts=1)
     for p in ("/a/b/c/d/e/f", "/a/b/c/\u00e9\u20ac\U0001f600", "/a/..b/.c/...", "/a/b/x1234567y", "/a/b/x1234567z", b"/a/nul\0nul", "/"):
@@ -938,6 +1020,10 @@ def changed_bytes(s):
     s("end")
     s("plain")
     s("end")
+
+
+def cut_bytes(s):
+    good = small_state()
     s(": the same state cut at every length, with bytes behind, and bytes taken out or put in")
     for n in (7, 6, 5):
         s("fill", SAVED + len(good), 100, 0)
@@ -1007,28 +1093,30 @@ def each_fault(s):
             s("save", B, len(case))
 
 
+SAVED_NODES = [record(2, 1, b"a"), record(3, 1, b"b")]
+
+
 def order_of_restore(s):
     s(": the order of the refusals of a restore: SMALL, NOTFRESH, BADSAVE, BADOPT, NOROOM")
-    nodes = [record(2, 1, b"a"), record(3, 1, b"b")]
     s.put.clear()
-    for small in (1, 0):
-        for stale in (0, 1, 2, 3):
-            for bad in (1, 0):
-                for options in ((2, 0, 0, 0, 0, 0), (0, 2, 0, 0, 0, 0), (1, 1, 0, 0, 0, 0)):
-                    for n in (2, 3):
-                        b = state(nodes + [record(4, 9)] if bad else nodes, options)
-                        put(s, b)
-                        fresh(s, n, known=1)
-                        if stale & 1:
-                            mount(s, '"/kept')
-                            s("umount", '"/kept')
-                        if stale & 2:
-                            mount(s, '"/')
-                        if small:
-                            s("length", size(n) - 1)
-                        s("restore", len(b))
+    masked = ((2, 0, 0, 0, 0, 0), (0, 2, 0, 0, 0, 0), (1, 1, 0, 0, 0, 0))
+    for small, stale, bad, options, n in itertools.product((1, 0), (0, 1, 2, 3), (1, 0), masked, (2, 3)):
+        b = state(SAVED_NODES + [record(4, 9)] if bad else SAVED_NODES, options)
+        put(s, b)
+        fresh(s, n, known=1)
+        if stale & 1:
+            mount(s, '"/kept')
+            s("umount", '"/kept')
+        if stale & 2:
+            mount(s, '"/')
+        if small:
+            s("length", size(n) - 1)
+        s("restore", len(b))
+
+
+def no_fault_of_freshness(s):
     s(": what is no fault of freshness: counter, next number, held slots, options, a node that was removed")
-    put(s, state(nodes, (0, 0, 9, 9, 9, 1), TOP, 255))
+    put(s, state(SAVED_NODES, (0, 0, 9, 9, 9, 1), TOP, 255))
     for in_opts in (0, 1):
         fresh(s, 3, known=3, in_opts=1, out_opts=2, flags=4, mapping=(5, 6, 7))
         s("poke8", SAVED + 38, in_opts)
@@ -1046,6 +1134,9 @@ def order_of_restore(s):
         s("umount", '"/a')
         s("save", B, 200)
         s("save", B, "$b")
+
+
+def initialized(s):
     s(": initialized by a restore, from each of in_opts and out_opts")
     for was in (0, 1):
         for in_opts, out_opts in ((0, 0), (1, 0), (0, 1), (1, 1), (TOP, 0), (0, TOP)):
@@ -1128,17 +1219,10 @@ def random_states(s):
     s("restore", 200)
     s("end")
     s("plain")
-    names = [b"a", b"b", b"ab", b"..a", "\u00e9".encode(), b"\xff", b"a/b", b".."]
     for _ in range(30):
         s("fold")
         for _ in range(5):
-            nodes, number = [], 1
-            for _ in range(rng.randrange(7)):
-                number += rng.choice([1] * 9 + [2, 5, 0])
-                parents = [1] + [k for k, _, _ in nodes]
-                nodes.append(record(number, rng.choice(parents * 4 + [number]), rng.choice(names[:5] * 6 + names[5:])))
-            b = state(nodes, (rng.choice([0, 1, 256]), 0, rng.randrange(2**32), rng.randrange(2**32), rng.randrange(2**32), rng.randrange(66)),
-                      number + rng.randrange(8) if rng.randrange(9) else number, rng.randrange(256))
+            b = drawn_state(rng)
             s.put.clear()
             put(s, b)
             create(s, 6, 0xFF)
@@ -1146,27 +1230,44 @@ def random_states(s):
             s("save", B, 400)
         s("plain")
     for turn in range(8):
-        n = rng.choice([4, 8, 16])
-        fresh(s, n, known=0xFF, in_opts=rng.randrange(256), mapping=(rng.randrange(9), rng.randrange(9), rng.randrange(9)))
-        s("fold")
-        for step in range(60):
-            path = "/" + "/".join(rng.choice(["a", "b", "c", "..", "long-name"]) for _ in range(rng.randrange(1, 4)))
-            if rng.randrange(3):
-                mount(s, text(path), rng.randrange(99))
-            else:
-                s("umount", text(path))
-            if step == 20 and turn % 2:
-                s("remove")
-            if step % 12 == 11:
-                s("keep", size(n))
-                s("save", H, 2000)
-                s("restore", "$h")
-                create(s, n, 0xFF)
-                s("restore", "$h")
-                s("save", G, 2000)
-                if rng.randrange(2):
-                    s("back", size(n))
-        s("plain")
+        saved_session(s, rng, turn % 2)
+
+
+def drawn_state(rng):
+    """A state made at random, with some faults."""
+    names = [b"a", b"b", b"ab", b"..a", "\u00e9".encode(), b"\xff", b"a/b", b".."]
+    nodes, number = [], 1
+    for _ in range(rng.randrange(7)):
+        number += rng.choice([1] * 9 + [2, 5, 0])
+        parents = [1] + [k for k, _, _ in nodes]
+        nodes.append(record(number, rng.choice(parents * 4 + [number]), rng.choice(names[:5] * 6 + names[5:])))
+    return state(nodes, (rng.choice([0, 1, 256]), 0, rng.randrange(2**32), rng.randrange(2**32), rng.randrange(2**32), rng.randrange(66)),
+                 number + rng.randrange(8) if rng.randrange(9) else number, rng.randrange(256))
+
+
+def saved_session(s, rng, removes):
+    """A session at random, saved, restored and saved again now and then."""
+    n = rng.choice([4, 8, 16])
+    fresh(s, n, known=0xFF, in_opts=rng.randrange(256), mapping=(rng.randrange(9), rng.randrange(9), rng.randrange(9)))
+    s("fold")
+    for step in range(60):
+        path = "/" + "/".join(rng.choice(["a", "b", "c", "..", "long-name"]) for _ in range(rng.randrange(1, 4)))
+        if rng.randrange(3):
+            mount(s, text(path), rng.randrange(99))
+        else:
+            s("umount", text(path))
+        if step == 20 and removes:
+            s("remove")
+        if step % 12 == 11:
+            s("keep", size(n))
+            s("save", H, 2000)
+            s("restore", "$h")
+            create(s, n, 0xFF)
+            s("restore", "$h")
+            s("save", G, 2000)
+            if rng.randrange(2):
+                s("back", size(n))
+    s("plain")
 
 
 def odd_lines(s):
@@ -1174,14 +1275,49 @@ def odd_lines(s):
     fresh(s, 2)
     for line in ("bogus", "bogus 1", "Laid", "options7", 'walk', 'walk 3', 'walk "/ 3', "route", "route x", "route 18446744073709551616", "route  1", "route -1",
                  "route 1 2 3 4 5 6 7 8 9", "end", "laid", "random 0 0", "route $a", "set 9 3", "route $b", 'walk "/%zz', 'walk "/%2', 'walk "/%', 'walk "/$', 'walk "/$i',
-                 'walk "/%24a', "save", "save 1 2 3", "restore", "raise 1", "poke8 851964 5", "poke1 1966080 5", "fill 1966070 100 7", "# laid", ""):
+                 'walk "/%24a', "save", "save 1 2 3", "restore", "raise 1", "# laid", ""):
         s(line)
     s("laid")
 
 
-PARTS = [session, edges, creation, settings, tree, listings, header_bytes, random_bytes, odd_tables, order, numbers, tags, removal, kept_numbers, mapped,
-         lambda s: full_table(s, 0), lambda s: full_table(s, 1), no_room, sessions, saved_trees, changed_bytes, each_fault, order_of_restore, removed_parents, many_records,
-         random_states, odd_lines]
+def places_past_the_ends(s):
+    s(": places past the ends")
+    room = script.ROOM
+    s("scatter", 0, room, 3)
+    s("scatter", SAVED, room, 4)
+    fresh(s, 2)
+    s("keep", room)
+    for end in (room, SAVED + room):
+        for at in (end, end + 7, end + 2**40):
+            s("poke1", at, 5)
+            s("raise", at, 5)
+            s("fill", at, 9, 5)
+            s("scatter", at, 9, 5)
+        for at in range(end - 7, end + 2):
+            s("poke8", at, MAX64 // 3)
+        s("same", 0, room)
+        s("save", H, room)
+    for at in (room, SAVED + room):
+        s("poke8", at - 8, MAX64 // 3)
+        s("raise", at - 1, 300)
+        s("fill", at - 20, 100, 7)
+        s("scatter", at - 30, 15, 8)
+        s("same", 0, room - 30)
+        s("same", room - 30, 1)
+        s("same", room - 1, 2**40)
+        s("same", room, 5)
+        s("save", H, room)
+    for n in (room + 1, 2**40):
+        s("back", n)
+        s("same", 0, room)
+        s("keep", n)
+
+
+PARTS = [session, edges, creation_limits, creation_order, creation_options, settings, tree, listings_cut, listings_long,
+         header_bytes, header_bytes_called, header_limits, random_bytes, odd_tables, odd_names, order, path_limits, numbers, tags, removal,
+         kept_numbers, mapped, lambda s: full_table(s, 0), lambda s: full_table(s, 1), no_room, sessions, saved_trees, deep_tree,
+         changed_bytes, cut_bytes, each_fault, order_of_restore, no_fault_of_freshness, initialized, removed_parents, many_records,
+         random_states, odd_lines, places_past_the_ends]
 
 
 def main():

@@ -32,7 +32,7 @@ FORMS = {
 }
 
 # What the program has room for: all calls, nodes of an instance, a call's byte string, bytes written.
-CALLS, NODES, BYTES, WRITTEN = 557056, 1024, 8192, 65536
+CALLS, NODES, BYTES, WRITTEN = 851968, 1024, 8192, 65536
 
 
 def fits(field, form):

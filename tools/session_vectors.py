@@ -5,14 +5,20 @@
     python3 tools/session_vectors.py answer FILE    what a session on FILE must write, to standard output
     python3 tools/session_vectors.py lines N        N lines to time a session with, to standard output
 
-The answers come from the small model below, written after docs/RULES.md, and from Python's own strict UTF-8 decoder;
-never from the port.
+Here a line is read and its answer written; what a call answers comes from tools/model, which follows docs/RULES.md. Nothing
+comes from the port.
 """
+import os
 import random
 import sys
 
-MAX_INO = 2**56 - 1
+sys.path.insert(0, os.path.dirname(os.path.abspath(__file__)))
+sys.dont_write_bytecode = True
+
+from model import rules  # noqa: E402
+
 NODES = 64
+IDS_AND_MODE = 0, 0, 16895
 EIGHT = b"""walk /a
 mount /a/b 7 1 1000
 mount a 8 1 1000
@@ -33,155 +39,50 @@ EIGHT_ANSWERS = b"""0 0
 """
 
 
-def is_utf8(b):
-    try:
-        b.decode("utf-8")
-        return True
-    except UnicodeDecodeError:
-        return False
+def number(word, bits):
+    """A decimal below that power of two, of any length; else a ValueError."""
+    digits = word.lstrip(b"0")
+    if word.strip(b"0123456789") or len(digits) > 20 or int(digits or b"0") >= 2**bits:
+        raise ValueError
+    return int(digits or b"0")
 
 
 class Session:
-    """A tree of nodes by number, 256 slots, and a counter (R9 to R12, R31, R137)."""
+    """One instance of 64 nodes, no mapping, nodes kept (R137)."""
 
     def __init__(self):
-        self.parent = {1: 1}
-        self.child = {}             # (parent, name) to number
-        self.mount = {}             # node to (index, root number)
-        self.slot = [None] * 256    # tag, or None
-        self.counter, self.next = 1, 2
+        self.instance = rules.Instance(NODES, 0, 0, 0, 0, (0, 0, 0))
 
-    def parts(self, path):
-        return [p for p in path.split(b"/") if p not in (b"", b".")]
+    def mount(self, path, tag, root, largest):
+        code, (k, count, *_) = rules.mount(self.instance, path, number(tag, 32), number(root, 64), number(largest, 64), *IDS_AND_MODE)
+        return code, k, count
 
-    def reach(self, path):
-        x = 1
-        for p in self.parts(path):
-            x = self.parent[x] if p == b".." else self.child.get((x, p))
-            if x is None:
-                return None
-        return x
+    def umount(self, path):
+        code, (node, parent, *_) = rules.umount(self.instance, path)
+        return code, node, parent
 
-    def missing(self, path):
-        """How many nodes a mount walk would make (R50)."""
-        made, x = {}, 1
-        up = {}
-        for p in self.parts(path):
-            if p == b"..":
-                x = up[x] if x in up else self.parent[x]
-            else:
-                y = self.child.get((x, p), made.get((x, p)))
-                if y is None:
-                    y = ("new", len(made))
-                    made[(x, p)], up[y] = y, x
-                x = y
-        return len(made)
+    def walk(self, path):
+        code, (_, node) = rules.walk(self.instance, path)
+        return code, node
 
-    def make(self, path):
-        x = 1
-        for p in self.parts(path):
-            if p == b"..":
-                x = self.parent[x]
-                continue
-            if (x, p) not in self.child:
-                self.child[(x, p)] = self.next
-                self.parent[self.next] = x
-                self.next += 1
-            x = self.child[(x, p)]
-        return x
-
-    def search(self):
-        """The index, or None where all are held, and how many were visited (R80 to R83)."""
-        start = self.counter
-        for count in range(1, 258):
-            k = self.counter
-            self.counter = (k + 1) % 256
-            if count > 1 and k == start:
-                return None, count
-            if k and self.slot[k] is None:
-                return k, count
-
-    def do_mount(self, path, tag, root, largest):
-        if len(path) > 4096 or any(len(p) > 255 for p in path.split(b"/")):
-            return 3, 0, 0
-        if not is_utf8(path):
-            return 2, 0, 0
-        if largest > MAX_INO:
-            return 4, 0, 0
-        rooted = path[:1] == b"/"
-        if rooted and len(self.parent) + self.missing(path) > NODES:
-            return 6, 0, 0
-        k, count = self.search()
-        if k is None:
-            return 5, 0, count
-        if not rooted:
-            return 2, 0, count
-        x = self.make(path)
-        if root > MAX_INO:
-            return 4, 0, count
-        if x in self.mount:
-            self.slot[self.mount[x][0]] = None
-        self.slot[k] = tag
-        self.mount[x] = (k, root)
-        return 0, k, count
-
-    def do_umount(self, path):
-        if not is_utf8(path) or path[:1] != b"/":
-            return 2, 0, 0
-        x = self.reach(path)
-        if x not in self.mount:
-            return 7, 0, 0
-        self.slot[self.mount.pop(x)[0]] = None
-        return 0, x, self.parent[x]
-
-    def do_walk(self, path):
-        if not is_utf8(path) or path[:1] != b"/":
-            return 2, 0
-        return 0, self.reach(path) or 0
-
-    def do_look(self, full, name):
-        index, x = full >> 56, full & MAX_INO
-        if index == 0 and x == 1 and 1 in self.mount:
-            index, x = self.mount[1]
-        if index:
-            return (1, 0) if self.slot[index] is None else ("r", self.slot[index], x)
-        if x not in self.parent:
-            return 1, 0
-        if b"\0" in name or not is_utf8(name):
-            return 2, 0
-        y = x if name == b"." else self.parent[x] if name == b".." else self.child.get((x, name))
-        if y is None:
-            return 1, 0
-        if y in self.mount:
-            k, root = self.mount[y]
-            return 0, k * 2**56 + root if root else 0
-        return 0, y
+    def look(self, full, name):
+        code, (to_backend, tag, _, node) = rules.route(self.instance, number(full, 64))
+        if code or to_backend:
+            return (code, 0) if code else ("r", tag, node)
+        code, (inode, *_) = rules.lookup(self.instance, node, name)
+        return code, inode
 
     def line(self, line):
         """The fields of the answer (R137 to R152)."""
         fields = line.split(b" ")
-        shape = (fields[0], len(fields))
-        wrong = ("?",)
-
-        def number(text, bits):
-            if text.strip(b"0123456789") or int(text.lstrip(b"0")[:30] or b"0") >= 2**bits:
-                raise ValueError
-            return int(text.lstrip(b"0") or b"0")
-
-        if len(line) > 8192 or b"" in fields:
-            return wrong
+        forms = {(b"mount", 5): self.mount, (b"umount", 2): self.umount, (b"walk", 2): self.walk, (b"look", 3): self.look}
+        form = forms.get((fields[0], len(fields)))
+        if form is None or len(line) > 8192 or b"" in fields:
+            return ("?",)
         try:
-            if shape == (b"mount", 5):
-                return self.do_mount(fields[1], number(fields[2], 32), number(fields[3], 64), number(fields[4], 64))
-            if shape == (b"umount", 2):
-                return self.do_umount(fields[1])
-            if shape == (b"walk", 2):
-                return self.do_walk(fields[1])
-            if shape == (b"look", 3):
-                return self.do_look(number(fields[1], 64), fields[2])
+            return form(*fields[1:])
         except ValueError:
-            return wrong
-        return wrong
+            return ("?",)
 
 
 def answers(data):
@@ -198,71 +99,97 @@ def kept(index, number):
     return index * 2**56 + number
 
 
-def script():
-    out = [EIGHT.rstrip(b"\n")]
+class Lines:
+    """The lines so far, and the session that they make."""
 
-    def say(*lines):
-        out.extend(l if isinstance(l, bytes) else l.encode() for l in lines)
+    def __init__(self):
+        self.lines = []
+        self.session = Session()
 
+    def say(self, *lines):
+        """Lines more; the answer of the last."""
+        for l in lines:
+            self.lines.append(l if isinstance(l, bytes) else l.encode())
+            answer = self.session.line(self.lines[-1])
+        return answer
+
+
+def forms(w):
     # lines of no form: other verbs, fields missing, empty or too many, signs, numbers too big
-    say("", " ", "walk", "walk ", " walk /a", "walk  /a", "walk /a ", "Walk /a", "walk /a b", "mount /a 7 1", "mount /a 7 1 1000 5",
-        "umount", "umount /a b", "look 1", "look a a", "look -1 a", "look +1 a", "look 1  a", "walks /a", "mount /x -7 1 1000",
-        "mount /x 4294967296 1 1000", "mount /x 7 18446744073709551616 1000", "mount /x 7 1 18446744073709551616",
-        "mount bad 4294967296 1 1000", "look 18446744073709551616 a", "?", "walk /x")
+    w.say("", " ", "walk", "walk ", " walk /a", "walk  /a", "walk /a ", "Walk /a", "walk /a b", "mount /a 7 1", "mount /a 7 1 1000 5",
+          "umount", "umount /a b", "look 1", "look a a", "look -1 a", "look +1 a", "look 1  a", "walks /a", "mount /x -7 1 1000",
+          "mount /x 4294967296 1 1000", "mount /x 7 18446744073709551616 1000", "mount /x 7 1 18446744073709551616",
+          "mount bad 4294967296 1 1000", "look 18446744073709551616 a", "?", "walk /x")
     # numbers by value: leading zeros, the largest
-    say("mount /n 4294967295 72057594037927935 72057594037927935", "look 1 n", "mount /n 0000000000000000000000000000000000000007 01 0001000", "umount /n")
+    w.say("mount /n 4294967295 72057594037927935 72057594037927935", "look 1 n", "mount /n 0000000000000000000000000000000000000007 01 0001000", "umount /n")
     # walk: root, missing names, dots, `..` above the root; not UTF-8, without slash, empty parts
-    say("walk /", "walk /a", "walk /a/b", "walk //a/./b/", "walk /a/b/..", "walk /../../a", "walk /a/../zz", "walk a", b"walk /\xff", b"walk \xc0\xaf", "walk .")
+    w.say("walk /", "walk /a", "walk /a/b", "walk //a/./b/", "walk /a/b/..", "walk /../../a", "walk /a/../zz", "walk a", b"walk /\xff", b"walk \xc0\xaf", "walk .")
     # other bytes are ordinary bytes of a path
-    say(b"mount /t\tab 3 5 9", b"walk /t\tab", b"mount /cr\r 3 5 9", b"walk /cr\r", b"walk /cr", b"mount /nul\0x 3 5 9", b"walk /nul\0x", "mount /größe 3 5 9", "walk /größe")
+    w.say(b"mount /t\tab 3 5 9", b"walk /t\tab", b"mount /cr\r 3 5 9", b"walk /cr\r", b"walk /cr", b"mount /nul\0x 3 5 9", b"walk /nul\0x", "mount /größe 3 5 9", "walk /größe")
+
+
+def calls(w):
     # umount: unknown, nothing mounted, bad paths
-    say("umount /zz", "umount /a/b", "umount b", b"umount /\xfe", b"umount /t\tab", b"umount /cr\r", b"umount /nul\0x", "umount /größe")
+    w.say("umount /zz", "umount /a/b", "umount b", b"umount /\xfe", b"umount /t\tab", b"umount /cr\r", b"umount /nul\0x", "umount /größe")
     # mount: too long, not UTF-8, numbers above 2^56 - 1, no leading slash; each but the last two leaves the counter
-    say("mount /" + "n" * 256 + " 1 1 1", "mount /" + "n" * 255 + " 1 1 1", "mount " + "/m" * 2049 + " 1 1 1", "mount " + "/./." * 1024 + " 1 1 1", "umount /",
-        b"mount /\xed\xa0\x80 1 1 1", "mount /i 1 1 72057594037927936", "mount i 1 1 1", "mount /i 1 72057594037927936 5", "walk /i", "mount /i 1 1 72057594037927935")
+    w.say("mount /" + "n" * 256 + " 1 1 1", "mount /" + "n" * 255 + " 1 1 1", "mount " + "/m" * 2049 + " 1 1 1", "mount " + "/./." * 1024 + " 1 1 1", "umount /",
+          b"mount /\xed\xa0\x80 1 1 1", "mount /i 1 1 72057594037927936", "mount i 1 1 1", "mount /i 1 72057594037927936 5", "walk /i", "mount /i 1 1 72057594037927935")
     # mounts over each other: a new index each time, the old one freed
-    say("mount /a/b 11 1 9", "mount /a/b 12 1 9", "mount /a/b 0 1 9", "look 2 b", "umount /a/b")
+    w.say("mount /a/b 11 1 9", "mount /a/b 12 1 9", "mount /a/b 0 1 9", "look 2 b", "umount /a/b")
     # lookups: by `.` and `..`, by a name with `/`, of the root number 0; not UTF-8, byte 0; unknown node
-    say("look 1 .", "look 1 ..", "look 2 .", "look 2 ..", "look 3 ..", "look 2 b", "look 1 a/b", "look 1 zz", b"look 1 \xff", b"look 1 a\0", "look 999 a", b"look 999 \xff",
-        "mount /z 5 0 9", "look 1 z", "umount /z")
+    w.say("look 1 .", "look 1 ..", "look 2 .", "look 2 ..", "look 3 ..", "look 2 b", "look 1 a/b", "look 1 zz", b"look 1 \xff", b"look 1 a\0", "look 999 a", b"look 999 \xff",
+          "mount /z 5 0 9", "look 1 z", "umount /z")
     # a mount on the root diverts number 1; its own numbers go to the backend
-    say("mount / 70 41 1000", "look 1 a", "look 2 .", "look 3 ..", "look 2 ..", "umount /", "look 1 .")
-    s = Session()
-    for l in b"\n".join(out).split(b"\n"):
-        s.line(l)
-    # numbers that a host keeps: routed while their index is held, refused once it is free, and alive again only when the index has come round
-    code, k, _ = s.line(b"mount /lab 90 1 1000")
-    say("mount /lab 90 1 1000", f"look {kept(k, 5)} x", "mount /lab 91 1 1000", f"look {kept(k, 5)} x", f"look {kept(k + 1, 1)} {'x' * 300}", f"look {kept(k + 1, 0)} x")
-    s.line(b"mount /lab 91 1 1000")
+    w.say("mount / 70 41 1000", "look 1 a", "look 2 .", "look 3 ..", "look 2 ..", "umount /", "look 1 .")
+
+
+def kept_numbers(w):
+    """Numbers that a host keeps: routed while their index is held, refused once it is free, and alive again only when the index has come round."""
+    _, k, _ = w.say("mount /lab 90 1 1000")
+    w.say(f"look {kept(k, 5)} x", "mount /lab 91 1 1000", f"look {kept(k, 5)} x", f"look {kept(k + 1, 1)} {'x' * 300}", f"look {kept(k + 1, 0)} x")
     seen = 0
-    while s.slot[k] is None:
+    while w.session.instance.slots[k] is None:
         seen += 1
-        l = f"mount /round/{seen % 3} {1000 + seen} {seen} 5000".encode()
-        s.line(l)
-        say(l)
+        w.say(f"mount /round/{seen % 3} {1000 + seen} {seen} 5000")
         if seen % 40 == 0:
-            say(f"look {kept(k, 5)} x")
-    say(f"look {kept(k, 5)} x", f"look {kept(k, 5)} .", f"look {2**64 - 1} x", f"look {kept(255, 1)} x")
-    # 64 nodes: the last that fits, then none; what needs no node still goes
-    have = len(s.parent)
-    say("mount /" + "/".join(f"d{n}" for n in range(NODES - have + 1)) + " 2 2 2")
-    say("mount /" + "/".join(f"d{n}" for n in range(NODES - have)) + " 2 2 2", "mount /more 2 2 2", "mount /d0/d1/../x 2 2 2", "mount more 2 2 2", "mount /more 2 72057594037927936 2",
-        "mount /d0 2 2 2", "mount /d0/d1 3 3 3", "walk /d0/d1", "umount /d0", "umount /d0/d1", "look 1 d0", "mount / 4 4 4", "umount /")
+            w.say(f"look {kept(k, 5)} x")
+    w.say(f"look {kept(k, 5)} x", f"look {kept(k, 5)} .", f"look {2**64 - 1} x", f"look {kept(255, 1)} x")
+
+
+def full_tree(w):
+    """64 nodes: the last that fits, then none; what needs no node still goes."""
+    room = NODES - 1 - len(w.session.instance.nodes)
+    w.say("mount /" + "/".join(f"d{n}" for n in range(room + 1)) + " 2 2 2")
+    w.say("mount /" + "/".join(f"d{n}" for n in range(room)) + " 2 2 2", "mount /more 2 2 2", "mount /d0/d1/../x 2 2 2", "mount more 2 2 2", "mount /more 2 72057594037927936 2",
+          "mount /d0 2 2 2", "mount /d0/d1 3 3 3", "walk /d0/d1", "umount /d0", "umount /d0/d1", "look 1 d0", "mount / 4 4 4", "umount /")
+
+
+def long_lines(w):
     # the limit of a line: 8,192 bytes are answered, 8,193 are `?`, and so is far more
-    say("walk /" + "w" * 8186, "walk /" + "w" * 8187, "mount / " + "0" * 8178 + "7 1 9", "mount / " + "0" * 8179 + "7 1 9", "walk /" + "/" * 8186, "x" * 8192, "x" * 8193)
+    w.say("walk /" + "w" * 8186, "walk /" + "w" * 8187, "mount / " + "0" * 8178 + "7 1 9", "mount / " + "0" * 8179 + "7 1 9", "walk /" + "/" * 8186, "x" * 8192, "x" * 8193)
     # one more, up to where the program's next piece of 65,536 bytes begins; that piece has more answers than an output of as many bytes holds
-    before = len(b"\n".join(out)) + 1
-    say("walk /" + "/" * (65536 - before % 65536 + 65536 - 7), *[""] * 33000)
-    # a mixed tail, drawn by a fixed seed
+    before = len(b"\n".join(w.lines)) + 1
+    w.say("walk /" + "/" * (65536 - before % 65536 + 65536 - 7), *[""] * 33000)
+
+
+def drawn(w):
+    """A mixed tail, drawn by a fixed seed."""
     draw = random.Random(20260)
     names = ["a", "b", "lab", "round", "1", "d0", "d1", "..", ".", "zz"]
     for _ in range(150):
         path = "".join("/" + draw.choice(names) for _ in range(draw.randint(1, 4)))
-        say(draw.choice([f"walk {path}", f"umount {path}", f"mount {path} {draw.randrange(9)} {draw.randrange(9)} 9",
-                         f"look {draw.choice([0, 1, 2, 3, 5, kept(draw.randrange(256), 1)])} {draw.choice(names)}"]))
-    # the last line has no line end
-    say("walk /a/b")
-    return b"\n".join(out)
+        w.say(draw.choice([f"walk {path}", f"umount {path}", f"mount {path} {draw.randrange(9)} {draw.randrange(9)} 9",
+                           f"look {draw.choice([0, 1, 2, 3, 5, kept(draw.randrange(256), 1)])} {draw.choice(names)}"]))
+
+
+def script():
+    """The last line has no line end."""
+    w = Lines()
+    w.say(*EIGHT.rstrip(b"\n").split(b"\n"))
+    for part in (forms, calls, kept_numbers, full_tree, long_lines, drawn):
+        part(w)
+    w.say("walk /a/b")
+    return b"\n".join(w.lines)
 
 
 def write(path, b):

@@ -34,16 +34,16 @@ extern "C" {
 #define GALDOVAR_NOENT 1u     /* errno 2: a node or a name is unknown; routing meets an empty slot */
 #define GALDOVAR_INVAL 2u     /* errno 22: a path not UTF-8 or without leading slash; a bad name */
 #define GALDOVAR_TOOLONG 3u   /* a mount path over 4096 bytes, or a part of it over 255 */
-#define GALDOVAR_INODE 4u     /* the largest number or the root number is above 2^56 - 1 */
+#define GALDOVAR_INODE 4u     /* a number above 2^56 - 1: the largest, the root's, or that of a conversion */
 #define GALDOVAR_FULL 5u      /* the indexes 1 to 255 are all held */
 #define GALDOVAR_NOROOM 6u    /* more nodes than N, or no more numbers for them */
-#define GALDOVAR_NOTFOUND 7u  /* unmount of no mount; root query of a mount whose slot is empty */
+#define GALDOVAR_NOTFOUND 7u  /* unmount of an unknown path or of no mount; root query of a mount whose slot is empty */
 #define GALDOVAR_BADINDEX 8u  /* a restored mount at index 0 */
-#define GALDOVAR_BADMAP 9u    /* a mapping that goes above 2^32 - 1 */
+#define GALDOVAR_BADMAP 9u    /* a start plus the range is above 2^32 - 1 */
 #define GALDOVAR_BADSAVE 10u  /* saved bytes break the layout */
 #define GALDOVAR_NOTFRESH 11u /* a restore into an instance with a node besides the root, or with a mount */
 #define GALDOVAR_SMALL 12u    /* N outside its limits; storage too short or against the layout rule; output too short for a save */
-#define GALDOVAR_BADOPT 13u   /* option bits outside the mask, or flags above bit 5 */
+#define GALDOVAR_BADOPT 13u   /* option bits outside the mask or, at creation, flags above bit 5 */
 
 /* The bytes that an instance of n nodes needs, n from 1 to 1024 (R9, R20). */
 #define GALDOVAR_STORAGE_SIZE(n) ((size_t)512 * (size_t)(n) + (size_t)8192)
@@ -178,7 +178,7 @@ typedef struct GaldovarStep {
  * known: the mask of known option bits; internal, external, range: the mapping in force, range 0 for none. */
 GaldovarCodeAnswer galdovar_create(uint8_t *storage, size_t storage_len, size_t n, uint64_t known, uint64_t in_opts, uint64_t out_opts, uint8_t flags, uint32_t internal, uint32_t external, uint32_t range);
 
-/* From now on an unmount takes its node out of the tree; nothing unsets it (R32). */
+/* From now on a done unmount takes its node out of the tree, unless it is the root; nothing unsets it (R32, R100). */
 GaldovarCodeAnswer galdovar_set_remove_pseudo_root(uint8_t *storage, size_t storage_len);
 
 /* Whether the instance is initialized: not before a restore, and then if its in_opts is not 0 (R33, R134). */
@@ -212,7 +212,8 @@ GaldovarRouteAnswer galdovar_route(const uint8_t *storage, size_t storage_len, u
 /* The node that the path leads to, from the root, or none; INVAL for a bad path (R36, R46, R47). */
 GaldovarWalkAnswer galdovar_path_walk(const uint8_t *storage, size_t storage_len, const uint8_t *path, size_t path_len);
 
-/* By a name in a directory, across mounts. parent: a node's number, not a full number (R60). */
+/* By a name in a directory, across mounts: NOENT, INVAL, or the entry (R57 to R60, R108 to R111). parent: a node's number, not a
+ * full number. */
 GaldovarLookupAnswer galdovar_lookup(const uint8_t *storage, size_t storage_len, uint64_t parent, const uint8_t *name, size_t name_len);
 
 /* Directory entries of fuse.h, whole ones within size and within the output (R63 to R66). node: a node's number. */
@@ -232,9 +233,10 @@ GaldovarCodeAnswer galdovar_restore_from_bytes(uint8_t *storage, size_t storage_
 /* The full inode number of a backend's number under its index, or INODE (R7). */
 GaldovarInodeAnswer galdovar_convert_inode(uint8_t fs_idx, uint64_t number);
 
-/* An id by a given mapping, out and back. These are never refused and answer the id (R112 to R117). */
+/* An id out by a given mapping; never refused (R112, R113, R115 to R117). */
 uint32_t galdovar_map_out(uint32_t internal, uint32_t external, uint32_t range, uint32_t id);
 
+/* An id back by a given mapping; never refused (R112, R114 to R117). */
 uint32_t galdovar_map_back(uint32_t internal, uint32_t external, uint32_t range, uint32_t id);
 
 /* `.`, `..`, a slash or a byte 0 is INVAL; the empty name is done (R61, R62). */

@@ -139,6 +139,7 @@ impl Tables {
 const BERN: &str = "/labs/bern";
 const OSLO: &str = "/labs/oslo";
 const PORTO: &str = "/labs/porto";
+const TURKU: &str = "/labs/turku";
 
 fn tell(what: &str, answer: Result<String, VfsError>) {
     match answer {
@@ -152,7 +153,7 @@ fn show(number: VfsInode) -> String {
     format!("{} = {} x 2^56 + {}", number, number.fs_idx(), number.ino())
 }
 
-fn main() -> Result<(), VfsError> {
+fn introduce() {
     println!("A gateway for the tolerance limits of laboratory balances.");
     println!();
     println!(
@@ -162,65 +163,99 @@ fn main() -> Result<(), VfsError> {
         "Each mount gets an index, 1 to 255. A session keeps full numbers, and a full number is"
     );
     println!("index x 2^56 + the file's own number, so it says which mount it belongs to.");
+}
 
+fn mount_all(gateway: &Gateway) -> Result<(), VfsError> {
     println!();
     println!("1. The limits of three laboratories are mounted.");
-    let gateway = Gateway::new()?;
     for (path, laboratory, micrograms) in
         [(BERN, "Bern", 300), (OSLO, "Oslo", 500), (PORTO, "Porto", 250)]
     {
         let fs_idx = gateway.mount(Limits { laboratory, micrograms }, path)?;
         println!("   {} has index {}", path, fs_idx);
     }
+    Ok(())
+}
 
+/// The numbers that a session keeps.
+struct Kept {
+    bern: VfsInode,
+    oslo: VfsInode,
+    porto: VfsInode,
+}
+
+fn open_all(gateway: &Gateway) -> Result<Kept, VfsError> {
     println!();
     println!("2. A session opens all three and keeps the numbers.");
     let (bern, oslo, porto) = (gateway.open(BERN)?, gateway.open(OSLO)?, gateway.open(PORTO)?);
     for kept in [bern, oslo, porto] {
         tell(&show(kept), gateway.read(kept));
     }
+    Ok(Kept { bern, oslo, porto })
+}
 
+fn tighten(gateway: &Gateway, kept: &mut Kept) -> Result<(), VfsError> {
     println!();
     println!("3. Bern tightens its limits: the new file system is mounted over the old one.");
     let fs_idx = gateway.mount(Limits { laboratory: "Bern", micrograms: 200 }, BERN)?;
     println!("   {} has index {} now", BERN, fs_idx);
-    tell("the number kept for Bern", gateway.read(bern));
+    tell("the number kept for Bern", gateway.read(kept.bern));
     println!("   So the session cannot judge by the old limits. It opens them again:");
-    let bern = gateway.open(BERN)?;
-    tell(&show(bern), gateway.read(bern));
+    kept.bern = gateway.open(BERN)?;
+    tell(&show(kept.bern), gateway.read(kept.bern));
+    Ok(())
+}
 
+fn leave_and_come(gateway: &Gateway, kept: &Kept) -> Result<(), VfsError> {
     println!();
     println!("4. Oslo is unmounted.");
     gateway.umount(OSLO)?;
-    tell("the number kept for Oslo", gateway.read(oslo));
+    tell("the number kept for Oslo", gateway.read(kept.oslo));
     tell("Oslo unmounted once more", gateway.umount(OSLO).map(|()| "done".to_string()));
 
     println!();
     println!("5. Another laboratory comes. It gets the next index and not the freed 1 or 2,");
     println!("   so a number that was kept does not come alive inside its limits.");
-    let fs_idx = gateway.mount(Limits { laboratory: "Turku", micrograms: 900 }, "/labs/turku")?;
-    println!("   /labs/turku has index {}", fs_idx);
-    tell("the number kept for Oslo", gateway.read(oslo));
+    let fs_idx = gateway.mount(Limits { laboratory: "Turku", micrograms: 900 }, TURKU)?;
+    println!("   {} has index {}", TURKU, fs_idx);
+    tell("the number kept for Oslo", gateway.read(kept.oslo));
+    Ok(())
+}
 
+fn restart(gateway: Gateway, kept: &Kept) -> Result<Gateway, VfsError> {
     println!();
     println!("6. The state is saved, and a new gateway takes over.");
-    let handover = gateway.hand_over(&[BERN, OSLO, PORTO, "/labs/turku"])?;
+    let handover = gateway.hand_over(&[BERN, OSLO, PORTO, TURKU])?;
     println!("   saved: {} bytes, and beside them", handover.state.len());
     for (path, fs_idx, _) in &handover.mounts {
         println!("   the host's own list of mounts: {} at index {}", path, fs_idx);
     }
     drop(gateway);
     let gateway = Gateway::take_over(handover)?;
-    tell("the number kept for Porto", gateway.read(porto));
-    tell("the number kept for Bern ", gateway.read(bern));
-    tell("the number kept for Oslo ", gateway.read(oslo));
+    tell("the number kept for Porto", gateway.read(kept.porto));
+    tell("the number kept for Bern ", gateway.read(kept.bern));
+    tell("the number kept for Oslo ", gateway.read(kept.oslo));
+    Ok(gateway)
+}
 
+fn come_back(gateway: &Gateway, kept: &Kept) -> Result<(), VfsError> {
     println!();
     println!("7. Oslo comes back. The index search goes on where the old gateway left it.");
     let fs_idx = gateway.mount(Limits { laboratory: "Oslo", micrograms: 450 }, OSLO)?;
     println!("   {} has index {}", OSLO, fs_idx);
-    tell("the number kept for Oslo ", gateway.read(oslo));
+    tell("the number kept for Oslo ", gateway.read(kept.oslo));
     let oslo = gateway.open(OSLO)?;
     tell(&show(oslo), gateway.read(oslo));
     Ok(())
+}
+
+fn main() -> Result<(), VfsError> {
+    introduce();
+    let gateway = Gateway::new()?;
+    mount_all(&gateway)?;
+    let mut kept = open_all(&gateway)?;
+    tighten(&gateway, &mut kept)?;
+    leave_and_come(&gateway, &kept)?;
+    let gateway = restart(gateway, &kept)?;
+    come_back(&gateway, &kept)
 }

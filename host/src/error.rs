@@ -79,7 +79,7 @@ impl VfsError {
         }
     }
 
-    /// The number of the refusal, 1 to 13.
+    /// The number of the refusal, 1 to 13; for `Other` the number itself.
     pub fn code(self) -> u32 {
         match self {
             VfsError::NoEnt => 1,
@@ -119,7 +119,7 @@ impl VfsError {
             VfsError::NoRoom => ("NOROOM", "no room for the nodes that are needed"),
             VfsError::NotFound => ("NOTFOUND", "nothing is mounted there"),
             VfsError::BadIndex => ("BADINDEX", "index 0 is the tree itself"),
-            VfsError::BadMap => ("BADMAP", "an id range goes past 2^32 - 1"),
+            VfsError::BadMap => ("BADMAP", "a start plus the range is above 2^32 - 1"),
             VfsError::BadSave => ("BADSAVE", "the saved bytes break their layout"),
             VfsError::NotFresh => ("NOTFRESH", "the instance has nodes or mounts already"),
             VfsError::Small => ("SMALL", "too few bytes, or storage that is damaged"),

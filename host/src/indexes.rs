@@ -1,5 +1,6 @@
 //! An allocator of indexes by itself, without an instance.
 use crate::error::Refused;
+use crate::exports::FsIndexes;
 use crate::numbers::{Tag, VfsIndex};
 use crate::sys;
 use std::fmt;
@@ -28,7 +29,7 @@ pub struct Allocated {
 /// ```
 #[derive(Clone)]
 pub struct Indexes {
-    table: Box<sys::FsIndexes>,
+    table: Box<FsIndexes>,
 }
 
 impl Indexes {
@@ -39,7 +40,7 @@ impl Indexes {
 
     /// 256 empty slots, and a given counter: the index that the next search visits first.
     pub fn with_counter(next_super: u8) -> Indexes {
-        let table = sys::FsIndexes { used: [0; 256], tags: [0; 256], next_super };
+        let table = FsIndexes { used: [0; 256], tags: [0; 256], next_super };
         Indexes { table: Box::new(table) }
     }
 

@@ -26,6 +26,7 @@
 #![warn(missing_docs)]
 
 mod error;
+mod exports;
 mod indexes;
 mod listing;
 mod numbers;

@@ -16,7 +16,7 @@ pub struct DirEntry<'a> {
 
 /// The records that [`readdir`](crate::Vfs::readdir) wrote, one after another.
 ///
-/// It ends at the first bytes that are no whole record.
+/// It ends at the first record whose name is cut.
 #[derive(Clone, Debug)]
 pub struct DirEntries<'a> {
     rest: &'a [u8],

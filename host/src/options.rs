@@ -1,4 +1,5 @@
 //! The options of an instance, and the mapping of user and group ids.
+use crate::exports::OptionsAnswer;
 use crate::sys;
 
 /// One range of ids: those from `internal` on, `range` of them, stand outside from `external` on. Range 0 is no mapping.
@@ -46,8 +47,9 @@ pub fn map_back(mapping: IdMapping, id: u32) -> u32 {
 
 /// The options of an instance: those of the file system protocol as bits, six flags, and a mapping of ids.
 ///
-/// The names are those of the Rust. The flags are kept and saved; what they ask for is the host's to do.
-#[derive(Clone, Copy, Debug, Default, PartialEq, Eq, Hash)]
+/// The names are those of the Rust. The flags are kept and saved; what they ask for is the host's to do. There is no
+/// `Default`: that of the Rust has flags and option bits on.
+#[derive(Clone, Copy, Debug, PartialEq, Eq, Hash)]
 pub struct VfsOptions {
     /// A listing through the host shows no entries.
     pub no_readdir: bool,
@@ -71,8 +73,20 @@ pub struct VfsOptions {
 
 impl VfsOptions {
     /// No option bits, no flags, no mapping.
-    pub fn new() -> VfsOptions {
-        VfsOptions::default()
+    // A `default` would mean something else than that of the Rust.
+    #[allow(clippy::new_without_default)]
+    pub const fn new() -> VfsOptions {
+        VfsOptions {
+            no_readdir: false,
+            seal_size: false,
+            no_open: false,
+            no_opendir: false,
+            no_writeback: false,
+            killpriv_v2: false,
+            in_opts: 0,
+            out_opts: 0,
+            id_mapping: IdMapping::new(0, 0, 0),
+        }
     }
 
     pub(crate) fn flags(&self) -> u8 {
@@ -84,7 +98,7 @@ impl VfsOptions {
             | u8::from(self.killpriv_v2) << 5
     }
 
-    pub(crate) fn of(a: &sys::OptionsAnswer) -> VfsOptions {
+    pub(crate) fn of(a: &OptionsAnswer) -> VfsOptions {
         let flag = |bit: u32| a.flags >> bit & 1 == 1;
         VfsOptions {
             no_readdir: flag(0),

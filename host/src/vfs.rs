@@ -12,7 +12,15 @@ pub const MAX_NODES: usize = 1024;
 pub const DIRECTORY_MODE: u32 = 16895;
 
 /// How many bytes the longest saved state has.
-pub const LONGEST_SAVE: usize = 279_335;
+pub const LONGEST_SAVE: usize = STATE_END + LONGEST_RECORD * (MAX_NODES - 1);
+
+/// The bytes of an instance besides those of its nodes, and those of one node.
+const TABLES: usize = 8192;
+const NODE: usize = 512;
+
+/// The bytes of options and trailer of a saved state, and those of a node's record with the longest name.
+const STATE_END: usize = 32 + 24;
+const LONGEST_RECORD: usize = 18 + 255;
 
 /// How many bytes an instance of a node capacity takes.
 ///
@@ -20,7 +28,7 @@ pub const LONGEST_SAVE: usize = 279_335;
 /// assert_eq!(galdovar::storage_for(64), 40_960);
 /// ```
 pub const fn storage_for(nodes: usize) -> usize {
-    nodes.saturating_mul(512).saturating_add(8192)
+    nodes.saturating_mul(NODE).saturating_add(TABLES)
 }
 
 /// What a mount brings: the backend's tag, and the numbers of its root.
@@ -68,14 +76,14 @@ pub struct Mounted {
     pub fs_idx: VfsIndex,
     /// How many indexes the search visited.
     pub count: u32,
-    /// The tag of the mount that stood there before and is gone now.
+    /// The tag that the slot of the mount before held; none where there was no mount, or its slot was empty.
     pub replaced: Option<Tag>,
 }
 
 /// What a restored mount answers.
 #[derive(Clone, Copy, Debug, PartialEq, Eq, Hash)]
 pub struct RestoredMount {
-    /// The tag of the mount that stood on the node before and is gone now.
+    /// The tag that the slot of the mount before held; none where there was no mount, or its slot was empty.
     pub replaced: Option<Tag>,
     /// The tag that another mount had in the slot of this index, and has no more.
     pub displaced: Option<Tag>,
@@ -147,8 +155,8 @@ pub struct Ids {
 /// [`RwLock`](std::sync::RwLock) many readers may ask at once. All that it knows stands in its bytes, so a clone is an
 /// instance of its own.
 ///
-/// Every call answers [`VfsError::Small`] where the storage breaks the layout rule. Storage that [`Vfs::new`] made and
-/// that only these calls changed never does.
+/// Every call but [`Vfs::create`] answers [`VfsError::Small`] where the storage breaks the layout rule. Storage that
+/// [`Vfs::new`] made and that only these calls changed never does.
 ///
 /// ```
 /// use galdovar::{Backend, Tag, Vfs, VfsOptions};
@@ -171,7 +179,7 @@ impl Vfs {
     /// A new instance with room for `nodes` nodes, the root counted, in storage of its own.
     ///
     /// `known` is the mask of option bits that the host knows. Refused: SMALL for a capacity outside 1 to 1,024, BADOPT
-    /// for option bits outside the mask, BADMAP for a mapping that goes past 2^32 − 1.
+    /// for option bits outside the mask, BADMAP where a start of the mapping plus its range is above 2^32 − 1.
     ///
     /// ```
     /// use galdovar::{IdMapping, Vfs, VfsError, VfsOptions};
@@ -211,9 +219,9 @@ impl Vfs {
 
     /// Takes bytes for the storage of an instance, whatever they are, and does not look at them.
     ///
-    /// They may come from [`Vfs::into_bytes`], from shared memory that something else wrote to, or from a test. Every
-    /// call on bytes that break the layout rule answers SMALL. Behind a good header every pattern of bytes stands for
-    /// some tables, and calls answer by these.
+    /// They may come from [`Vfs::into_bytes`], be copied from shared memory that something else wrote to, or come from a
+    /// test. Every call but [`Vfs::create`] answers SMALL on bytes that break the layout rule. Behind a good header every
+    /// pattern of bytes stands for some tables, and calls answer by these.
     ///
     /// ```
     /// use galdovar::{Vfs, VfsError};
@@ -247,7 +255,7 @@ impl Vfs {
         self.storage.into_vec()
     }
 
-    /// From now on an unmount takes its node out of the tree. Nothing unsets this.
+    /// From now on a done unmount takes its node out of the tree, unless it is the root. Nothing unsets this.
     ///
     /// ```
     /// use galdovar::{Backend, Tag, Vfs, VfsOptions};
@@ -265,7 +273,7 @@ impl Vfs {
         VfsError::done(sys::set_remove_pseudo_root(&mut self.storage).code)
     }
 
-    /// Whether a state with option bits was restored: false for a new instance.
+    /// Whether a state whose `in_opts` is not 0 was restored: false for a new instance.
     ///
     /// ```
     /// use galdovar::{Vfs, VfsOptions};
@@ -613,10 +621,10 @@ impl Vfs {
         VfsError::done(sys::restore_from_bytes(&mut self.storage, bytes).code)
     }
 
-    /// The longest state that storage of this length can hold: 56 bytes, and 273 for each node besides the root.
+    /// The longest state that storage of this length can hold, with a record for each node besides the root.
     fn longest_save(&self) -> usize {
-        let nodes = self.storage.len().saturating_sub(storage_for(0)) / 512;
-        56 + 273 * nodes.clamp(1, MAX_NODES).saturating_sub(1)
+        let nodes = self.storage.len().saturating_sub(TABLES) / NODE;
+        STATE_END + LONGEST_RECORD * (nodes.clamp(1, MAX_NODES) - 1)
     }
 }
 

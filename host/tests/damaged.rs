@@ -7,22 +7,26 @@ use galdovar::{storage_for, Backend, BackendNumber, NodeNumber, Tag, Vfs, VfsErr
 /// Bytes past the end of an instance, which no call may change.
 const BEHIND: usize = 64;
 
+const NAMES: [&[u8]; 6] = [b"a", b"..", b".", b"", b"\xff", b"x/y"];
+const PATHS: [&[u8]; 6] = [b"/", b"/a/b", b"/a/../c", b"a", b"/\xff", b"/new/er"];
+
 /// Makes every call. Storage against the layout rule is SMALL in each and stays as it is; other storage is answered, and
 /// still keeps the rule.
 fn every_call(bytes: &[u8], random: &mut Random) {
     let mut vfs = Vfs::from_bytes(bytes.to_vec());
     let laid = is_laid(bytes);
-    let names: [&[u8]; 6] = [b"a", b"..", b".", b"", b"\xff", b"x/y"];
-    let paths: [&[u8]; 6] = [b"/", b"/a/b", b"/a/../c", b"a", b"/\xff", b"/new/er"];
-    let name = names[random.below(6) as usize];
-    let path = paths[random.below(6) as usize];
-    let node = NodeNumber(random.below(8));
-    let b = Backend {
-        tag: Tag(random.next() as u32),
-        root: BackendNumber(random.below(9)),
-        ..backend(0)
-    };
+    every_reader(&vfs, laid, random);
+    assert!(vfs.as_bytes() == bytes, "a reader changed the storage");
+    every_writer(&mut vfs, laid, random);
+    assert!(laid || vfs.as_bytes() == bytes, "storage that was refused has changed");
+    let end = bytes.len() - BEHIND;
+    assert!(vfs.as_bytes()[end..] == bytes[end..], "bytes behind the instance changed");
+}
 
+fn every_reader(vfs: &Vfs, laid: bool, random: &mut Random) {
+    let name = NAMES[random.below(6) as usize];
+    let path = PATHS[random.below(6) as usize];
+    let node = NodeNumber(random.below(8));
     let small = [
         vfs.initialized().err(),
         vfs.options().err(),
@@ -36,8 +40,15 @@ fn every_call(bytes: &[u8], random: &mut Random) {
     ]
     .map(|e| e == Some(VfsError::Small));
     assert_eq!(small, [!laid; 9], "the calls that read");
-    assert!(vfs.as_bytes() == bytes, "a reader changed the storage");
+}
 
+fn every_writer(vfs: &mut Vfs, laid: bool, random: &mut Random) {
+    let path = PATHS[random.below(6) as usize];
+    let b = Backend {
+        tag: Tag(random.next() as u32),
+        root: BackendNumber(random.below(9)),
+        ..backend(0)
+    };
     let nothing = fresh(1).save_to_bytes().unwrap();
     for call in [random.below(5), random.below(5), 0, 1, 2, 3, 4] {
         let error = match call {
@@ -50,9 +61,6 @@ fn every_call(bytes: &[u8], random: &mut Random) {
         assert_eq!(error == Some(VfsError::Small), !laid, "call {} that writes", call);
         assert_eq!(is_laid(vfs.as_bytes()), laid, "call {} left the layout rule", call);
     }
-    assert!(laid || vfs.as_bytes() == bytes, "storage that was refused has changed");
-    let end = bytes.len() - BEHIND;
-    assert!(vfs.as_bytes()[end..] == bytes[end..], "bytes behind the instance changed");
 }
 
 /// The storage of an instance with some mounts, and bytes behind it.

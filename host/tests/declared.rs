@@ -1,5 +1,5 @@
-//! The declarations of `src/sys.rs` are those of the C header: names, order and widths. Each `unsafe` block says why it is
-//! sound.
+//! The declarations of `src/exports.rs` are those of the C header: names, order and widths. Each `unsafe` block of
+//! `src/sys.rs` says why it is sound.
 use std::fs;
 use std::path::Path;
 
@@ -83,13 +83,13 @@ fn joined(items: &str) -> String {
     items.collect::<Vec<_>>().join(", ")
 }
 
-fn of_sys(sys: &str) -> Vec<String> {
+fn of_exports(exports: &str) -> Vec<String> {
     let mut found = Vec::new();
-    for part in all_between(sys, "pub struct ", "}") {
+    for part in all_between(exports, "pub struct ", "}") {
         let (name, fields) = part.split_once('{').expect("a struct has fields");
         found.push(format!("{} {{ {} }}", name.trim(), joined(fields)));
     }
-    let (functions, _) = between(sys, "extern \"C\" {", "\n}").expect("the functions");
+    let (functions, _) = between(exports, "extern \"C\" {", "\n}").expect("the functions");
     for part in all_between(functions, "fn ", ";") {
         let (name, rest) = part.split_once('(').expect("a function has parameters");
         let (parameters, answer) = rest.split_once(") -> ").expect("a function has an answer");
@@ -101,17 +101,17 @@ fn of_sys(sys: &str) -> Vec<String> {
 #[test]
 fn declarations_are_those_of_the_header() {
     let mut header = of_header(&without_comments(&text("../crates/gateway/galdovar.h")));
-    let mut sys = of_sys(&text("src/sys.rs"));
+    let mut exports = of_exports(&text("src/exports.rs"));
     assert!(header.len() > 30, "{} declarations in the header", header.len());
     header.sort();
-    sys.sort();
-    assert_eq!(sys, header);
+    exports.sort();
+    assert_eq!(exports, header);
 }
 
 #[test]
 fn structs_are_laid_out_as_in_c() {
-    let sys = text("src/sys.rs");
-    let parts: Vec<_> = sys.split("pub struct ").collect();
+    let exports = text("src/exports.rs");
+    let parts: Vec<_> = exports.split("pub struct ").collect();
     assert_eq!(parts.len() - 1, 15, "structs of the header");
     for before in &parts[..parts.len() - 1] {
         // The attributes of an item stand behind the last empty line.

@@ -2,7 +2,7 @@
 mod common;
 
 use common::{backend, fresh, Random};
-use galdovar::{NodeNumber, Tag, Vfs, VfsError};
+use galdovar::{NodeNumber, Tag, Vfs, VfsError, VfsOptions};
 use std::sync::{Arc, RwLock};
 use std::thread;
 
@@ -67,7 +67,7 @@ fn storage_lent_first_to_one_and_then_to_another() {
     one.mount(backend(1), "/one").unwrap();
     one.set_remove_pseudo_root().unwrap();
     let mut two = Vfs::from_bytes(one.into_bytes());
-    two.create(8, 0, &Default::default()).unwrap();
+    two.create(8, 0, &VfsOptions::new()).unwrap();
     assert_eq!(two.path_walk("/one"), Ok(None));
     assert_eq!(two.mount(backend(2), "/two").unwrap().fs_idx, 1);
     assert_eq!(two.umount("/two").unwrap().node, NodeNumber(2));

@@ -147,7 +147,7 @@ def mount_bytes(m):
 
 
 def summed(i):
-    """Adler-32 of the tables, in the order in which crates/calls_test takes them."""
+    """Adler-32 of the tables, in the order that docs/TESTS.md gives."""
     head = struct.pack("<QQQQQQ", i.capacity, len(i.nodes), i.next, i.known, i.in_opts, i.out_opts)
     head += struct.pack("<IIIIII", *i.mapping, *i.own) + bytes([i.flags, i.counter, i.removes, i.initialized])
     parts = [head, mount_bytes(i.root_mount)]

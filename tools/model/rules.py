@@ -202,11 +202,6 @@ def pseudo_entry(i, x):
     return [full(0, x), 0o40777, nobody, nobody, 4096]
 
 
-def look(i, x, name):
-    code, y = find(i, x, name)
-    return (code, [0] * 5) if code else (DONE, pseudo_entry(i, y))
-
-
 def record(number, offset, name):
     b = struct.pack("<QQII", number, offset, len(name), 0) + name
     return b + bytes(-len(b) % 8)

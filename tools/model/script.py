@@ -14,15 +14,17 @@ VARIABLE = re.compile(rb"\$[a-h]")
 MARKED = re.compile(rb"%[0-9a-f]{2}")
 UNKNOWN = 99
 LONGEST = 8192      # of a line with its variables put in, and of a text
+LISTED = 65536      # bytes that are lent to a listing at most
+DEEPEST = 4      # loops, one inside the other
 WRITES = {"create", "remove", "mount", "mountat", "umount", "restore"}
 NUMBERS = {
     "loop": 3, "end": 0, "set": 2, "add": 2, "random": 2, "seed": 1, "text": 0, "more": 2, "fold": 0, "plain": 0, "watch": 1, "views": 1,
     "length": 1, "fill": 3, "scatter": 3, "poke1": 2, "poke8": 2, "raise": 2, "keep": 1, "back": 1, "same": 2,
-    "create": 8, "laid": 0, "remove": 0, "init": 0, "options": 0, "walk": 0, "look": 1, "list": 4, "mount": 6, "mountat": 7, "umount": 0,
+    "create": 8, "laid": 0, "remove": 0, "init": 0, "options": 0, "walk": 0, "list": 4, "mount": 6, "mountat": 7, "umount": 0,
     "route": 1, "root": 0, "lookup": 1, "ids": 3, "save": 2, "restore": 1,
 }
 TEXTS = {"walk", "mount", "mountat", "umount", "root"}
-ZEROS = {"init": 1, "options": 6, "walk": 2, "look": 5, "mount": 4, "mountat": 4, "umount": 4, "route": 4, "root": 3,
+ZEROS = {"init": 1, "options": 6, "walk": 2, "mount": 4, "mountat": 4, "umount": 4, "route": 4, "root": 3,
          "lookup": 5, "ids": 2, "remove": 0, "restore": 0}
 
 
@@ -102,6 +104,7 @@ class Run:
             verb, numbers = self.words(line)
             if verb == "loop":
                 v, first, turns = numbers
+                assert len(loops) < DEEPEST
                 self.variables[v % 8] = first
                 loops.append([at, v % 8, turns])
             elif verb == "end":
@@ -199,8 +202,8 @@ class Run:
         self.to_bytes()[:n] = self.kept[:n]
 
     def do_same(self, at, n):
-        """Scripts ask this only of bytes that no call may change."""
-        self.say("same 0")
+        """Scripts ask this only of bytes that no call writes."""
+        self.say(f"same {int(self.to_bytes()[at:at + n] != self.kept[at:at + n])}")
 
     # ---- calls
 
@@ -224,7 +227,7 @@ class Run:
             self.changed = self.changed or not code
         else:
             f = getattr(rules, {"mountat": "restore_mount"}.get(verb, verb))
-            if verb in ("look", "lookup"):
+            if verb == "lookup":
                 code, values = f(i, numbers[0], self.text)
             elif verb in TEXTS:
                 code, values = f(i, self.text, *numbers)
@@ -254,7 +257,7 @@ class Run:
         return code, []
 
     def list(self, i, node, size, offset, room):
-        out = bytearray([165]) * room
+        out = bytearray([165]) * min(room, LISTED)
         code, values = rules.readdir(i, node, size, offset, out) if i else (rules.SMALL, [0])
         return code, values + [zlib.adler32(out)]
 

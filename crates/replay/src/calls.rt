@@ -134,11 +134,13 @@ fn ids(s: &[u8], r: [u64; 8], outward: u32) {
     numbers(&v);
 }
 
+// Two queries, told as one: the code is that of the first that is refused.
 fn settings(s: &[u8]) {
     let i = instance::galdovar_initialized(s);
     let a = instance::galdovar_options(s);
+    let code = if i.code == 0 { a.code } else { i.code };
     let v = [
-        a.code as u64,
+        code as u64,
         i.initialized as u64,
         a.in_opts,
         a.out_opts,

@@ -8,7 +8,7 @@ use fuse_backend_rs::api::{BackFileSystem, Vfs, VfsOptions};
 use crate::clock::{measure, opaque, plain, prepared, spent, Batch};
 use crate::house::State;
 use crate::pair::{alike, backend, c_string, chain_path, light, name, site_name, Pair};
-use crate::port_side::calls::*;
+use crate::port_side::exports::*;
 use crate::port_side::PortSide;
 use crate::side::{Call, Side};
 

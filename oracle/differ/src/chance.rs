@@ -295,77 +295,86 @@ impl Chance {
         }
     }
 
+    fn restore(&mut self) -> Call {
+        if !self.states.is_empty() && self.random.one_in(2) {
+            let bytes = self.random.pick(&self.states).clone();
+            if self.fits(&bytes) {
+                return Call::Restore(bytes);
+            }
+        }
+        Call::Restore(self.state())
+    }
+
+    fn restore_mount(&mut self, t: &Tables) -> Call {
+        let path = self.mount_path(t);
+        let index = match t.mounts.is_empty() || self.random.one_in(2) {
+            true => 1 + self.random.below(255) as u8,
+            false => self.random.pick(&t.mounts).index,
+        };
+        Call::RestoreMount(index, path, self.backend(t))
+    }
+
+    fn route(&mut self) -> Call {
+        Call::Route(match self.random.below(6) {
+            0 => self.random.next(),
+            1 => (self.random.below(256) << 56) + self.random.below(3),
+            _ => self.kept[self.random.below(self.kept.len() as u64) as usize],
+        })
+    }
+
+    fn list(&mut self, t: &Tables) -> Call {
+        let node = self.node(t);
+        let size = match self.random.below(4) {
+            0 => 0,
+            1 => u32::MAX,
+            _ => self.random.below(200) as u32,
+        };
+        let offset = match self.random.below(8) {
+            0 => u64::MAX,
+            1 => self.random.next(),
+            _ => self.random.below(4),
+        };
+        let room = if self.random.one_in(2) { 4096 } else { self.random.below(200) as usize };
+        Call::List { node, size, offset, room }
+    }
+
+    fn convert(&mut self) -> Call {
+        let index = self.random.next() as u8;
+        let number = match self.random.below(4) {
+            0 => self.random.next(),
+            1 => MAX_INO + self.random.below(2),
+            2 => 0,
+            _ => self.random.below(1 << 56),
+        };
+        Call::Convert(index, number)
+    }
+
     pub fn call(&mut self, t: &Tables) -> Call {
         if Chance::is_fresh(t) && self.random.one_in(8) {
-            if !self.states.is_empty() && self.random.one_in(2) {
-                let bytes = self.random.pick(&self.states).clone();
-                if self.fits(&bytes) {
-                    return Call::Restore(bytes);
-                }
-            }
-            return Call::Restore(self.state());
+            return self.restore();
         }
         match self.random.below(100) {
             0..=24 => {
                 let path = self.mount_path(t);
                 Call::Mount(path, self.backend(t))
             }
-            25..=31 => {
-                let path = self.mount_path(t);
-                let index = match t.mounts.is_empty() || self.random.one_in(2) {
-                    true => 1 + self.random.below(255) as u8,
-                    false => self.random.pick(&t.mounts).index,
-                };
-                Call::RestoreMount(index, path, self.backend(t))
-            }
+            25..=31 => self.restore_mount(t),
             32..=44 => Call::Umount(self.path(t)),
             45..=50 => Call::Rootfs(self.path(t)),
             51..=55 => Call::Walk(self.path(t)),
-            56..=65 => Call::Route(match self.random.below(6) {
-                0 => self.random.next(),
-                1 => (self.random.below(256) << 56) + self.random.below(3),
-                _ => self.kept[self.random.below(self.kept.len() as u64) as usize],
-            }),
+            56..=65 => self.route(),
             66..=78 => {
                 let node = self.node(t);
                 Call::Lookup(node, self.lookup_name(t, node))
             }
-            79..=87 => {
-                let node = self.node(t);
-                let size = match self.random.below(4) {
-                    0 => 0,
-                    1 => u32::MAX,
-                    _ => self.random.below(200) as u32,
-                };
-                let offset = match self.random.below(8) {
-                    0 => u64::MAX,
-                    1 => self.random.next(),
-                    _ => self.random.below(4),
-                };
-                let room = if self.random.one_in(2) { 4096 } else { self.random.below(200) as usize };
-                Call::List { node, size, offset, room }
-            }
-            88 => Call::Convert(
-                self.random.next() as u8,
-                match self.random.below(4) {
-                    0 => self.random.next(),
-                    1 => MAX_INO + self.random.below(2),
-                    2 => 0,
-                    _ => self.random.below(1 << 56),
-                },
-            ),
+            79..=87 => self.list(t),
+            88 => self.convert(),
             89..=91 => Call::Out(self.id(t.options.mapping), self.id(t.options.mapping)),
             92..=94 => Call::Back(self.id(t.options.mapping), self.id(t.options.mapping)),
             95 => Call::Component(self.lookup_name(t, 1)),
             96 | 97 => Call::Save,
-            98 => Call::Settings,
-            _ => {
-                if self.random.one_in(6) {
-                    Call::Remove
-                } else {
-                    Call::Settings
-                }
-            }
+            99 if self.random.one_in(6) => Call::Remove,
+            _ => Call::Settings,
         }
     }
 }

@@ -113,13 +113,8 @@ impl<P: Side> Compare<P> {
             if k < 256 {
                 slots[k as usize] = None;
             }
-            for counter in 0..=255 {
-                if k % 10 == 0 {
-                    self.call(&directed::new(1, (0, 0, 0)));
-                    self.rust.set_slots(&slots, counter);
-                    self.port.set_slots(&slots, counter);
-                    self.call(&directed::mount(b"/", 3));
-                }
+            if k % 10 == 0 {
+                self.searches_by_mount(&slots);
             }
             self.rust.set_slots(&slots, 0);
             for counter in 0..=255 {
@@ -131,6 +126,16 @@ impl<P: Side> Compare<P> {
                     self.differs("search", format!("{:?}", rust), format!("{:?}", port));
                 }
             }
+        }
+    }
+
+    /// A mount on a new instance with those slots, from every counter.
+    fn searches_by_mount(&mut self, slots: &[Option<u32>]) {
+        for counter in 0..=255 {
+            self.call(&directed::new(1, (0, 0, 0)));
+            self.rust.set_slots(slots, counter);
+            self.port.set_slots(slots, counter);
+            self.call(&directed::mount(b"/", 3));
         }
     }
 

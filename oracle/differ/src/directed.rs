@@ -106,55 +106,58 @@ fn rows() -> Vec<Call> {
     calls
 }
 
+/// Paths of every form but the longest.
+const FORMS: [&[u8]; 42] = [
+    b"/",
+    b"//",
+    b"/.",
+    b"/..",
+    b"/../..",
+    b"/./.",
+    b"/a",
+    b"/a/",
+    b"//a",
+    b"/a//b",
+    b"/a/./b",
+    b"/a/b/..",
+    b"/a/b/../b",
+    b"/a/b/c/../../..",
+    b"/x",
+    b"/x/..",
+    b"/x/../a",
+    b"/x/../x/y",
+    b"/...",
+    b"/a/...",
+    b"/.a",
+    b"/a.",
+    b"/a/..b",
+    b"",
+    b".",
+    b"..",
+    b"a",
+    b"./a",
+    b"../a",
+    b"\0",
+    b"/\0",
+    b"/a\0b",
+    b"/ ",
+    b"/a/ b",
+    b"/\n",
+    b"/a/b/c/",
+    b"/a/b/c/d",
+    b"/A",
+    b"\xff/",
+    b"/a/\x80",
+    b"/a\xcc",
+    "/\u{e9}/\u{20ac}".as_bytes(),
+];
+
 /// Paths of every form on a small tree, in every call that takes one.
 fn paths() -> Vec<Call> {
     let long = [&b"/"[..], &[b'n'; 255][..]].concat();
     let deep = b"/p/..".iter().cycle().take(4095).cloned().chain(*b"/").collect::<Vec<u8>>();
     let mut calls = vec![new(64, (0, 0, 0)), mount(b"/a/b/c", 1), mount(b"/a", 2)];
-    let mut forms: Vec<&[u8]> = vec![
-        b"/",
-        b"//",
-        b"/.",
-        b"/..",
-        b"/../..",
-        b"/./.",
-        b"/a",
-        b"/a/",
-        b"//a",
-        b"/a//b",
-        b"/a/./b",
-        b"/a/b/..",
-        b"/a/b/../b",
-        b"/a/b/c/../../..",
-        b"/x",
-        b"/x/..",
-        b"/x/../a",
-        b"/x/../x/y",
-        b"/...",
-        b"/a/...",
-        b"/.a",
-        b"/a.",
-        b"/a/..b",
-        b"",
-        b".",
-        b"..",
-        b"a",
-        b"./a",
-        b"../a",
-        b"\0",
-        b"/\0",
-        b"/a\0b",
-        b"/ ",
-        b"/a/ b",
-        b"/\n",
-        b"/a/b/c/",
-        b"/a/b/c/d",
-        b"/A",
-        b"\xff/",
-        b"/a/\x80",
-        b"/a\xcc",
-        "/\u{e9}/\u{20ac}".as_bytes(),
-    ];
+    let mut forms = FORMS.to_vec();
     forms.push(&long);
     forms.push(&deep);
     for path in &forms {
@@ -252,6 +255,10 @@ fn listings() -> Vec<Call> {
     calls
 }
 
+/// Names to look up, of every kind.
+const LOOKED: [&[u8]; 16] =
+    [b"a", b"b", b"c", b"d", b"e", b"f", b"x", b"", b".", b"..", b"...", b"a/b", b"/", b"\xc3\xa9", b"\xc3", b"\xff"];
+
 /// Lookups by every kind of name, with a mapping, in directories that live, were removed, or never were.
 fn lookups() -> Vec<Call> {
     let owned = |uid, gid| Backend { uid, gid, ..backend(3) };
@@ -263,27 +270,9 @@ fn lookups() -> Vec<Call> {
         mount(b"/a/b/f", 9),
         restore_mount(77, b"/\xc3\xa9", 10),
     ];
-    let names: [&[u8]; 16] = [
-        b"a",
-        b"b",
-        b"c",
-        b"d",
-        b"e",
-        b"f",
-        b"x",
-        b"",
-        b".",
-        b"..",
-        b"...",
-        b"a/b",
-        b"/",
-        b"\xc3\xa9",
-        b"\xc3",
-        b"\xff",
-    ];
     for round in 0..3 {
         for node in (0..10).chain([MAX_INO].iter().cloned()) {
-            for name in names.iter() {
+            for name in LOOKED.iter() {
                 calls.push(look(node, name));
             }
         }
@@ -304,10 +293,14 @@ fn lookups() -> Vec<Call> {
     calls
 }
 
-/// Mounts on the root, over one another, and two nodes on one index.
-fn mounts() -> Vec<Call> {
-    let mut calls = vec![new(64, (0, 0, 0)), Call::Route(1), mount(b"/", 1), Call::Route(1), Call::Route(2)];
-    calls.extend(vec![
+/// Mounts on the root, and over one another.
+fn mounts_on_the_root() -> Vec<Call> {
+    vec![
+        new(64, (0, 0, 0)),
+        Call::Route(1),
+        mount(b"/", 1),
+        Call::Route(1),
+        Call::Route(2),
         Call::Mount(b"/".to_vec(), Backend { root: 55, ..backend(2) }),
         Call::Route(1),
         full(1, 1),
@@ -319,6 +312,12 @@ fn mounts() -> Vec<Call> {
         umount(b"/"),
         Call::Route(1),
         full(2, 7),
+    ]
+}
+
+/// Two nodes on one index.
+fn mounts_on_one_index() -> Vec<Call> {
+    vec![
         restore_mount(9, b"/a", 3),
         restore_mount(9, b"/b", 4),
         rootfs(b"/a"),
@@ -338,6 +337,12 @@ fn mounts() -> Vec<Call> {
         rootfs(b"/c"),
         restore_mount(255, b"/c", 0),
         umount(b"/c"),
+    ]
+}
+
+/// Mounts whose nodes are removed with them.
+fn mounts_removed() -> Vec<Call> {
+    vec![
         Call::Remove,
         mount(b"/d/e", 1),
         mount(b"/d", 2),
@@ -353,8 +358,12 @@ fn mounts() -> Vec<Call> {
         umount(b"/"),
         walk(b"/"),
         Call::Save,
-    ]);
-    calls
+    ]
+}
+
+/// All of these on one instance.
+fn mounts() -> Vec<Call> {
+    [mounts_on_the_root(), mounts_on_one_index(), mounts_removed()].concat()
 }
 
 /// Ids out and back by the mappings' edges.
@@ -387,6 +396,27 @@ fn ids() -> Vec<Call> {
     calls
 }
 
+/// Names for the component check.
+const COMPONENTS: [&[u8]; 17] = [
+    b"",
+    b".",
+    b"..",
+    b"...",
+    b"a",
+    b"/",
+    b"a/",
+    b"/a",
+    b"a/b",
+    b".a",
+    b"..a",
+    b"a.",
+    b"./",
+    b"../",
+    b"\xff",
+    b".\xff",
+    &[b'x'; 300],
+];
+
 /// Conversion and component check, which need no instance.
 fn pure() -> Vec<Call> {
     let mut calls = vec![new(1, (0, 0, 0))];
@@ -395,26 +425,7 @@ fn pure() -> Vec<Call> {
             calls.push(Call::Convert(*index, *number));
         }
     }
-    let names: [&[u8]; 17] = [
-        b"",
-        b".",
-        b"..",
-        b"...",
-        b"a",
-        b"/",
-        b"a/",
-        b"/a",
-        b"a/b",
-        b".a",
-        b"..a",
-        b"a.",
-        b"./",
-        b"../",
-        b"\xff",
-        b".\xff",
-        &[b'x'; 300],
-    ];
-    calls.extend(names.iter().map(|n| Call::Component(n.to_vec())));
+    calls.extend(COMPONENTS.iter().map(|n| Call::Component(n.to_vec())));
     calls
 }
 
@@ -422,11 +433,11 @@ fn node(number: u64, parent: u64, name: &[u8]) -> Node {
     Node { number, parent, name: name.to_vec() }
 }
 
-/// States saved and restored, with and without options outside the mask, and the numbers at their end.
-fn states() -> Vec<Call> {
+/// With and without options outside the mask, and the numbers at their end.
+fn state_list() -> Vec<State> {
     let options = Options { in_opts: 5, out_opts: 9, mapping: (u32::MAX, 7, u32::MAX), flags: 63 };
     let tree = vec![node(2, 1, b"a"), node(5, 2, b"b"), node(9, 1, b"c"), node(10, 5, b"a")];
-    let states = [
+    vec![
         State { nodes: vec![], options: Options::default(), next: 2, counter: 1 },
         State { nodes: vec![], options, next: 2, counter: 0 },
         State { nodes: vec![], options: Options { in_opts: 0, ..options }, next: 77, counter: 255 },
@@ -434,9 +445,13 @@ fn states() -> Vec<Call> {
         State { nodes: tree, options: Options { out_opts: 16, ..options }, next: 11, counter: 3 },
         State { nodes: vec![node(MAX_INO - 1, 1, b"z")], options, next: MAX_INO, counter: 3 },
         State { nodes: vec![node(MAX_INO, 1, &[b'z'; 255])], options, next: MAX_INO + 1, counter: 3 },
-    ];
+    ]
+}
+
+/// States saved and restored.
+fn states() -> Vec<Call> {
     let mut calls = Vec::new();
-    for state in states.iter() {
+    for state in state_list() {
         calls.extend(vec![
             Call::New(Creation { capacity: 64, known: 15, in_opts: 1, out_opts: 2, flags: 4, mapping: (0, 10, 3) }),
             Call::Settings,

@@ -27,6 +27,50 @@ mod witness;
 use std::fs::File;
 use std::io::BufWriter;
 
+/// Both sides on the chosen calls and then on random ones; whether no answer differs.
+#[cfg(port)]
+fn compare(seed: u64, calls: u64) -> bool {
+    let mut c = compare::Compare::new(port_side::PortSide::new());
+    c.recorded(1, 9000);
+    println!("the calls of the recorded list: {} equal", c.equal);
+    c.searches(seed, 1000);
+    println!("and searches: {} equal", c.equal);
+    c.utf8();
+    println!("and UTF-8: {} equal", c.equal);
+    c.paths(9);
+    println!("and paths: {} equal", c.equal);
+    c.changed_states();
+    println!("and changed states: {} equal, {} explained", c.equal, c.explained);
+    c.listings();
+    println!("and listings: {} equal", c.equal);
+    random(&mut c, seed, calls)
+}
+
+/// Both sides on random calls; whether no answer of the run differs.
+#[cfg(port)]
+fn random(c: &mut compare::Compare<port_side::PortSide>, seed: u64, calls: u64) -> bool {
+    c.random(seed, calls);
+    println!("{} answers equal, {} different", c.equal, c.different);
+    c.different == 0
+}
+
+/// A run with the port, by its name; whether it went as it should.
+#[cfg(port)]
+fn run(what: &str, seed: u64, calls: u64) -> bool {
+    println!("seed {}", seed);
+    match what {
+        "compare" => compare(seed, calls),
+        "random" => random(&mut compare::Compare::new(port_side::PortSide::new()), seed, calls),
+        _ => slips::run(seed, calls),
+    }
+}
+
+#[cfg(not(port))]
+fn run(_: &str, _: u64, _: u64) -> bool {
+    eprintln!("the port is not linked in: set GALDOVAR_LIB_DIR to the folder of libgateway.a and build again");
+    std::process::exit(2);
+}
+
 fn main() {
     let arguments: Vec<String> = std::env::args().skip(1).collect();
     let number = |k: usize| arguments.get(k).and_then(|a| a.parse::<u64>().ok());
@@ -37,43 +81,8 @@ fn main() {
             println!("seed {}: {} calls recorded in {}", seed, lines, file);
         }
         (Some("differences"), None, None, None) => witness::show(),
-        #[cfg(port)]
-        (Some("compare"), Some(seed), Some(calls), None) => {
-            println!("seed {}", seed);
-            let mut c = compare::Compare::new(port_side::PortSide::new());
-            c.recorded(1, 9000);
-            println!("the calls of the recorded list: {} equal", c.equal);
-            c.searches(seed, 1000);
-            println!("and searches: {} equal", c.equal);
-            c.utf8();
-            println!("and UTF-8: {} equal", c.equal);
-            c.paths(9);
-            println!("and paths: {} equal", c.equal);
-            c.changed_states();
-            println!("and changed states: {} equal, {} explained", c.equal, c.explained);
-            c.listings();
-            println!("and listings: {} equal", c.equal);
-            c.random(seed, calls);
-            println!("{} answers equal, {} different", c.equal, c.different);
-            std::process::exit(if c.different == 0 { 0 } else { 1 });
-        }
-        #[cfg(port)]
-        (Some("random"), Some(seed), Some(calls), None) => {
-            println!("seed {}", seed);
-            let mut c = compare::Compare::new(port_side::PortSide::new());
-            c.random(seed, calls);
-            println!("{} answers equal, {} different", c.equal, c.different);
-            std::process::exit(if c.different == 0 { 0 } else { 1 });
-        }
-        #[cfg(port)]
-        (Some("slips"), Some(seed), Some(calls), None) => {
-            println!("seed {}", seed);
-            std::process::exit(if slips::run(seed, calls) { 0 } else { 1 });
-        }
-        #[cfg(not(port))]
-        (Some("compare"), ..) | (Some("random"), ..) | (Some("slips"), ..) => {
-            eprintln!("the port is not linked in: set GALDOVAR_LIB_DIR to the folder of libgateway.a and build again");
-            std::process::exit(2);
+        (Some(what @ ("compare" | "random" | "slips")), Some(seed), Some(calls), None) => {
+            std::process::exit(if run(what, seed, calls) { 0 } else { 1 });
         }
         _ => {
             eprintln!("usage: differ compare SEED CALLS | random SEED CALLS | slips SEED CALLS | record SEED CALLS FILE | differences");

@@ -4,191 +4,11 @@
 
 use crate::side::{Answer, Backend, Creation, Mount, Node, Options, Side, Tables};
 
-pub mod calls {
-    //! The calls as crates/gateway declares them: a slice is its address and its length.
-
-    #[repr(C)]
-    pub struct Code {
-        pub code: u32,
-    }
-
-    #[repr(C)]
-    pub struct Initialized {
-        pub code: u32,
-        pub initialized: u32,
-    }
-
-    #[repr(C)]
-    pub struct Options {
-        pub code: u32,
-        pub flags: u32,
-        pub in_opts: u64,
-        pub out_opts: u64,
-        pub internal: u32,
-        pub external: u32,
-        pub range: u32,
-    }
-
-    #[repr(C)]
-    pub struct Mount {
-        pub code: u32,
-        pub fs_idx: u32,
-        pub count: u32,
-        pub has_replaced: u32,
-        pub replaced: u32,
-    }
-
-    #[repr(C)]
-    pub struct RestoreMount {
-        pub code: u32,
-        pub has_replaced: u32,
-        pub replaced: u32,
-        pub has_displaced: u32,
-        pub displaced: u32,
-    }
-
-    #[repr(C)]
-    pub struct Umount {
-        pub code: u32,
-        pub has_released: u32,
-        pub node: u64,
-        pub parent: u64,
-        pub released: u32,
-    }
-
-    #[repr(C)]
-    pub struct Rootfs {
-        pub code: u32,
-        pub has_backend: u32,
-        pub tag: u32,
-        pub fs_idx: u32,
-    }
-
-    #[repr(C)]
-    pub struct Walk {
-        pub code: u32,
-        pub has_node: u32,
-        pub node: u64,
-    }
-
-    #[repr(C)]
-    pub struct Route {
-        pub code: u32,
-        pub to_backend: u32,
-        pub tag: u32,
-        pub fs_idx: u32,
-        pub number: u64,
-    }
-
-    #[repr(C)]
-    pub struct Lookup {
-        pub code: u32,
-        pub mode: u32,
-        pub inode: u64,
-        pub uid: u32,
-        pub gid: u32,
-        pub blksize: u32,
-    }
-
-    #[repr(C)]
-    pub struct Wrote {
-        pub code: u32,
-        pub written: u64,
-    }
-
-    #[repr(C)]
-    pub struct Ids {
-        pub code: u32,
-        pub uid: u32,
-        pub gid: u32,
-    }
-
-    #[repr(C)]
-    pub struct Inode {
-        pub code: u32,
-        pub inode: u64,
-    }
-
-    #[repr(C)]
-    pub struct FsIndexes {
-        pub used: [u8; 256],
-        pub tags: [u32; 256],
-        pub next_super: u8,
-    }
-
-    #[repr(C)]
-    pub struct Step {
-        pub code: u32,
-        pub index: u32,
-        pub count: u32,
-    }
-
-    extern "C" {
-        pub fn galdovar_create(
-            storage: *mut u8,
-            len: usize,
-            n: usize,
-            known: u64,
-            in_opts: u64,
-            out_opts: u64,
-            flags: u8,
-            internal: u32,
-            external: u32,
-            range: u32,
-        ) -> Code;
-        pub fn galdovar_set_remove_pseudo_root(storage: *mut u8, len: usize) -> Code;
-        pub fn galdovar_initialized(storage: *const u8, len: usize) -> Initialized;
-        pub fn galdovar_options(storage: *const u8, len: usize) -> Options;
-        pub fn galdovar_remap_attr_id(storage: *const u8, len: usize, uid: u32, gid: u32, outward: u32) -> Ids;
-        pub fn galdovar_mount(
-            storage: *mut u8,
-            len: usize,
-            path: *const u8,
-            path_len: usize,
-            tag: u32,
-            root: u64,
-            max: u64,
-            uid: u32,
-            gid: u32,
-            mode: u32,
-        ) -> Mount;
-        pub fn galdovar_restore_mount(
-            storage: *mut u8,
-            len: usize,
-            fs_idx: u8,
-            path: *const u8,
-            path_len: usize,
-            tag: u32,
-            root: u64,
-            max: u64,
-            uid: u32,
-            gid: u32,
-            mode: u32,
-        ) -> RestoreMount;
-        pub fn galdovar_umount(storage: *mut u8, len: usize, path: *const u8, path_len: usize) -> Umount;
-        pub fn galdovar_get_rootfs(storage: *const u8, len: usize, path: *const u8, path_len: usize) -> Rootfs;
-        pub fn galdovar_path_walk(storage: *const u8, len: usize, path: *const u8, path_len: usize) -> Walk;
-        pub fn galdovar_route(storage: *const u8, len: usize, inode: u64) -> Route;
-        pub fn galdovar_lookup(storage: *const u8, len: usize, parent: u64, name: *const u8, name_len: usize)
-            -> Lookup;
-        pub fn galdovar_readdir(
-            storage: *const u8,
-            len: usize,
-            node: u64,
-            size: u32,
-            offset: u64,
-            out: *mut u8,
-            out_len: usize,
-        ) -> Wrote;
-        pub fn galdovar_convert_inode(fs_idx: u8, number: u64) -> Inode;
-        pub fn galdovar_map_out(internal: u32, external: u32, range: u32, id: u32) -> u32;
-        pub fn galdovar_map_back(internal: u32, external: u32, range: u32, id: u32) -> u32;
-        pub fn galdovar_validate_path_component(name: *const u8, len: usize) -> Code;
-        pub fn galdovar_save_to_bytes(storage: *const u8, len: usize, out: *mut u8, out_len: usize) -> Wrote;
-        pub fn galdovar_restore_from_bytes(storage: *mut u8, len: usize, bytes: *const u8, bytes_len: usize) -> Code;
-        pub fn galdovar_allocate_in(t: *mut FsIndexes, tag: u32) -> Step;
-    }
-}
+/// The declarations that the crate for a Rust host has, in its own format. `oracle/run` copies them to where this path leads
+/// from the build.
+#[rustfmt::skip]
+#[path = "../../../host/src/exports.rs"]
+pub mod exports;
 
 /// What stands where no call may write.
 const PATTERN: u8 = 0xa5;
@@ -229,7 +49,7 @@ impl PortSide {
 
     /// Index 0 to 255 or none, the count, and the counter after, of one step of the lent allocator.
     pub fn allocate(slots: &[Option<u32>], counter: u8, tag: u32) -> (Option<u8>, u64, u8) {
-        let mut t = calls::FsIndexes { used: [0; 256], tags: [0; 256], next_super: counter };
+        let mut t = exports::FsIndexes { used: [0; 256], tags: [0; 256], next_super: counter };
         for (k, slot) in slots.iter().enumerate() {
             if let Some(tag) = slot {
                 t.used[k] = 1;
@@ -238,7 +58,7 @@ impl PortSide {
         }
         let before = (t.used, t.tags);
         // SAFETY: the struct is laid out as the call declares it, and is lent for the call alone.
-        let step = unsafe { calls::galdovar_allocate_in(&mut t, tag) };
+        let step = unsafe { exports::galdovar_allocate_in(&mut t, tag) };
         let found = if step.code == 0 { Some(step.index as u8) } else { None };
         for k in 0..256 {
             let expected = if found == Some(k as u8) { (1, tag) } else { (before.0[k], before.1[k]) };
@@ -259,10 +79,16 @@ impl PortSide {
         Node { number: low(number(b, 8192 + 8 * i, 8)), parent: low(number(b, 8192 + 8 * count + 8 * i, 8)), name }
     }
 
+    /// The mapping in force, which stands at byte 56, or that of the options, at 68.
+    fn mapping_at(&self, at: usize) -> (u32, u32, u32) {
+        let word = |k: usize| number(&self.bytes, at + 4 * k, 4) as u32;
+        (word(0), word(1), word(2))
+    }
+
     /// The mount in a cell, with the ids mapped once, as the Rust stores them.
     fn mount_in(&self, node: u64, cell: usize, uid: usize, gid: usize, mode: usize) -> Option<Mount> {
         let b = &self.bytes;
-        let (internal, external, range) = (number(b, 56, 4) as u32, number(b, 60, 4) as u32, number(b, 64, 4) as u32);
+        let (internal, external, range) = self.mapping_at(56);
         let mapped = |id: u32| match id >= internal && id - internal < range {
             true => id - internal + external,
             false => id,
@@ -280,6 +106,21 @@ impl PortSide {
             }),
         }
     }
+
+    /// The mounts of the root and of the nodes in their rows.
+    fn mounts(&self, nodes: &[Node], capacity: usize) -> Vec<Mount> {
+        let mut mounts: Vec<Mount> = self.mount_in(1, 88, 96, 100, 104).into_iter().collect();
+        for (i, n) in nodes.iter().enumerate() {
+            mounts.extend(self.mount_in(
+                n.number,
+                8192 + 16 * capacity + 8 * i,
+                8192 + 32 * capacity + 4 * i,
+                8192 + 36 * capacity + 4 * i,
+                8192 + 40 * capacity + 4 * i,
+            ));
+        }
+        mounts
+    }
 }
 
 impl Side for PortSide {
@@ -292,7 +133,7 @@ impl Side for PortSide {
         let (internal, external, range) = c.mapping;
         // SAFETY: here and below, each slice is lent with its own length, and none overlaps another.
         let a = unsafe {
-            calls::galdovar_create(
+            exports::galdovar_create(
                 at,
                 len,
                 c.capacity as usize,
@@ -310,13 +151,13 @@ impl Side for PortSide {
 
     fn set_remove_pseudo_root(&mut self) -> Answer {
         let (at, len) = self.lent();
-        Answer::of(&[unsafe { calls::galdovar_set_remove_pseudo_root(at, len) }.code as u64])
+        Answer::of(&[unsafe { exports::galdovar_set_remove_pseudo_root(at, len) }.code as u64])
     }
 
     fn mount(&mut self, path: &[u8], b: Backend) -> Answer {
         let (at, len) = self.lent();
         let a = unsafe {
-            calls::galdovar_mount(at, len, path.as_ptr(), path.len(), b.tag, b.root, b.max, b.uid, b.gid, b.mode)
+            exports::galdovar_mount(at, len, path.as_ptr(), path.len(), b.tag, b.root, b.max, b.uid, b.gid, b.mode)
         };
         Answer::of(&[a.code as u64, a.fs_idx as u64, a.count as u64, a.has_replaced as u64, a.replaced as u64])
     }
@@ -324,7 +165,7 @@ impl Side for PortSide {
     fn restore_mount(&mut self, index: u8, path: &[u8], b: Backend) -> Answer {
         let (at, len) = self.lent();
         let a = unsafe {
-            calls::galdovar_restore_mount(
+            exports::galdovar_restore_mount(
                 at,
                 len,
                 index,
@@ -349,80 +190,80 @@ impl Side for PortSide {
 
     fn umount(&mut self, path: &[u8]) -> Answer {
         let (at, len) = self.lent();
-        let a = unsafe { calls::galdovar_umount(at, len, path.as_ptr(), path.len()) };
+        let a = unsafe { exports::galdovar_umount(at, len, path.as_ptr(), path.len()) };
         Answer::of(&[a.code as u64, a.node, a.parent, a.has_released as u64, a.released as u64])
     }
 
     fn get_rootfs(&mut self, path: &[u8]) -> Answer {
         let (at, len) = self.lent();
-        let a = unsafe { calls::galdovar_get_rootfs(at, len, path.as_ptr(), path.len()) };
+        let a = unsafe { exports::galdovar_get_rootfs(at, len, path.as_ptr(), path.len()) };
         Answer::of(&[a.code as u64, a.has_backend as u64, a.tag as u64, a.fs_idx as u64])
     }
 
     fn path_walk(&mut self, path: &[u8]) -> Answer {
         let (at, len) = self.lent();
-        let a = unsafe { calls::galdovar_path_walk(at, len, path.as_ptr(), path.len()) };
+        let a = unsafe { exports::galdovar_path_walk(at, len, path.as_ptr(), path.len()) };
         Answer::of(&[a.code as u64, a.has_node as u64, a.node])
     }
 
     fn route(&mut self, full: u64) -> Answer {
         let (at, len) = self.lent();
-        let a = unsafe { calls::galdovar_route(at, len, full) };
+        let a = unsafe { exports::galdovar_route(at, len, full) };
         Answer::of(&[a.code as u64, a.to_backend as u64, a.tag as u64, a.fs_idx as u64, a.number])
     }
 
     fn lookup(&mut self, node: u64, name: &[u8]) -> Answer {
         let (at, len) = self.lent();
-        let a = unsafe { calls::galdovar_lookup(at, len, node, name.as_ptr(), name.len()) };
+        let a = unsafe { exports::galdovar_lookup(at, len, node, name.as_ptr(), name.len()) };
         Answer::of(&[a.code as u64, a.inode, a.mode as u64, a.uid as u64, a.gid as u64, a.blksize as u64])
     }
 
     fn readdir(&mut self, node: u64, size: u32, offset: u64, room: usize) -> Answer {
         let mut out = vec![PATTERN; room];
         let (at, len) = self.lent();
-        let a = unsafe { calls::galdovar_readdir(at, len, node, size, offset, out.as_mut_ptr(), room) };
+        let a = unsafe { exports::galdovar_readdir(at, len, node, size, offset, out.as_mut_ptr(), room) };
         Answer::of(&[a.code as u64, a.written]).with(written(&out, a.written))
     }
 
     fn convert_inode(&mut self, index: u8, number: u64) -> Answer {
-        let a = unsafe { calls::galdovar_convert_inode(index, number) };
+        let a = unsafe { exports::galdovar_convert_inode(index, number) };
         Answer::of(&[a.code as u64, a.inode])
     }
 
     fn remap_attr_id(&mut self, outward: bool, uid: u32, gid: u32) -> Answer {
         let (at, len) = self.lent();
-        let a = unsafe { calls::galdovar_remap_attr_id(at, len, uid, gid, outward as u32) };
+        let a = unsafe { exports::galdovar_remap_attr_id(at, len, uid, gid, outward as u32) };
         let (internal, external, range) = self.mapping;
         let given = match outward {
-            true => unsafe { calls::galdovar_map_out(internal, external, range, uid) },
-            false => unsafe { calls::galdovar_map_back(internal, external, range, uid) },
+            true => unsafe { exports::galdovar_map_out(internal, external, range, uid) },
+            false => unsafe { exports::galdovar_map_back(internal, external, range, uid) },
         };
         assert_eq!(given, a.uid, "an id by a given mapping, and by the same mapping in force");
         Answer::of(&[a.code as u64, a.uid as u64, a.gid as u64])
     }
 
     fn validate_path_component(&mut self, name: &[u8]) -> Answer {
-        Answer::of(&[unsafe { calls::galdovar_validate_path_component(name.as_ptr(), name.len()) }.code as u64])
+        Answer::of(&[unsafe { exports::galdovar_validate_path_component(name.as_ptr(), name.len()) }.code as u64])
     }
 
     fn save_to_bytes(&mut self) -> Answer {
         let nodes = number(&self.bytes, 16, 8) as usize;
         let mut out = vec![PATTERN; RECORD * nodes + TAIL + BEHIND];
         let (at, len) = self.lent();
-        let a = unsafe { calls::galdovar_save_to_bytes(at, len, out.as_mut_ptr(), out.len()) };
+        let a = unsafe { exports::galdovar_save_to_bytes(at, len, out.as_mut_ptr(), out.len()) };
         Answer::of(&[a.code as u64, a.written]).with(written(&out, a.written))
     }
 
     fn restore_from_bytes(&mut self, bytes: &[u8]) -> Answer {
         let (at, len) = self.lent();
-        let a = unsafe { calls::galdovar_restore_from_bytes(at, len, bytes.as_ptr(), bytes.len()) };
+        let a = unsafe { exports::galdovar_restore_from_bytes(at, len, bytes.as_ptr(), bytes.len()) };
         Answer::of(&[a.code as u64])
     }
 
     fn settings(&mut self) -> Answer {
         let (at, len) = self.lent();
-        let i = unsafe { calls::galdovar_initialized(at, len) };
-        let o = unsafe { calls::galdovar_options(at, len) };
+        let i = unsafe { exports::galdovar_initialized(at, len) };
+        let o = unsafe { exports::galdovar_options(at, len) };
         Answer::of(&[
             (i.code | o.code) as u64,
             i.initialized as u64,
@@ -445,16 +286,7 @@ impl Side for PortSide {
             .chain(nodes.iter().map(|n| n.number))
             .map(|p| (p, nodes.iter().filter(|n| n.parent == p).map(|n| n.number).collect()))
             .collect();
-        let mut mounts: Vec<Mount> = self.mount_in(1, 88, 96, 100, 104).into_iter().collect();
-        for (i, n) in nodes.iter().enumerate() {
-            mounts.extend(self.mount_in(
-                n.number,
-                8192 + 16 * capacity + 8 * i,
-                8192 + 32 * capacity + 4 * i,
-                8192 + 36 * capacity + 4 * i,
-                8192 + 40 * capacity + 4 * i,
-            ));
-        }
+        let mounts = self.mounts(&nodes, capacity);
         Tables {
             nodes,
             children,
@@ -467,9 +299,10 @@ impl Side for PortSide {
             options: Options {
                 in_opts: number(b, 40, 8),
                 out_opts: number(b, 48, 8),
-                mapping: (number(b, 68, 4) as u32, number(b, 72, 4) as u32, number(b, 76, 4) as u32),
+                mapping: self.mapping_at(68),
                 flags: b[80],
             },
+            mapping: Some(self.mapping_at(56)).filter(|m| m.2 != 0),
             initialized: b[83] != 0,
             removes: b[82] != 0,
         }

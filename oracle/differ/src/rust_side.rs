@@ -119,6 +119,17 @@ impl RustSide {
         mounts.iter().map(|m| (m.node, m.fs_idx, self.slot(m.fs_idx))).collect()
     }
 
+    /// The numbers of a directory's children, as its listing shows them.
+    fn children(&self, parent: u64) -> Vec<u64> {
+        let mut below = Vec::new();
+        let listed = self.vfs.probe_readdir(parent, u32::MAX, 0, &mut |entry| {
+            below.push(entry.ino);
+            Ok(1)
+        });
+        listed.unwrap();
+        below
+    }
+
     /// Of the mounts that stood before a mount on a path, the one on the same node. The path leads there by now, also where
     /// the mount made some of its names.
     fn found(&self, path: &str, mounted: &[(u64, u8, Option<u32>)]) -> Option<(u64, u8, Option<u32>)> {
@@ -157,10 +168,8 @@ impl RustSide {
 impl Side for RustSide {
     fn create(&mut self, c: &Creation) -> Answer {
         FsOptions::set_known(c.known);
-        let (in_opts, out_opts) = match (FsOptions::from_bits(c.in_opts), FsOptions::from_bits(c.out_opts)) {
-            (Some(i), Some(o)) => (i, o),
-            _ => return Answer::of(&[BADOPT]),
-        };
+        let known = |bits| FsOptions::from_bits(bits).expect("known option bits");
+        let (in_opts, out_opts) = (known(c.in_opts), known(c.out_opts));
         self.known = c.known;
         self.vfs = Vfs::new(VfsOptions {
             no_readdir: c.flags & 1 != 0,
@@ -278,13 +287,7 @@ impl Side for RustSide {
     }
 
     fn lookup(&mut self, node: u64, name: &[u8]) -> Answer {
-        let name = match CString::new(name) {
-            Ok(name) => name,
-            Err(_) => {
-                let known = self.lookup(node, b".").code() != NOENT;
-                return Answer::refused(if known { INVAL } else { NOENT }, 6);
-            }
-        };
+        let name = CString::new(name).expect("a name without byte 0");
         match self.vfs.probe_lookup(node, &name) {
             Ok(e) => Answer::of(&[
                 0,
@@ -334,10 +337,7 @@ impl Side for RustSide {
     }
 
     fn validate_path_component(&mut self, name: &[u8]) -> Answer {
-        let name = match CString::new(name) {
-            Ok(name) => name,
-            Err(_) => return Answer::of(&[INVAL]),
-        };
+        let name = CString::new(name).expect("a name without byte 0");
         match validate_path_component(&name) {
             Ok(()) => Answer::of(&[0]),
             Err(e) => Answer::of(&[code_of(&e)]),
@@ -379,16 +379,8 @@ impl Side for RustSide {
 
     fn tables(&self) -> Tables {
         let (next, nodes) = tree_from_shim(&self.vfs.probe_tree()).unwrap();
-        let mut children = Vec::new();
-        for parent in std::iter::once(1).chain(nodes.iter().map(|n| n.number)) {
-            let mut below = Vec::new();
-            let listed = self.vfs.probe_readdir(parent, u32::MAX, 0, &mut |entry| {
-                below.push(entry.ino);
-                Ok(1)
-            });
-            listed.unwrap();
-            children.push((parent, below));
-        }
+        let parents = std::iter::once(1).chain(nodes.iter().map(|n| n.number));
+        let children = parents.map(|p| (p, self.children(p))).collect();
         let mut mounts: Vec<Mount> = self
             .vfs
             .probe_mounts()
@@ -413,6 +405,7 @@ impl Side for RustSide {
             slots,
             mounts,
             options: options_of(&self.vfs.options()),
+            mapping: self.vfs.probe_mapping(),
             initialized: self.vfs.initialized(),
             removes: self.vfs.probe_removes(),
         }

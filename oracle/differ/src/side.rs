@@ -124,6 +124,8 @@ pub struct Tables {
     /// By node.
     pub mounts: Vec<Mount>,
     pub options: Options,
+    /// The mapping in force (R34), or none where its range is 0.
+    pub mapping: Option<(u32, u32, u32)>,
     pub initialized: bool,
     pub removes: bool,
 }

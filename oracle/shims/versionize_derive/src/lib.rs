@@ -34,8 +34,8 @@ fn field_names(body: TokenStream) -> Vec<String> {
     names
 }
 
-#[proc_macro_derive(Versionize)]
-pub fn derive(input: TokenStream) -> TokenStream {
+/// The name of a struct, and the names of its fields.
+fn struct_of(input: TokenStream) -> (String, Vec<String>) {
     let mut tokens = input.into_iter();
     let mut name = String::new();
     let mut fields = Vec::new();
@@ -52,6 +52,12 @@ pub fn derive(input: TokenStream) -> TokenStream {
             _ => {}
         }
     }
+    (name, fields)
+}
+
+#[proc_macro_derive(Versionize)]
+pub fn derive(input: TokenStream) -> TokenStream {
+    let (name, fields) = struct_of(input);
     let writes: String = fields
         .iter()
         .map(|f| format!("::versionize::Versionize::serialize(&self.{}, to, map, version)?;", f))
