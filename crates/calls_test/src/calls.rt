@@ -5,8 +5,8 @@ use crate::verbs;
 use inode::BackendNumber;
 use inode::NodeNumber;
 use inode::VfsInode;
-use pseudo_fs::Looked;
 use vfs::backend::Backend;
+use vfs_query::Looked;
 use words::numbers::least;
 use words::numbers::low8;
 use words::numbers::low32;
@@ -172,7 +172,6 @@ fn ask(verb: u64, n: &[u64; 8], s: &[u8], text: &[u8], regs: &mut [u64; CELLS]) 
         verbs::INIT => init(s, regs),
         verbs::OPTIONS => options(s, regs),
         verbs::WALK => walk(s, text, regs),
-        verbs::LOOK => looked(pseudo_fs::lookup(s, node, text), regs),
         verbs::LOOKUP => looked(vfs_query::lookup(s, node, text), regs),
         verbs::LIST => list(n, s, regs),
         verbs::ROUTE => route(n[0], s, regs),

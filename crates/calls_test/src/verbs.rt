@@ -54,8 +54,6 @@ pub const INIT: u64 = 0x74696e6904;
 pub const OPTIONS: u64 = 0x736e6f6974706f07;
 // walk
 pub const WALK: u64 = 0x6b6c617704;
-// look
-pub const LOOK: u64 = 0x6b6f6f6c04;
 // list
 pub const LIST: u64 = 0x7473696c04;
 // mount

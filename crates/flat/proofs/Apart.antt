@@ -7,15 +7,15 @@ use Rattle.tables.specs.Answer.{tagIn}
 use Rattle.tables.specs.Call.{Told}
 use Rattle.tables.specs.declared.slots.Tag.{Tag}
 use Rattle.tables.specs.declared.slots.Tag.the-variants.{Held, Empty}
-use Rattle.pseudo_fs.specs.Told.{pathWalkTold, lookedTold, entryAnswer}
+use Rattle.pseudo_fs.specs.Told.{pathWalkTold, entryAnswer}
 use Rattle.pseudo_fs.specs.declared.PathWalk.{PathWalk}
 use Rattle.pseudo_fs.specs.declared.PathWalk.the-variants.{Node, Nothing as WalkNothing, Inval as WalkInval, Small as WalkSmall}
-use Rattle.pseudo_fs.specs.declared.Looked.{Looked}
-use Rattle.pseudo_fs.specs.declared.Looked.the-variants.{Entry, NoEnt as LookedNoEnt, Inval as LookedInval, Small as LookedSmall}
 use Rattle.listing.specs.Listed.{listedTold}
 use Rattle.listing.specs.declared.Listed.{Listed}
 use Rattle.listing.specs.declared.Listed.the-variants.{Wrote as ListedWrote, NoEnt as ListedNoEnt, Small as ListedSmall}
-use Rattle.vfs_query.specs.Told.{routedTold, rootfsTold, remappedTold}
+use Rattle.vfs_query.specs.Told.{routedTold, rootfsTold, remappedTold, lookedTold}
+use Rattle.vfs_query.specs.declared.Looked.{Looked}
+use Rattle.vfs_query.specs.declared.Looked.the-variants.{Entry, NoEnt as LookedNoEnt, Inval as LookedInval, Small as LookedSmall}
 use Rattle.vfs_query.specs.declared.Routed.{Routed}
 use Rattle.vfs_query.specs.declared.Routed.the-variants.{Tree, Backend as RoutedBackend, NoEnt as RoutedNoEnt, Small as RoutedSmall}
 use Rattle.vfs_query.specs.declared.Rootfs.{Rootfs}

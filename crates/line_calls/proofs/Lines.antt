@@ -18,16 +18,16 @@ use Rattle.tables.specs.View.{view}
 use Rattle.tables.specs.Rule.{laid}
 use Rattle.tables.specs.Call.{Told, tells, refuses, answeredBy, Does}
 use Rattle.storage.proofs.Laid.{told-small, told-by}
-use Rattle.pseudo_fs.specs.Told.{pathWalkTold, lookedTold}
+use Rattle.pseudo_fs.specs.Told.{pathWalkTold}
 use Rattle.pseudo_fs.specs.declared.PathWalk.{PathWalk}
-use Rattle.pseudo_fs.specs.declared.Looked.{Looked}
 use Rattle.inode.specs.declared.NodeNumber.{NodeNumber}
 use Rattle.inode.specs.declared.BackendNumber.{BackendNumber}
 use Rattle.vfs.specs.Mounting.{mountMem, mountedTold}
 use Rattle.vfs.specs.Unmounting.{unmountMem, unmountedTold}
 use Rattle.vfs.specs.declared.mounting.Mounted.{Mounted}
 use Rattle.vfs.specs.declared.unmounting.Unmounted.{Unmounted}
-use Rattle.vfs_query.specs.Told.{routedTold}
+use Rattle.vfs_query.specs.Told.{routedTold, lookedTold}
+use Rattle.vfs_query.specs.declared.Looked.{Looked}
 use Rattle.vfs_query.specs.declared.Routed.{Routed}
 use Rattle.vfs_query.specs.declared.Routed.the-variants.{Tree, Backend as RoutedBackend, NoEnt as RoutedNoEnt, Small as RoutedSmall}
 use Rattle.decimal.specs.Wrote.{Wrote}

@@ -6,9 +6,10 @@ use Rattle.rules.specs.Bytes.{ascii}
 use Rattle.rules.specs.Session.{decimal, numbers, joined, textOf}
 use Rattle.decimal.specs.Wrote.{Wrote}
 use Rattle.decimal.proofs.Texts.{wrote-more}
-use Rattle.pseudo_fs.specs.Told.{pathWalkTold, lookedTold}
+use Rattle.pseudo_fs.specs.Told.{pathWalkTold}
 use Rattle.pseudo_fs.specs.declared.PathWalk.{PathWalk}
-use Rattle.pseudo_fs.specs.declared.Looked.{Looked}
+use Rattle.vfs_query.specs.Told.{lookedTold}
+use Rattle.vfs_query.specs.declared.Looked.{Looked}
 use Rattle.vfs.specs.Mounting.{mountedTold}
 use Rattle.vfs.specs.Unmounting.{unmountedTold}
 use Rattle.vfs.specs.declared.mounting.Mounted.{Mounted}

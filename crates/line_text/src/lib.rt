@@ -5,14 +5,14 @@ ghost use lib.ListN.{length};
 ghost use Rattle.rules.specs.Bytes.{ascii};
 ghost use Rattle.rules.specs.Session.{textOf};
 ghost use Rattle.decimal.specs.Wrote.{Wrote};
-ghost use Rattle.pseudo_fs.specs.Told.{pathWalkTold, lookedTold};
+ghost use Rattle.pseudo_fs.specs.Told.{pathWalkTold};
+ghost use Rattle.vfs_query.specs.Told.{lookedTold};
 ghost use Rattle.vfs.specs.Mounting.{mountedTold};
 ghost use Rattle.vfs.specs.Unmounting.{unmountedTold};
 ghost use Rattle.line_text.specs.Texts.{valuesText, countText, backendText};
 use decimal::inner::put;
 use decimal::inner::put_byte;
 use decimal::inner::put_u8;
-use pseudo_fs::Looked;
 use pseudo_fs::PathWalk;
 use rules::codes::DONE;
 use rules::codes::FULL;
@@ -25,6 +25,7 @@ use rules::codes::SMALL;
 use rules::codes::TOOLONG;
 use vfs::mounting::Mounted;
 use vfs::unmounting::Unmounted;
+use vfs_query::Looked;
 
 // `?`, for a line of no form (R145).
 pub fn put_question(out: &mut [u8], at: usize) -> usize

@@ -1,4 +1,4 @@
--- The answers of the calls are what the rules tell, and an entry is known by what it tells. Assumes nothing.
+-- The answers of the walk are what the rules tell, and so is the pseudo entry. Assumes nothing.
 use mathlib.Core.Path.{_≡_, refl, sym, ap, _∙_}
 use mathlib.Core.Bool.{Bool, true, false, cond, not, _||_}
 use mathlib.Core.List.{List}
@@ -11,13 +11,13 @@ use Rattle.rules.specs.Utf8.{wellFormed}
 use Rattle.rules.specs.Path.{components, rooted}
 use Rattle.rules.specs.Ids.{Mapping, badMapping, wrapped}
 use Rattle.rules.specs.Instance.{Instance}
-use Rattle.rules.specs.Outcome.{Answer, walked, Outcome, says, firstOf}
+use Rattle.rules.specs.Outcome.{walked, Outcome, says, firstOf}
 use Rattle.rules.specs.Unmount.{badPath, reached, walkRule}
-use Rattle.rules.specs.Lookup.{entryOf, pseudoLookupRule}
+use Rattle.rules.specs.Lookup.{entryOf}
 use Rattle.rules.proofs.Ids.{wrapped-is-whole}
 use Rattle.tables.specs.View.{mappingFrom, headOf, nodesOf, view}
 use Rattle.tables.specs.Rule.{laid}
-use Rattle.tables.specs.Call.{toldBy, tells, answeredBy}
+use Rattle.tables.specs.Call.{tells, answeredBy}
 use Rattle.tables.proofs.Keeps.{laid-ruled}
 use Rattle.inode.specs.Converted.{fullOf, Converts}
 use Rattle.inode.specs.declared.NodeNumber.{NodeNumber}
@@ -28,16 +28,10 @@ use Rattle.storage.proofs.Laid.{told-small, told-by}
 use Rattle.pseudo_fs.specs.declared.PathFault.{PathFault}
 use Rattle.pseudo_fs.specs.declared.PathFault.the-variants.{Utf8, Slash, Sound}
 use Rattle.pseudo_fs.specs.declared.PathWalk.the-variants.{Node as WalkNode, Nothing as WalkNothing, Inval as WalkInval, Small as WalkSmall}
-use Rattle.pseudo_fs.specs.declared.Entry.{Entry}
-use Rattle.pseudo_fs.specs.declared.Looked.the-variants.{Entry as LookedEntry, NoEnt as LookedNoEnt, Inval as LookedInval, Small as LookedSmall}
 use Rattle.pseudo_fs.specs.declared.inner.Walked.{Walked}
 use Rattle.pseudo_fs.specs.declared.inner.Walked.the-variants.{At, Missing}
-use Rattle.pseudo_fs.specs.declared.inner.Finding.{Finding}
-use Rattle.pseudo_fs.specs.declared.inner.Finding.the-variants.{Node as FindingNode, NoEnt, Inval}
 use Rattle.pseudo_fs.specs.Walks.{walkedOf, Walks}
-use Rattle.pseudo_fs.specs.Finds.{outcomeOf, Finds}
-use Rattle.pseudo_fs.specs.Told.{faultOf, pathWalkTold, entryAnswer, lookedTold, pseudoAnswer}
-use Rattle.pseudo_fs.proofs.Finds.{found-low}
+use Rattle.pseudo_fs.specs.Told.{faultOf, pathWalkTold, entryAnswer, pseudoAnswer}
 
 -- ---- the first fault of a path
 
@@ -124,43 +118,3 @@ module _ (mem : List ℕ) (e : laid mem ≡ true) where
   pub pseudo-is : (y : ℕ) → y < 2 ^ 56 → says (pseudoAnswer (mappingFrom 7 (headOf mem)) y) (view mem) ≡ entryOf (view mem) y none
   unfolding pseudoAnswer convert entryOf view
   pseudo-is y h = rw (le-ltb maxIno y (omega arith), wrapped-is-whole (mappingFrom 7 (headOf mem)) 0 good-mapping (omega arith) .0)
-
--- ---- the lookup
-
-module _ (mem : List ℕ) (x : ℕ) (p : List ℕ) where
-  abbrev looking : Instance → Outcome
-  looking i = pseudoLookupRule i x p
-
-  pub look-small : laid mem ≡ false → lookedTold LookedSmall ≡ answeredBy mem looking
-  unfolding lookedTold
-  look-small e = sym (told-small mem looking e)
-
-  module _ (e : laid mem ≡ true) (r : Finding) (f : Finds (nodesOf mem) x p r) where
-    by-find : answeredBy mem looking ≡ toldBy (outcomeOf (λ (y : ℕ). none) (view mem) r)
-    unfolding pseudoLookupRule view
-    by-find = told-by mem looking e ∙ ap (λ (o : Outcome). toldBy o) (sym (f (λ (y : ℕ). none) (view mem) refl))
-
-    pub look-noent : r ≡ NoEnt → lookedTold LookedNoEnt ≡ answeredBy mem looking
-    unfolding lookedTold outcomeOf
-    look-noent q = sym (by-find ∙ rw q)
-
-    pub look-inval : r ≡ Inval → lookedTold LookedInval ≡ answeredBy mem looking
-    unfolding lookedTold outcomeOf
-    look-inval q = sym (by-find ∙ rw q)
-
-    pub look-entry : (y : ℕ) → r ≡ FindingNode y → (n : Entry) → entryAnswer n ≡ pseudoAnswer (mappingFrom 7 (headOf mem)) y → lookedTold (LookedEntry n) ≡ answeredBy mem looking
-    unfolding lookedTold outcomeOf
-    look-entry y q n a =
-        let h : y < 2 ^ 56 = found-low mem x p y (rw q at f) in
-        ap (λ (v : Answer). tells v) a ∙ (ap (λ (o : Outcome). toldBy o) (pseudo-is mem e y h) ∙ sym (by-find ∙ rw q))
-
--- an entry is known by what it tells
-pub entry-apart : (m n : Entry) → entryAnswer m ≡ entryAnswer n → m ≡ n
-unfolding entryAnswer
-entry-apart m n e =
-    let a : m .inode .0 ≡ n .inode .0 = cc in
-    let b : m .mode ≡ n .mode = cc in
-    let c : m .uid ≡ n .uid = cc in
-    let d : m .gid ≡ n .gid = cc in
-    let f : m .blksize ≡ n .blksize = cc in
-    rw (a, b, c, d, f)

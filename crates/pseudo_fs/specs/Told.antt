@@ -3,7 +3,7 @@ use Prim.Native.Nat.{ℕ}
 use mathlib.Core.Bool.{not}
 use mathlib.Core.List.{List, [], _∷_}
 use mathlib.Core.Option.{none, some}
-use Rattle.rules.specs.Numbers.{dirMode, blockSize, orZero, convert, NOENT, INVAL}
+use Rattle.rules.specs.Numbers.{dirMode, blockSize, orZero, convert, INVAL}
 use Rattle.rules.specs.Utf8.{wellFormed}
 use Rattle.rules.specs.Path.{rooted}
 use Rattle.rules.specs.Ids.{Mapping, wrapped}
@@ -14,8 +14,6 @@ use Rattle.pseudo_fs.specs.declared.PathFault.the-variants.{Utf8, Slash,
 use Rattle.pseudo_fs.specs.declared.PathWalk.{PathWalk}
 use Rattle.pseudo_fs.specs.declared.PathWalk.the-variants.{Node as WalkNode, Nothing as WalkNothing, Inval as WalkInval, Small as WalkSmall}
 use Rattle.pseudo_fs.specs.declared.Entry.{Entry}
-use Rattle.pseudo_fs.specs.declared.Looked.{Looked}
-use Rattle.pseudo_fs.specs.declared.Looked.the-variants.{Entry as LookedEntry, NoEnt as LookedNoEnt, Inval as LookedInval, Small as LookedSmall}
 
 -- UTF-8 is tested first, then the leading slash (R36)
 unfoldable pub faultOf : List ℕ → PathFault
@@ -33,13 +31,6 @@ pathWalkTold WalkSmall = toldSmall
 -- of an entry (R13)
 unfoldable pub entryAnswer : Entry → Answer
 entryAnswer e = entry (e .inode .0) (e .mode) (e .uid) (e .gid) (e .blksize)
-
--- of a lookup (R57, R59)
-unfoldable pub lookedTold : Looked → Told
-lookedTold (LookedEntry e) = tells (entryAnswer e)
-lookedTold LookedNoEnt = refuses NOENT
-lookedTold LookedInval = refuses INVAL
-lookedTold LookedSmall = toldSmall
 
 -- ---- the pseudo entry
 

@@ -1,8 +1,5 @@
-// The pseudo tree: the walk along a path, and lookup by a node's number and a name.
-use inner::Finding;
+// The pseudo tree: the walk along a path, and the entry of a node.
 use inner::Walked;
-use inner::find;
-use inner::pseudo_entry;
 use inner::walk;
 use inode::NodeNumber;
 use inode::VfsInode;
@@ -12,9 +9,8 @@ use utf8::is_utf8;
 ghost use mathlib.Core.Path.{_≡_};
 ghost use Rattle.rules.specs.Instance.{Instance};
 ghost use Rattle.rules.specs.Unmount.{walkRule};
-ghost use Rattle.rules.specs.Lookup.{pseudoLookupRule};
 ghost use Rattle.tables.specs.Call.{answeredBy};
-ghost use Rattle.pseudo_fs.specs.Told.{faultOf, pathWalkTold, lookedTold};
+ghost use Rattle.pseudo_fs.specs.Told.{faultOf, pathWalkTold};
 
 pub mod inner;
 
@@ -40,14 +36,6 @@ pub struct Entry {
     pub uid: u32,
     pub gid: u32,
     pub blksize: u32,
-}
-
-// What a lookup answers.
-pub enum Looked {
-    Entry(Entry),
-    NoEnt,
-    Inval,
-    Small,
 }
 
 // The whole path is tested for UTF-8 first, and only then for its leading slash (R36, R43).
@@ -80,19 +68,5 @@ pub fn path_walk(s: &[u8], path: &[u8]) -> PathWalk
     match walk(s, path) {
         Walked::At(x) => PathWalk::Node(NodeNumber(x)),
         Walked::Missing { .. } => PathWalk::Nothing,
-    }
-}
-
-// The pseudo entry of what is found in a directory by a name, or the refusal; SMALL before all else (R13, R19, R57, R58, R59, R60).
-pub fn lookup(s: &[u8], parent: NodeNumber, name: &[u8]) -> Looked
-    ensures { λ r. ⌜ lookedTold r ≡ answeredBy (now (s .entry)) (λ (i : Instance). pseudoLookupRule i (parent .0) (now (name .entry))) ⌝ }
-{
-    if !is_laid(s) {
-        return Looked::Small;
-    }
-    match find(s, parent.0, name) {
-        Finding::Node(x) => Looked::Entry(pseudo_entry(s, x)),
-        Finding::NoEnt => Looked::NoEnt,
-        Finding::Inval => Looked::Inval,
     }
 }

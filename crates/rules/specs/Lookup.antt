@@ -1,4 +1,4 @@
--- Routing, lookup in a pseudo directory and across mounts, and ids by the mapping in force.
+-- Routing, lookup in a pseudo directory across mounts, and ids by the mapping in force.
 use Prim.Native.Nat.{ℕ}
 use mathlib.Core.Bool.{Bool, true, false, cond, not, _||_}
 use mathlib.Core.List.{List, [], _∷_}
@@ -47,7 +47,7 @@ unfoldable pub entryOf : Instance → ℕ → Option Mount → Outcome
 entryOf i x none = says (entry (full 0 x) dirMode (outward i 0) (outward i 0) blockSize) i
 entryOf i x (some m) = says (entry (full (m .index) (m .root)) (m .mode) (twice i (m .uid)) (twice i (m .gid)) 0) i
 
--- a find is answered by its entry, a miss is NOENT (R57, R59); the mounts that are asked are those of the tree, or none
+-- a find is answered by its entry, a miss is NOENT (R57, R59); `mounts` gives the mount on a node
 unfoldable pub entryAt : (ℕ → Option Mount) → Instance → Option ℕ → Outcome
 entryAt mounts i none = refused NOENT i
 entryAt mounts i (some x) = entryOf i x (mounts x)
@@ -64,11 +64,7 @@ lookupBy mounts i x p =
     ∷ [])
     (entryAt mounts i (childIn (i .tree .nodes) x p))
 
--- in the tree alone (R13, R57 to R60)
-unfoldable pub pseudoLookupRule : Instance → ℕ → List ℕ → Outcome
-pseudoLookupRule i x p = lookupBy (λ (y : ℕ). none) i x p
-
--- across mounts (R108 to R111)
+-- with the mounts of the tree (R108 to R111)
 unfoldable pub lookupRule : Instance → ℕ → List ℕ → Outcome
 lookupRule i x p = lookupBy (mountOf (i .tree)) i x p
 

@@ -19,14 +19,14 @@ use Rattle.tables.specs.declared.mounts.MountPoint.{MountPoint}
 use Rattle.inode.specs.declared.VfsInode.{VfsInode}
 use Rattle.storage.proofs.Laid.{told-by}
 use Rattle.pseudo_fs.specs.declared.Entry.{Entry}
-use Rattle.pseudo_fs.specs.declared.Looked.the-variants.{Entry as LookedEntry, NoEnt as LookedNoEnt, Inval as LookedInval}
+use Rattle.vfs_query.specs.declared.Looked.the-variants.{Entry as LookedEntry, NoEnt as LookedNoEnt, Inval as LookedInval}
 use Rattle.pseudo_fs.specs.declared.inner.Finding.{Finding}
 use Rattle.pseudo_fs.specs.declared.inner.Finding.the-variants.{Node as FindingNode, NoEnt, Inval}
 use Rattle.pseudo_fs.specs.Finds.{outcomeOf, Finds}
-use Rattle.pseudo_fs.specs.Told.{entryAnswer, lookedTold, pseudoAnswer}
+use Rattle.pseudo_fs.specs.Told.{entryAnswer, pseudoAnswer}
 use Rattle.pseudo_fs.proofs.Finds.{found-low}
 use Rattle.pseudo_fs.proofs.Calls.{pseudo-is}
-use Rattle.vfs_query.specs.Told.{rootAnswer}
+use Rattle.vfs_query.specs.Told.{lookedTold, rootAnswer}
 use Rattle.vfs_query.proofs.Mounted.{mount-low}
 
 -- ---- the root entry

@@ -6,6 +6,9 @@ use Rattle.rules.specs.Instance.{Instance}
 use Rattle.rules.specs.Lookup.{twice}
 use Rattle.rules.specs.Outcome.{Answer, rootfs, toTree, toBackend, entry, ids}
 use Rattle.tables.specs.Call.{Told, tells, refuses, toldSmall}
+use Rattle.pseudo_fs.specs.Told.{entryAnswer}
+use Rattle.vfs_query.specs.declared.Looked.{Looked}
+use Rattle.vfs_query.specs.declared.Looked.the-variants.{Entry as LookedEntry, NoEnt as LookedNoEnt, Inval as LookedInval, Small as LookedSmall}
 use Rattle.vfs_query.specs.declared.Routed.{Routed}
 use Rattle.vfs_query.specs.declared.Routed.the-variants.{Tree, Backend as RoutedBackend, NoEnt as RoutedNoEnt, Small as RoutedSmall}
 use Rattle.vfs_query.specs.declared.Rootfs.{Rootfs}
@@ -33,6 +36,13 @@ unfoldable pub remappedTold : Remapped → Told
 remappedTold (Ids uid gid) = tells (ids uid gid)
 remappedTold RemappedSmall = toldSmall
 
--- of any mount (R7, R108, R109)
+-- of a lookup (R57, R59)
+unfoldable pub lookedTold : Looked → Told
+lookedTold (LookedEntry e) = tells (entryAnswer e)
+lookedTold LookedNoEnt = refuses NOENT
+lookedTold LookedInval = refuses INVAL
+lookedTold LookedSmall = toldSmall
+
+-- the root entry of any mount (R7, R108, R109)
 unfoldable pub rootAnswer : Instance → Mount → Answer
 rootAnswer i m = entry (orZero (convert (m .index) (m .root))) (m .mode) (twice i (m .uid)) (twice i (m .gid)) 0

@@ -4,7 +4,6 @@ use inode::Converted;
 use inode::NodeNumber;
 use inode::VfsInode;
 use pseudo_fs::Entry;
-use pseudo_fs::Looked;
 use pseudo_fs::PathFault;
 use pseudo_fs::inner::Finding;
 use pseudo_fs::inner::Walked;
@@ -29,8 +28,8 @@ ghost use Rattle.tables.specs.View.{view};
 ghost use Rattle.tables.specs.Rule.{laid};
 ghost use Rattle.tables.specs.Call.{toldBy, answeredBy};
 ghost use Rattle.tables.specs.Answer.{mountOfPoint};
-ghost use Rattle.pseudo_fs.specs.Told.{entryAnswer, lookedTold};
-ghost use Rattle.vfs_query.specs.Told.{routedTold, rootfsTold, remappedTold, rootAnswer};
+ghost use Rattle.pseudo_fs.specs.Told.{entryAnswer};
+ghost use Rattle.vfs_query.specs.Told.{routedTold, rootfsTold, remappedTold, lookedTold, rootAnswer};
 
 // Where a full number goes: to the tree, or to a backend.
 pub enum Routed {
@@ -44,7 +43,7 @@ pub enum Routed {
     Small,
 }
 
-// The backend that a path is the root of.
+// What a root query answers.
 pub enum Rootfs {
     Backend { tag: u32, fs_idx: u8 },
     Nothing,
@@ -56,6 +55,14 @@ pub enum Rootfs {
 // Ids after mapping.
 pub enum Remapped {
     Ids { uid: u32, gid: u32 },
+    Small,
+}
+
+// What a lookup answers.
+pub enum Looked {
+    Entry(Entry),
+    NoEnt,
+    Inval,
     Small,
 }
 

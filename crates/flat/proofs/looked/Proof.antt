@@ -1,5 +1,6 @@
 -- The numbers of each case of the answer. Assumes nothing.
-use Rattle.pseudo_fs.specs.Told.{lookedTold, entryAnswer}
+use Rattle.pseudo_fs.specs.Told.{entryAnswer}
+use Rattle.vfs_query.specs.Told.{lookedTold}
 use borrow.Author.Needs.{needs}
 use Rattle.flat.proofs.looked.Statement.{statement}
 use Rattle.flat.proofs.looked.Tie as tie

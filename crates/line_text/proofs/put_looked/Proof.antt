@@ -1,7 +1,8 @@
 -- `line_text::put_looked` meets its contract.
 use borrow.Author.Needs.{needs}
 use Rattle.rules.specs.Session.{values, shown}
-use Rattle.pseudo_fs.specs.Told.{entryAnswer, lookedTold}
+use Rattle.pseudo_fs.specs.Told.{entryAnswer}
+use Rattle.vfs_query.specs.Told.{lookedTold}
 use Rattle.line_text.specs.Texts.{valuesText}
 use Rattle.line_text.proofs.Writes.{looked}
 use Rattle.line_text.proofs.put_looked.Statement.{statement}

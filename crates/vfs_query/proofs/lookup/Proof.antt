@@ -5,8 +5,8 @@ use denote.Ref.{now}
 use Rattle.tables.specs.Rule.{laid}
 use Rattle.tables.specs.Answer.{mountIn}
 use Rattle.tables.proofs.Keeps.{laid-is}
-use Rattle.pseudo_fs.specs.Told.{lookedTold}
 use Rattle.storage.proofs.Laid.{laid-by}
+use Rattle.vfs_query.specs.Told.{lookedTold}
 use Rattle.vfs_query.proofs.Rules.{small}
 use Rattle.vfs_query.proofs.Looks.{cross-noent, cross-inval, cross-mounted, cross-bare}
 use borrow.Author.Needs.{needs}
