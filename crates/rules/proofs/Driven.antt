@@ -10,13 +10,13 @@ use lib.Bits.{bitAnd, and-le-r}
 use lib.ListN.{length, getD, replicate, length-replicate, getD-replicate, List·getD-eq-default}
 use lib.Dec.{ltb}
 use borrow.Author.Tests.{ltb-false, leb-true, eqb-true, not-false}
-use Rattle.rules.specs.Numbers.{topNumber, maxNodes, storageFor}
+use Rattle.rules.specs.Numbers.{topNumber, maxNodes, storageFor, DONE}
 use Rattle.rules.specs.Bytes.{Bytes}
 use Rattle.rules.specs.Ids.{badMapping}
 use Rattle.rules.specs.Tree.{Mount, Node, isNone}
 use Rattle.rules.specs.Instance.{Slot, Instance, emptySlot, heldIn}
 use Rattle.rules.specs.Outcome.{Outcome}
-use Rattle.rules.specs.Create.{Creation, Created, outside, unknown, badOptions, tooSmall, newInstance, createRule}
+use Rattle.rules.specs.Create.{Creation, outside, unknown, badOptions, tooSmall, newInstance, createRule}
 use Rattle.rules.specs.Saved.{stateOf, valid, accepted, goodNodes}
 use Rattle.rules.specs.Restore.{entriesFor, nodesFrom, noNodes, fresh, restoredTo, restoreRule}
 use Rattle.rules.specs.Calls.{Call, rule}
@@ -154,20 +154,17 @@ module _ (bytes : ℕ) (q : Creation) (mask : q .known < 2 ^ 64) (size : tooSmal
         held = λ k h. absurd (true≢false (sym h ∙ new-not-held k));
       }
 
-created-facts : (bytes : ℕ) (q : Creation) (i : Instance) → q .known < 2 ^ 64 → createRule bytes q .instance ≡ some i → Facts i
+created-facts : (bytes : ℕ) (q : Creation) → q .known < 2 ^ 64 → createRule bytes q ≡ DONE → Facts (newInstance q)
 unfolding createRule
-created-facts bytes q i m =
-    first-of (λ (o : Created). o .instance ≡ some i → Facts i) _ _ (
-      λ a e. never i e,
-      λ a. (λ b e. never i e, λ b. (λ c e. never i e, λ c e. let s : newInstance q ≡ i = cc in subst Facts s (new-facts bytes q m a b c))),
+created-facts bytes q m =
+    first-of (λ (code : ℕ). code ≡ DONE → Facts (newInstance q)) _ _ (
+      λ a e. absurd (omega arith),
+      λ a. (λ b e. absurd (omega arith), λ b. (λ c e. absurd (omega arith), λ c e. new-facts bytes q m a b c)),
     )
-  where
-    never : (j : Instance) → none ≡ some j → Facts j
-    never j e = let z : _≡_ {A = ℕ} 0 1 = cc in absurd (omega arith)
 
 -- the theorem
 pub facts : EveryDriven
-facts i (creation bytes q j m e) = created-facts bytes q i m e
+facts i (creation bytes q m e) = created-facts bytes q m e
 facts i (call j k c t d e) = subst Facts e (call-facts j c t (facts j d))
 
 -- the theorem: a path leads to what live nodes lead up from

@@ -16,7 +16,7 @@ use Rattle.rules.specs.Tree.{Mount, isNone, parentIn, childIn}
 use Rattle.rules.specs.Instance.{Instance, heldIn, tagOf, mountOf, counterOf}
 use Rattle.rules.specs.Round.{allocate}
 use Rattle.rules.specs.Outcome.{Outcome, _⇒_, firstOf, refused}
-use Rattle.rules.specs.Create.{Creation, Created, outside, unknown, badOptions, tooSmall, createRule}
+use Rattle.rules.specs.Create.{Creation, outside, unknown, badOptions, tooSmall, createRule}
 use Rattle.rules.specs.Mount.{Request, noRoom, allocation, mountAs, mountRule, restoreAs, restoreMountRule}
 use Rattle.rules.specs.Unmount.{badPath, reached, mountUnder, walkRule, unmounts, unmountAt, unmountRule, rootHeld, rootAt, rootRule}
 use Rattle.rules.specs.Lookup.{routeTag, routeTree, routeRule, entryOf, entryAt, lookupBy, lookupRule, remapRule}
@@ -202,9 +202,6 @@ settles i h (restore b) = restore-settles i b
 
 -- ---- creation
 
-abbrev createdCode : Created → ℕ
-createdCode o = o .code
-
 three : (code : ℕ) (a b c : Bool) (k : ℕ) (ts : List Test) → Settles code ((a || b || c ⟼ k) ∷ ts) → Settles code ((a ⟼ k) ∷ (b ⟼ k) ∷ (c ⟼ k) ∷ ts)
 three code a b c k ts s = settle-or code a b k ((c ⟼ k) ∷ ts) (settle-or code (a || b) c k ts s)
 
@@ -212,16 +209,16 @@ module _ (bytes : ℕ) (q : Creation) where
   abbrev n : ℕ
   n = q .capacity
 
-  create-settles : Settles (createRule bytes q .code) (createTests bytes q)
+  create-settles : Settles (createRule bytes q) (createTests bytes q)
   unfolding createRule tooSmall badOptions unknown badMapping
   create-settles =
       three _ (ltb n 1) (ltb maxNodes n) (ltb bytes (storageFor n)) SMALL _
-      (settle createdCode (ltb n 1 || ltb maxNodes n || ltb bytes (storageFor n)) _ _ _ _ _ refl
+      (settle (λ k. k) (ltb n 1 || ltb maxNodes n || ltb bytes (storageFor n)) _ _ _ _ _ refl
       (three _ (outside (q .known) (q .options .inOpts)) (outside (q .known) (q .options .outOpts)) (ltb 63 (q .options .flags)) BADOPT _
-      (settle createdCode (outside (q .known) (q .options .inOpts) || outside (q .known) (q .options .outOpts) || ltb 63 (q .options .flags)) _ _ _ _ _ refl
+      (settle (λ k. k) (outside (q .known) (q .options .inOpts) || outside (q .known) (q .options .outOpts) || ltb 63 (q .options .flags)) _ _ _ _ _ refl
       (settle-or _ (ltb 4294967295 (q .options .mapping .internal + q .options .mapping .range)) (ltb 4294967295 (q .options .mapping .external + q .options .mapping .range)) BADMAP _
-      (settle createdCode _ _ _ _ _ _ refl (settle-last createdCode _ [] (settled _ refl)))))))
+      (settle (λ k. k) _ _ _ _ _ _ refl (settle-last (λ k. k) _ [] (settled _ refl)))))))
 
 -- the theorem
 pub exactly : Exactly
-exactly = (λ i h c. decides (tests i c) (rule i c .code) (settles i h c), λ bytes q. decides (createTests bytes q) (createRule bytes q .code) (create-settles bytes q))
+exactly = (λ i h c. decides (tests i c) (rule i c .code) (settles i h c), λ bytes q. decides (createTests bytes q) (createRule bytes q) (create-settles bytes q))

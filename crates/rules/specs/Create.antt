@@ -2,10 +2,9 @@
 use Prim.Native.Nat.{ℕ}
 use mathlib.Core.Bool.{Bool, false, not, _||_}
 use mathlib.Core.List.{[], _∷_}
-use mathlib.Core.Option.{Option, none, some}
 use lib.Bits.{bitAnd}
 use lib.Dec.{eqb, ltb}
-use Rattle.rules.specs.Numbers.{maxNodes, storageFor, SMALL, BADOPT, BADMAP}
+use Rattle.rules.specs.Numbers.{maxNodes, storageFor, DONE, SMALL, BADOPT, BADMAP}
 use Rattle.rules.specs.Ids.{badMapping}
 use Rattle.rules.specs.Instance.{Options, Instance, newIndexes, newTree}
 use Rattle.rules.specs.Outcome.{_⇒_, firstOf}
@@ -43,21 +42,12 @@ newInstance q = record {
   tree = newTree;
 }
 
--- the refusal number or 0, and the instance where there is one
-pub record Created : Type 0 where
-  pub code : ℕ
-  pub instance : Option Instance
-
--- refused: nothing is made
-abbrev pub uncreated : ℕ → Created
-uncreated code = record { code = code; instance = none }
-
--- creation with so many bytes of storage: SMALL first, then BADOPT, BADMAP, or done (R19, R26)
-unfoldable pub createRule : ℕ → Creation → Created
+-- the number of a creation with so many bytes of storage: SMALL first, then BADOPT, BADMAP; DONE makes the new instance, a refusal makes nothing (R19, R26)
+unfoldable pub createRule : ℕ → Creation → ℕ
 createRule bytes q =
     firstOf
-    ((tooSmall bytes (q .capacity) ⇒ uncreated SMALL)
-    ∷ (badOptions (q .known) (q .options) ⇒ uncreated BADOPT)
-    ∷ (badMapping (q .options .mapping) ⇒ uncreated BADMAP)
+    ((tooSmall bytes (q .capacity) ⇒ SMALL)
+    ∷ (badOptions (q .known) (q .options) ⇒ BADOPT)
+    ∷ (badMapping (q .options .mapping) ⇒ BADMAP)
     ∷ [])
-    (record { code = 0; instance = some (newInstance q) })
+    DONE

@@ -6,12 +6,12 @@ use mathlib.Core.List.{List, [], _∷_}
 use mathlib.Core.Option.{Option, none, some}
 use mathlib.Core.Path.{_≡_}
 use lib.ListN.{length}
-use Rattle.rules.specs.Numbers.{rootNumber, topNumber, maxNodes}
+use Rattle.rules.specs.Numbers.{rootNumber, topNumber, maxNodes, DONE}
 use Rattle.rules.specs.Bytes.{Bytes}
 use Rattle.rules.specs.Ids.{badMapping}
 use Rattle.rules.specs.Tree.{Mount, Node, nodeIn, isKnown}
 use Rattle.rules.specs.Instance.{Tree, Instance, heldIn, live, counterOf}
-use Rattle.rules.specs.Create.{Creation, unknown, createRule}
+use Rattle.rules.specs.Create.{Creation, unknown, newInstance, createRule}
 use Rattle.rules.specs.Unmount.{reached}
 use Rattle.rules.specs.Saved.{Entry, used, goodName}
 use Rattle.rules.specs.Restore.{entriesFor}
@@ -24,7 +24,7 @@ Typed c = (b : List ℕ) → c ≡ restore b → Bytes b
 
 -- a done creation, whose mask is a number of 64 bits; then any calls
 pub data Driven : Instance → Type 0 where
-  creation : (bytes : ℕ) (q : Creation) (i : Instance) → q .known < 2 ^ 64 → createRule bytes q .instance ≡ some i → Driven i
+  creation : (bytes : ℕ) (q : Creation) → q .known < 2 ^ 64 → createRule bytes q ≡ DONE → Driven (newInstance q)
   call : (i j : Instance) (c : Call) → Typed c → Driven i → rule i c .after ≡ j → Driven j
 
 -- ---- the nodes, their mounts left aside

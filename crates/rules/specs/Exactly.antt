@@ -139,4 +139,4 @@ createTests bytes q =
 
 -- of every call on every instance, and of creation (R15, R18)
 abbrev pub Exactly : Type 0
-Exactly = ((i : Instance) → counterOf i < 256 → (c : Call) → Decides (rule i c .code) (tests i c)) × ((bytes : ℕ) (q : Creation) → Decides (createRule bytes q .code) (createTests bytes q))
+Exactly = ((i : Instance) → counterOf i < 256 → (c : Call) → Decides (rule i c .code) (tests i c)) × ((bytes : ℕ) (q : Creation) → Decides (createRule bytes q) (createTests bytes q))

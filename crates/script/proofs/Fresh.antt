@@ -10,7 +10,7 @@ use Rattle.script.specs.Runs.{WholeOf}
 use Rattle.script.specs.Fresh.{fresh, EverySession}
 use Rattle.script.proofs.Runs.{every-cutting}
 
-created : (bytes : ℕ) → bytes ≡ 40960 → createRule bytes fresh .code ≡ 0
+created : (bytes : ℕ) → bytes ≡ 40960 → createRule bytes fresh ≡ 0
 unfolding createRule firstOf tooSmall badOptions unknown outside badMapping
 created bytes e = rw e
 

@@ -1,5 +1,5 @@
 -- Creation: what its writes come to, and what the bytes then stand for. Assumes nothing.
-use mathlib.Core.Path.{_≡_, refl, sym, ap, _∙_}
+use mathlib.Core.Path.{_≡_, refl, sym, ap, _∙_, subst}
 use mathlib.Core.Bool.{true, false, _||_}
 use mathlib.Core.List.{List, [], _∷_}
 use Prim.Native.Nat.{ℕ, zero, suc, _+_, _-_, _^_, _≤_, _<_}
@@ -12,6 +12,7 @@ use Rattle.rules.specs.Numbers.{DONE, storageFor}
 use Rattle.rules.specs.Ids.{Mapping, badMapping}
 use Rattle.rules.specs.Instance.{Instance, emptySlot, heldBy}
 use Rattle.rules.specs.Create.{Creation, tooSmall, outside, unknown, newInstance, createRule}
+use Rattle.rules.specs.Driven.{Driven, creation}
 use Rattle.rules.proofs.Tests.{or-neither}
 use Rattle.id_map.specs.declared.IdMapping.{IdMapping}
 use Rattle.tables.specs.Table.{putRow, tab}
@@ -21,7 +22,7 @@ use Rattle.tables.specs.Rule.{laid}
 use Rattle.tables.specs.Write.{putHeader}
 use Rattle.storage.specs.Header.{spell, headerOf}
 use Rattle.storage.specs.Limits.{MappingFits, SlotsFit, Limits}
-use Rattle.storage.specs.Creation.{creationOf, emptySlots, createMem, Creates}
+use Rattle.storage.specs.Creation.{creationOf, emptySlots, createMem, Creates, CreatesDriven}
 use Rattle.storage.proofs.Header.{view-headed, laid-headed}
 use Rattle.storage.proofs.Refusals.{large-enough}
 use Rattle.storage.proofs.Slots.{length-slots, slots-empty}
@@ -111,7 +112,7 @@ module _ (q : Creation) (mem : List ℕ) where
 
   -- ---- the contract
 
-  pub refused : (code n : ℕ) → code ≡ suc n → createRule (length mem) q .code ≡ suc n → Creates mem q code mem
+  pub refused : (code n : ℕ) → code ≡ suc n → createRule (length mem) q ≡ suc n → Creates mem q code mem
   refused code n a e = record {
     answer = a ∙ sym e;
     bytes = rw (e, ne-eqb (suc n) DONE (λ z. omega arith));
@@ -121,7 +122,7 @@ module _ (q : Creation) (mem : List ℕ) where
     counter = λ z. absurd (omega arith);
   }
 
-  pub done : (after : List ℕ) → createRule (length mem) q .code ≡ DONE → after ≡ createMem q mem → Limits (newInstance q) → storageFor (q .capacity) ≤ length mem → Creates mem q DONE after
+  pub done : (after : List ℕ) → createRule (length mem) q ≡ DONE → after ≡ createMem q mem → Limits (newInstance q) → storageFor (q .capacity) ≤ length mem → Creates mem q DONE after
   unfolding newInstance
   done after e p l b =
       let v : view after ≡ newInstance q = ap view p ∙ view-created l b in
@@ -133,3 +134,7 @@ module _ (q : Creation) (mem : List ℕ) where
         slots = λ z k h. ap (λ (i : Instance). getD (i .indexes .slots) k (heldBy 0)) v ∙ getD-replicate 256 k emptySlot (heldBy 0) h;
         counter = λ z. ap (λ (i : Instance). i .indexes .counter) v;
       }
+
+-- the theorem: the bytes after are driven
+pub creates-driven : CreatesDriven
+creates-driven mem q after k c = subst Driven (sym (c .stands refl)) (creation (length mem) q k (sym (c .answer)))

@@ -44,24 +44,24 @@ module _ (known ins outs : ℕ) where
   by-out h = rw (eq-eqb (bitAnd ins known) ins h)
 
 module _ (bytes : ℕ) (q : Creation) where
-  pub code-small : tooSmall bytes (q .capacity) ≡ true → createRule bytes q .code ≡ SMALL
+  pub code-small : tooSmall bytes (q .capacity) ≡ true → createRule bytes q ≡ SMALL
   unfolding createRule firstOf
   code-small e = rw e
 
-  pub code-bits : tooSmall bytes (q .capacity) ≡ false → (outside (q .known) (q .options .inOpts) || outside (q .known) (q .options .outOpts)) ≡ true → createRule bytes q .code ≡ BADOPT
+  pub code-bits : tooSmall bytes (q .capacity) ≡ false → (outside (q .known) (q .options .inOpts) || outside (q .known) (q .options .outOpts)) ≡ true → createRule bytes q ≡ BADOPT
   unfolding createRule firstOf badOptions unknown
   code-bits e f = rw (e, f)
 
   pub code-flags : tooSmall bytes (q .capacity) ≡ false → (outside (q .known) (q .options .inOpts) || outside (q .known) (q .options .outOpts)) ≡ false → 64 ≤ q .options .flags
-      → createRule bytes q .code ≡ BADOPT
+      → createRule bytes q ≡ BADOPT
   unfolding createRule firstOf badOptions unknown
   code-flags e f g = rw (e, f, lt-ltb 63 (q .options .flags) (omega arith))
 
   module _ (e : tooSmall bytes (q .capacity) ≡ false) (f : (outside (q .known) (q .options .inOpts) || outside (q .known) (q .options .outOpts)) ≡ false) (g : q .options .flags < 64) where
-    pub code-map : badMapping (q .options .mapping) ≡ true → createRule bytes q .code ≡ BADMAP
+    pub code-map : badMapping (q .options .mapping) ≡ true → createRule bytes q ≡ BADMAP
     unfolding createRule firstOf badOptions unknown
     code-map h = rw (e, f, le-ltb 63 (q .options .flags) (omega arith), h)
 
-    pub code-done : badMapping (q .options .mapping) ≡ false → createRule bytes q .code ≡ DONE
+    pub code-done : badMapping (q .options .mapping) ≡ false → createRule bytes q ≡ DONE
     unfolding createRule firstOf badOptions unknown
     code-done h = rw (e, f, le-ltb 63 (q .options .flags) (omega arith), h)

@@ -1,5 +1,5 @@
 -- Creation: what it writes, its answer's number, and its contract.
-use Prim.Native.Nat.{ℕ, _<_}
+use Prim.Native.Nat.{ℕ, _^_, _<_}
 use mathlib.Core.Path.{_≡_}
 use mathlib.Core.Bool.{true, cond}
 use mathlib.Core.List.{List, [], _∷_, _++_}
@@ -9,6 +9,7 @@ use Rattle.le.specs.Mem.{write, bytesOf}
 use Rattle.rules.specs.Numbers.{DONE, SMALL, BADOPT, BADMAP}
 use Rattle.rules.specs.Instance.{heldBy, emptySlot, counterOf}
 use Rattle.rules.specs.Create.{Creation, newInstance, createRule}
+use Rattle.rules.specs.Driven.{Driven}
 use Rattle.id_map.specs.declared.IdMapping.{IdMapping}
 use Rattle.id_map.specs.Mapping.{mappingOf}
 use Rattle.tables.specs.Layout.{header}
@@ -46,9 +47,13 @@ createMem q mem = putHeader 0 (spell header (headerOf (newInstance q))) (emptySl
 -- the answer's number by the rule; the bytes exactly, as they were where it is refused; where it is done they keep the layout rule and stand for the new
 -- instance, whatever they held, and in particular each of the 256 slots is there and empty (past the end a held one would be read) and the counter is 1
 pub record Creates (mem : List ℕ) (q : Creation) (code : ℕ) (after : List ℕ) : Type 0 where
-  pub answer : code ≡ createRule (length mem) q .code
-  pub bytes : after ≡ cond (eqb (createRule (length mem) q .code) DONE) (createMem q mem) mem
+  pub answer : code ≡ createRule (length mem) q
+  pub bytes : after ≡ cond (eqb (createRule (length mem) q) DONE) (createMem q mem) mem
   pub keeps : code ≡ DONE → laid after ≡ true
   pub stands : code ≡ DONE → view after ≡ newInstance q
   pub slots : code ≡ DONE → (k : ℕ) → k < 256 → getD (view after .indexes .slots) k (heldBy 0) ≡ emptySlot
   pub counter : code ≡ DONE → counterOf (view after) ≡ 1
+
+-- the claim: after a done creation, whose mask is a number of 64 bits, the bytes stand for a driven instance
+abbrev pub CreatesDriven : Type 0
+CreatesDriven = (mem : List ℕ) (q : Creation) (after : List ℕ) → q .known < 2 ^ 64 → Creates mem q DONE after → Driven (view after)

@@ -10,6 +10,7 @@ use Rattle.rules.specs.Mount.{Request, mountRule, restoreMountRule}
 use Rattle.rules.specs.Unmount.{unmountRule}
 use Rattle.rules.specs.Restore.{restoreRule}
 use Rattle.rules.specs.Calls.{Call, mount, restore-mount, umount, restore, rule}
+use Rattle.rules.specs.Driven.{call as by-call}
 use Rattle.rules.specs.Laps.{total, lastFound, LapsBy, Laps}
 use Rattle.rules.specs.Trace.{Unrestored, stepsOf}
 use Rattle.rules.proofs.Trace.{laps}
@@ -17,7 +18,7 @@ use Rattle.tables.specs.View.{view}
 use Rattle.tables.specs.Rule.{laid}
 use Rattle.tables.specs.Call.{Told, answeredBy, Does}
 use Rattle.storage.proofs.Laid.{told-by}
-use Rattle.vfs.specs.Runs.{Step, Allowed, Run, callsOf, counts, EveryLapOfBytes}
+use Rattle.vfs.specs.Runs.{Step, Allowed, Run, callsOf, counts, EveryLapOfBytes, StaysDriven}
 use Rattle.vfs.proofs.MountWays.{counter-in}
 
 -- the counts that are told are those of the rules
@@ -41,6 +42,10 @@ laps-of-bytes s a l bytes k f ss r u last =
     laps (view (s .before)) (counter-in (s .before) bytes) (s .call) k f (callsOf ss) (subst (λ i. Unrestored i (callsOf ss)) e u) (subst (λ i. lastFound none (stepsOf i (callsOf ss)) ≡ some k) e last) in
     let y : Laps (stepsOf (view (s .after)) (callsOf ss)) = subst (λ i. Laps (stepsOf i (callsOf ss))) (sym e) z in
     subst (λ n. LapsBy n (stepsOf (view (s .after)) (callsOf ss))) (sym (same-total ss (s .after) (a .keeps l) r)) y
+
+-- driven bytes stay driven
+pub stays-driven : StaysDriven
+stays-driven s a t l d = by-call (view (s .before)) (view (s .after)) (s .call) t d (sym (a .stands l))
 
 -- ---- the steps of the calls
 

@@ -6,6 +6,7 @@ use mathlib.Core.Option.{none, some}
 use mathlib.Core.Path.{_≡_}
 use Rattle.rules.specs.Bytes.{Bytes}
 use Rattle.rules.specs.Calls.{Call, rule}
+use Rattle.rules.specs.Driven.{Typed, Driven}
 use Rattle.rules.specs.Laps.{lastFound, LapsBy}
 use Rattle.rules.specs.Trace.{Unrestored, stepsOf}
 use Rattle.tables.specs.View.{view}
@@ -45,3 +46,7 @@ abbrev pub EveryLapOfBytes : Type 0
 EveryLapOfBytes = (s : Step) → Allowed s → laid (s .before) ≡ true → Bytes (s .before) → (k : ℕ) → rule (view (s .before)) (s .call) .found ≡ some k
     → (ss : List Step) → Run (s .after) ss → Unrestored (view (s .after)) (callsOf ss) → lastFound none (stepsOf (view (s .after)) (callsOf ss)) ≡ some k
     → LapsBy (counts ss) (stepsOf (view (s .after)) (callsOf ss))
+
+-- a step that a contract allows, from bytes that keep the layout rule and are driven, leaves driven bytes
+abbrev pub StaysDriven : Type 0
+StaysDriven = (s : Step) → Allowed s → Typed (s .call) → laid (s .before) ≡ true → Driven (view (s .before)) → Driven (view (s .after))
