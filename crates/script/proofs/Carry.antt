@@ -1,12 +1,13 @@
--- The carry keeps its length; which arguments a feed accepts. Assumes nothing.
-use Prim.Native.Nat.{ℕ, _≤_, _<_}
+-- The carry keeps its length; which arguments a feed accepts, and that it accepts what a byte leaves. Assumes nothing.
+use Prim.Native.Nat.{ℕ, _+_, _≤_, _<_}
+use native.Mathlib.Omega.{arith}
 use mathlib.Core.Path.{_≡_, refl, sym, _∙_}
 use mathlib.Core.Bool.{Bool, true, false, cond, true≢false}
 use mathlib.Core.List.{List}
 use lib.ListN.{length, set, length-set}
 use lib.Dec.{eqb, leb, ltb}
-use borrow.Author.Tests.{leb-true, le-leb, lt-leb}
-use Rattle.script.specs.Step.{byteCarry}
+use borrow.Author.Tests.{leb-true, ltb-true, le-leb, lt-leb}
+use Rattle.script.specs.Step.{byteCarry, byteKept}
 use Rattle.script.specs.Feed.{accepts}
 
 length-by : (t u : Bool) (carry : List ℕ) (kept b : ℕ) → length (cond t carry (cond u (set carry kept b) carry)) ≡ length carry
@@ -17,6 +18,15 @@ length-by false false carry kept b = refl
 pub length-carry : (carry : List ℕ) (kept b : ℕ) → length (byteCarry carry kept b) ≡ length carry
 unfolding byteCarry
 length-carry carry kept b = length-by (eqb b 10) (ltb kept 8192) carry kept b
+
+kept-by : (t u : Bool) (kept : ℕ) → ltb kept 8192 ≡ u → cond t 0 (cond u (kept + 1) 8193) ≤ 8193
+kept-by true u kept e = omega arith
+kept-by false true kept e = omega (arith, ltb-true kept 8192 e)
+kept-by false false kept e = omega arith
+
+kept-most : (kept b : ℕ) → byteKept kept b ≤ 8193
+unfolding byteKept
+kept-most kept b = kept-by (eqb b 10) _ kept refl
 
 module _ (carry : List ℕ) (kept : ℕ) where
   pub accepts-true : 8192 ≤ length carry → kept ≤ 8193 → accepts carry kept ≡ true
@@ -38,3 +48,8 @@ module _ (carry : List ℕ) (kept : ℕ) where
 
   pub accepts-wide : accepts carry kept ≡ true → 8192 ≤ length carry
   accepts-wide a = wide-by _ refl a
+
+pub accepts-byte : (carry : List ℕ) (kept b : ℕ) → accepts carry kept ≡ true → accepts (byteCarry carry kept b) (byteKept kept b) ≡ true
+accepts-byte carry kept b a =
+    let w : 8192 ≤ length (byteCarry carry kept b) = omega (arith, length-carry carry kept b, accepts-wide carry kept a) in
+    accepts-true (byteCarry carry kept b) (byteKept kept b) w (kept-most kept b)

@@ -1,4 +1,4 @@
--- Every feed with room goes on. Assumes nothing.
+-- Every feed with room goes on, and the next one is accepted. Assumes nothing.
 use Prim.Native.Nat.{ℕ, suc, _+_, _-_, _≤_}
 use native.Mathlib.Omega.{arith}
 use mathlib.Core.Path.{_≡_, refl, ap}
@@ -10,7 +10,8 @@ use borrow.Author.Tests.{le-ltb}
 use Rattle.script.specs.Step.{Answers, byBytes}
 use Rattle.script.specs.Feed.{Going, start, step, fed, accepts, goes}
 use Rattle.script.specs.Runs.{usedIn, EveryFeed}
-use Rattle.script.proofs.Runs.{used-by}
+use Rattle.script.proofs.Carry.{accepts-byte}
+use Rattle.script.proofs.Runs.{used-by, kept-by}
 
 module _ (S : Type 0) (a : Answers S) (room : ℕ) where
   step-used : (b : ℕ) (g : Going S) → step S a b g .used ≡ g .used + 1
@@ -41,6 +42,22 @@ module _ (S : Type 0) (a : Answers S) (room : ℕ) where
       let n : step S a b g .used ≡ g .used + 1 = step-used b g in
       rw (le-ltb (room - length (g .text)) 64 k) (omega arith)
 
+module _ (S : Type 0) (a : Answers S) (room : ℕ) where
+  either-accepted : (t : Bool) (x y : Going S) → accepts (x .carry) (x .kept) ≡ true → accepts (y .carry) (y .kept) ≡ true → accepts (cond t x y .carry) (cond t x y .kept) ≡ true
+  either-accepted true x y p q = p
+  either-accepted false x y p q = q
+
+  -- what a byte leaves of what is accepted is accepted
+  step-accepted : (b : ℕ) (g : Going S) → accepts (g .carry) (g .kept) ≡ true → accepts (step S a b g .carry) (step S a b g .kept) ≡ true
+  unfolding step
+  step-accepted b g e = accepts-byte (g .carry) (g .kept) b e
+
+  fed-accepted : (bs : List ℕ) (g : Going S) → accepts (g .carry) (g .kept) ≡ true → accepts (fed S a room bs g .carry) (fed S a room bs g .kept) ≡ true
+  unfolding fed
+  fed-accepted [] g e = e
+  fed-accepted (b ∷ bs) g e =
+      either-accepted (ltb (room - length (g .text)) 64) g (fed S a room bs (step S a b g)) e (fed-accepted bs (step S a b g) (step-accepted b g e))
+
 module _ (mem carry : List ℕ) (kept : ℕ) (piece : List ℕ) (room : ℕ) where
   most-by : (t : Bool) → accepts carry kept ≡ t → goes (List ℕ) byBytes mem carry kept piece room .used ≤ length piece
   unfolding goes start
@@ -53,6 +70,10 @@ module _ (mem carry : List ℕ) (kept : ℕ) (piece : List ℕ) (room : ℕ) whe
   unfolding goes start
   least-by e h r = rw e (used-first (List ℕ) byBytes room piece (start (List ℕ) mem carry kept) h refl r)
 
+  again-by : accepts carry kept ≡ true → accepts (goes (List ℕ) byBytes mem carry kept piece room .carry) (goes (List ℕ) byBytes mem carry kept piece room .kept) ≡ true
+  unfolding goes start
+  again-by e = rw e (fed-accepted (List ℕ) byBytes room piece (start (List ℕ) mem carry kept) e)
+
 -- the theorem
 pub onward : EveryFeed
 onward mem carry kept piece out r after carried left f =
@@ -60,4 +81,5 @@ onward mem carry kept piece out r after carried left f =
     record {
       most = omega (arith, most-by mem carry kept piece (length out) _ refl);
       least = λ e h g. omega (arith, least-by mem carry kept piece (length out) e h g);
+      again = λ e. rw (f .begun, kept-by mem carry kept piece out r after carried left f _ refl) (again-by mem carry kept piece (length out) e);
     }

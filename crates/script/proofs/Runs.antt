@@ -46,7 +46,7 @@ module _ (mem carry : List ℕ) (kept : ℕ) (piece out : List ℕ) (r : Fed) (a
   wrote-by true e = ap wroteIn (f .answer) ∙ rw e
   wrote-by false e = ap wroteIn (f .answer) ∙ rw e
 
-  kept-by : (t : Bool) → accepts carry kept ≡ t → keptIn kept r ≡ G .kept
+  pub kept-by : (t : Bool) → accepts carry kept ≡ t → keptIn kept r ≡ G .kept
   unfolding keptIn goes went start
   kept-by true e = ap (keptIn kept) (f .answer) ∙ rw e
   kept-by false e = ap (keptIn kept) (f .answer) ∙ rw e

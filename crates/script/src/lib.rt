@@ -27,7 +27,7 @@ struct Next {
 }
 
 // Says of a begun line that it is over the limit already (R150).
-const OVER: usize = 8193;
+const OVER: usize = rules::MAX_LINE + 1;
 
 // The output must have as much left for one more line.
 const ROOM: usize = 64;

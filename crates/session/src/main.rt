@@ -35,8 +35,8 @@ fn feed_from(
     fed
 }
 
-// Feeds a whole piece, and answers how many bytes of a begun line are kept. That every feed uses a byte, and none more than there are, is a theorem of
-// `script`; the loop asks it again, so that it ends.
+// Feeds a whole piece, and answers how many bytes of a begun line are kept. That an accepted feed uses a byte, and none more than there are, and leaves what
+// the next one accepts, is a theorem of `script`; the loop asks it again, so that it ends.
 fn feed_all(
     storage: &mut [u8],
     carry: &mut [u8],
