@@ -13,6 +13,8 @@ import math
 import os
 import sys
 
+from crates_list import dependencies
+
 ROOT = os.path.dirname(os.path.dirname(os.path.abspath(__file__)))
 FONT = "font-family='Helvetica, Arial, sans-serif'"
 WIDTH, MARGIN = 900, 16
@@ -79,14 +81,9 @@ def lines_of(name):
     return out
 
 
-def dependencies():
+def own_dependencies():
     """The crates of the repository, each with those of the repository that it rests on."""
-    out = {}
-    with open(os.path.join(ROOT, "crates.txt"), encoding="utf-8") as f:
-        for line in f:
-            name, colon, deps = line.split("#")[0].partition(":")
-            if colon:
-                out[name.strip()] = deps.split()
+    out = dependencies()
     return {name: [d for d in deps if d in out] for name, deps in out.items()}
 
 
@@ -125,7 +122,7 @@ class Groups:
     """The groups of the text, from above, with what crates.txt says of their crates."""
 
     def __init__(self, told):
-        self.deps, self.told = dependencies(), told
+        self.deps, self.told = own_dependencies(), told
         self.said = {p[0]: (p[1].split(), p[2]) for p in told["crate"]}
         self.rows = [[row.split() for row in p[2:]] for p in told["group"]]
         self.of = {n: i for i, rows in enumerate(self.rows) for row in rows for n in row}
