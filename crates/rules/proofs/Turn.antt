@@ -1,23 +1,23 @@
 -- What one call does to the counter. Assumes nothing.
-use mathlib.Core.Path.{_≡_, refl, sym, ap, _∙_, subst}
+use mathlib.Core.Path.{_≡_, refl, sym, ap, _∙_}
 use mathlib.Core.Logic.{_⊎_, inl, inr}
 use mathlib.Core.List.{List}
-use mathlib.Core.Option.{Option, none, some, Option·some-injective, Option·none-ne-some}
+use mathlib.Core.Option.{Option, none, some, Option·none-ne-some}
 use Prim.Native.Nat.{ℕ, _+_, _%_, _<_}
 use native.Mathlib.Omega.{arith}
 use lib.ListN.{length}
 use lib.Seq.{getD-set-same}
 use borrow.Author.Tests.{le-ltb}
-use Rattle.rules.specs.Numbers.{maxIno, INVAL, INODE, FULL}
+use Rattle.rules.specs.Numbers.{maxIno}
 use Rattle.rules.specs.Round.{after, allocate}
 use Rattle.rules.specs.Tree.{Mount}
 use Rattle.rules.specs.Instance.{Instance, counterOf, emptySlot, heldBy, tagOf, mountOf}
-use Rattle.rules.specs.Outcome.{Answer, nothing, Outcome, refused, firstOf}
+use Rattle.rules.specs.Outcome.{Answer, Outcome, refused, firstOf}
 use Rattle.rules.specs.Mount.{Request, freed, placed, allocation, stepped, allocated, walkedTo, ended, mountAs, mountRule, restoreAs, restoreMountRule}
 use Rattle.rules.specs.Unmount.{unmounts, unmountAt, unmountRule, reached, mountUnder}
 use Rattle.rules.specs.Restore.{restoreRule}
 use Rattle.rules.specs.Calls.{Call, mount, rule}
-use Rattle.rules.specs.Trace.{NoRestore, Moves, Keeps, Allocates, EveryMount, OnlyMounts}
+use Rattle.rules.specs.Trace.{NoRestore, Moves, Keeps, Answers, EveryMount, OnlyMounts}
 use Rattle.rules.proofs.Rows.{each-of}
 use Rattle.rules.proofs.Still.{every-call}
 use Rattle.rules.proofs.Held.{freed-slots}
@@ -39,40 +39,46 @@ placed-counter k r x i = freed-counter (mountOf (i .tree) x) i
 moves : (i j : Instance) (r : Request) (code : ℕ) (a : Answer) → counterOf j ≡ counterOf (stepped i) → Moves i (mount r) (allocated i code a j) r
 moves i j r code a e = record { call = refl; visits = refl; found = refl; counter = e }
 
--- a refused one answers no index
-refused-allocates : (i j : Instance) (r : Request) (code : ℕ) → (code ≡ 0 → ⊥) → counterOf j ≡ counterOf (stepped i) → Allocates i r (allocated i code nothing j)
-refused-allocates i j r code h e = record { moves = moves i j r code nothing e; answered = λ z. absurd (h z); holds = λ z. absurd (h z) }
-
 placed-tag : (k : ℕ) (r : Request) (x : ℕ) (i : Instance) → k < length (i .indexes .slots) → tagOf (placed k r x i) k ≡ some (r .tag)
 unfolding placed
 placed-tag k r x i h =
     let j = freed (mountOf (i .tree) x) i in
     rw (getD-set-same (j .indexes .slots) k (heldBy (r .tag)) emptySlot (rw (freed-slots (mountOf (i .tree) x) i) h))
 
-mount-as : (i : Instance) (r : Request) (k : Option ℕ) → allocation i .found ≡ k → Allocates i r (mountAs i r k)
+mount-as : (i : Instance) (r : Request) (k : Option ℕ) → Moves i (mount r) (mountAs i r k) r
 unfolding mountAs
-mount-as i r none e = refused-allocates i (stepped i) r FULL (λ z. omega arith) refl
-mount-as i r (some k) e =
+mount-as i r none = moves i (stepped i) r _ _ refl
+mount-as i r (some k) =
     let j = walkedTo (r .path) (stepped i) in
-    let x = ended i (r .path) in
-    each-of (Allocates i r) _ _ (
-      refused-allocates i (stepped i) r INVAL (λ z. omega arith) refl,
+    each-of (λ (o : Outcome). Moves i (mount r) o r) _ _
+    (moves i (stepped i) r _ _ refl, (moves i j r _ _ refl, moves i _ r _ _ (placed-counter k r (ended i (r .path)) j)))
+
+-- a done one answers what its allocation found
+answers-as : (i : Instance) (r : Request) (k : Option ℕ) → allocation i .found ≡ k → mountAs i r k .code ≡ 0 → (j : ℕ) × Answers i r (mountAs i r k) j
+unfolding mountAs
+answers-as i r none e = λ z. absurd (omega arith)
+answers-as i r (some k) e =
+    each-of (λ (o : Outcome). o .code ≡ 0 → (j : ℕ) × Answers i r o j) _ _ (
+      λ z. absurd (omega arith),
       (
-        refused-allocates i j r INODE (λ z. omega arith) refl,
-        record {
-          moves = moves i _ r _ _ (placed-counter k r x j);
-          answered = λ z. (k, _, e, refl);
-          holds = λ z q f h.
-              let s : k ≡ q = Option·some-injective k q (sym e ∙ f) in
-              subst (λ n. tagOf (placed k r x j) n ≡ some (r .tag)) s (placed-tag k r x j (rw s h));
-        },
+        λ z. absurd (omega arith),
+        λ z. (k, record { found = e; told = (_, refl); holds = placed-tag k r (ended i (r .path)) (walkedTo (r .path) (stepped i)) }),
       ),
     )
+
+answers-done : (i : Instance) (r : Request) → mountRule i r .code ≡ 0 → (k : ℕ) × Answers i r (mountRule i r) k
+unfolding mountRule
+answers-done i r =
+    each-of (λ (o : Outcome). o .code ≡ 0 → (k : ℕ) × Answers i r o k) _ _
+    (λ z. absurd (omega arith), (λ z. absurd (omega arith), (λ z. absurd (omega arith), (λ z. absurd (omega arith), answers-as i r (allocation i .found) refl))))
 
 -- the theorem: a mount that rows 1 to 4 let pass makes its allocation, and what it finds is what is answered
 pub mounts-allocate : EveryMount
 unfolding mountRule firstOf
-mounts-allocate i r l u m n = rw (l, u, le-ltb maxIno (r .largest) m, n) (mount-as i r (allocation i .found) refl)
+mounts-allocate i r = record {
+  moves = λ l u m n. rw (l, u, le-ltb maxIno (r .largest) m, n) (mount-as i r (allocation i .found));
+  answers = answers-done i r;
+}
 
 abbrev Turns : Instance → Call → Outcome → Type 0
 Turns i c o = NoRestore c o → Keeps i o ⊎ ((r : Request) × Moves i c o r)
@@ -81,7 +87,7 @@ mount-turns : (i : Instance) (r : Request) → Turns i (mount r) (mountRule i r)
 unfolding mountRule
 mount-turns i r un =
     each-of (λ (o : Outcome). Keeps i o ⊎ ((q : Request) × Moves i (mount r) o q)) _ _
-    (inl (keeps-refused i _), (inl (keeps-refused i _), (inl (keeps-refused i _), (inl (keeps-refused i _), inr (r, mount-as i r (allocation i .found) refl .moves)))))
+    (inl (keeps-refused i _), (inl (keeps-refused i _), (inl (keeps-refused i _), (inl (keeps-refused i _), inr (r, mount-as i r (allocation i .found))))))
 
 -- ---- the others
 

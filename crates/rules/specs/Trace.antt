@@ -52,16 +52,20 @@ pub record Keeps (i : Instance) (o : Outcome) : Type 0 where
   pub found : o .found ≡ none
   pub counter : counterOf (o .after) ≡ counterOf i
 
--- the mount made its allocation; done, the index found is the one answered, and its slot holds the request's tag (R75, R76, R82, R83, R85)
-pub record Allocates (i : Instance) (r : Request) (o : Outcome) : Type 0 where
-  pub moves : Moves i (mount r) o r
-  pub answered : o .code ≡ 0 → (k : ℕ) × (t : Option ℕ) × (o .found ≡ some k) × (o .answer ≡ mounted k t)
-  pub holds : o .code ≡ 0 → (k : ℕ) → o .found ≡ some k → k < length (i .indexes .slots) → tagOf (o .after) k ≡ some (r .tag)
+-- what a done mount answers is the index k that its allocation found, and the slot of k holds the request's tag (R75, R76, R85)
+pub record Answers (i : Instance) (r : Request) (o : Outcome) (k : ℕ) : Type 0 where
+  pub found : o .found ≡ some k
+  pub told : (t : Option ℕ) × (o .answer ≡ mounted k t)
+  pub holds : k < length (i .indexes .slots) → tagOf (o .after) k ≡ some (r .tag)
 
--- every mount that rows 1 to 4 let pass (R68 to R71)
+-- of every mount: if rows 1 to 4 let it pass it makes its allocation, and if it is done it answers by that (R68 to R75, R82, R83)
+pub record Allocates (i : Instance) (r : Request) (o : Outcome) : Type 0 where
+  pub moves : tooLong (r .path) ≡ false → wellFormed (r .path) ≡ true → r .largest ≤ maxIno → (rooted (r .path) && noRoom i (r .path)) ≡ false
+      → Moves i (mount r) o r
+  pub answers : o .code ≡ 0 → (k : ℕ) × Answers i r o k
+
 abbrev pub EveryMount : Type 0
-EveryMount = (i : Instance) (r : Request) → tooLong (r .path) ≡ false → wellFormed (r .path) ≡ true → r .largest ≤ maxIno
-    → (rooted (r .path) && noRoom i (r .path)) ≡ false → Allocates i r (mountRule i r)
+EveryMount = (i : Instance) (r : Request) → Allocates i r (mountRule i r)
 
 -- no call but an allocation, and a done state restore, moves the counter or visits an index (R89)
 abbrev pub OnlyMounts : Type 0

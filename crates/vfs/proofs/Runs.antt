@@ -13,12 +13,13 @@ use Rattle.rules.specs.Calls.{Call, mount, restore-mount, umount, restore, rule
 use Rattle.rules.specs.Driven.{call as by-call}
 use Rattle.rules.specs.Laps.{total, lastFound, LapsBy, Laps}
 use Rattle.rules.specs.Trace.{Unrestored, stepsOf}
+use Rattle.rules.proofs.Turn.{mounts-allocate}
 use Rattle.rules.proofs.Trace.{laps}
 use Rattle.tables.specs.View.{view}
 use Rattle.tables.specs.Rule.{laid}
-use Rattle.tables.specs.Call.{Told, answeredBy, Does}
+use Rattle.tables.specs.Call.{Told, toldBy, answeredBy, Does}
 use Rattle.storage.proofs.Laid.{told-by}
-use Rattle.vfs.specs.Runs.{Step, Allowed, Run, callsOf, counts, EveryLapOfBytes, StaysDriven}
+use Rattle.vfs.specs.Runs.{Step, Allowed, Run, callsOf, counts, EveryLapOfBytes, EveryMountOfBytes, StaysDriven}
 use Rattle.vfs.proofs.MountWays.{counter-in}
 
 -- the counts that are told are those of the rules
@@ -42,6 +43,16 @@ laps-of-bytes s a l bytes k f ss r u last =
     laps (view (s .before)) (counter-in (s .before) bytes) (s .call) k f (callsOf ss) (subst (λ i. Unrestored i (callsOf ss)) e u) (subst (λ i. lastFound none (stepsOf i (callsOf ss)) ≡ some k) e last) in
     let y : Laps (stepsOf (view (s .after)) (callsOf ss)) = subst (λ i. Laps (stepsOf i (callsOf ss))) (sym e) z in
     subst (λ n. LapsBy n (stepsOf (view (s .after)) (callsOf ss))) (sym (same-total ss (s .after) (a .keeps l) r)) y
+
+-- what a done mount tells
+pub mounts-of-bytes : EveryMountOfBytes
+unfolding rule
+mounts-of-bytes s a l r e z =
+    let f : Instance → Outcome = λ (i : Instance). rule i (s .call) in
+    let t : s .told ≡ toldBy (f (view (s .before))) = a .answer ∙ told-by (s .before) f l in
+    let o : f (view (s .before)) ≡ mountRule (view (s .before)) r = ap (rule (view (s .before))) e in
+    let m = mounts-allocate (view (s .before)) r .answers (sym (λ i. o i .code) ∙ (sym (λ i. t i .code) ∙ z)) in
+    (m .0, m .1 .told .0, (λ i. t i .answer) ∙ ((λ i. o i .answer) ∙ m .1 .told .1), (λ i. o i .found) ∙ m .1 .found)
 
 -- driven bytes stay driven
 pub stays-driven : StaysDriven

@@ -2,10 +2,12 @@
 use Prim.Native.Nat.{ℕ, _+_}
 use mathlib.Core.Bool.{true}
 use mathlib.Core.List.{List, [], _∷_}
-use mathlib.Core.Option.{none, some}
+use mathlib.Core.Option.{Option, none, some}
 use mathlib.Core.Path.{_≡_}
 use Rattle.rules.specs.Bytes.{Bytes}
-use Rattle.rules.specs.Calls.{Call, rule}
+use Rattle.rules.specs.Outcome.{mounted}
+use Rattle.rules.specs.Mount.{Request}
+use Rattle.rules.specs.Calls.{Call, mount, rule}
 use Rattle.rules.specs.Driven.{Typed, Driven}
 use Rattle.rules.specs.Laps.{lastFound, LapsBy}
 use Rattle.rules.specs.Trace.{Unrestored, stepsOf}
@@ -46,6 +48,11 @@ abbrev pub EveryLapOfBytes : Type 0
 EveryLapOfBytes = (s : Step) → Allowed s → laid (s .before) ≡ true → Bytes (s .before) → (k : ℕ) → rule (view (s .before)) (s .call) .found ≡ some k
     → (ss : List Step) → Run (s .after) ss → Unrestored (view (s .after)) (callsOf ss) → lastFound none (stepsOf (view (s .after)) (callsOf ss)) ≡ some k
     → LapsBy (counts ss) (stepsOf (view (s .after)) (callsOf ss))
+
+-- the index that a done mount tells is the one handed out (R75, R85)
+abbrev pub EveryMountOfBytes : Type 0
+EveryMountOfBytes = (s : Step) → Allowed s → laid (s .before) ≡ true → (r : Request) → s .call ≡ mount r → s .told .code ≡ 0
+    → (k : ℕ) × (t : Option ℕ) × (s .told .answer ≡ mounted k t) × (rule (view (s .before)) (s .call) .found ≡ some k)
 
 -- a step that a contract allows, from bytes that keep the layout rule and are driven, leaves driven bytes
 abbrev pub StaysDriven : Type 0
