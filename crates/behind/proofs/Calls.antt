@@ -4,16 +4,14 @@ use mathlib.Core.Bool.{Bool, true, false, cond}
 use mathlib.Core.List.{List, [], _∷_, _++_}
 use mathlib.Core.Option.{Option, none, some}
 use Prim.Native.Nat.{ℕ, _<_}
-use native.Mathlib.Nat.{mod-lt}
 use native.Mathlib.Omega.{arith}
-use lib.Dec.{ltb, lit<}
+use lib.Dec.{ltb}
 use Rattle.le.specs.Mem.{bytesOf}
 use Rattle.rules.specs.Bytes.{Bytes}
 use Rattle.rules.specs.Numbers.{maxIno}
 use Rattle.rules.specs.Path.{rooted, tooLong}
 use Rattle.rules.specs.Tree.{Mount}
-use Rattle.rules.specs.Instance.{Instance, heldIn, counterOf, mountOf, withCounter}
-use Rattle.rules.specs.Round.{allocate}
+use Rattle.rules.specs.Instance.{Instance, heldIn, counterOf, mountOf}
 use Rattle.rules.specs.Mount.{Request, planned, noRoom, ended, mountOn, allocation}
 use Rattle.rules.specs.Unmount.{badPath, reached, mountUnder}
 use Rattle.rules.proofs.Fields.{length-bytesOf}
@@ -23,18 +21,17 @@ use Rattle.tables.specs.Layout.{nextOf}
 use Rattle.tables.specs.View.{view}
 use Rattle.tables.specs.Rule.{laid}
 use Rattle.tables.specs.Write.{setCounter, setRemoval}
-use Rattle.tables.proofs.Refine.{view-counter}
-use Rattle.tables.proofs.Keeps.{laid-is, laid-long, keeps-counter}
+use Rattle.tables.proofs.Keeps.{laid-is, laid-long}
 use Rattle.placing.specs.Place.{InSlots, placeMem}
 use Rattle.plan.specs.Apply.{appendAll}
 use Rattle.plan.proofs.Spare.{room-left}
 use Rattle.plan.proofs.Fresh.{Fresh, planned-fresh}
 use Rattle.plan.proofs.Walked.{view-walked, keeps-walked}
-use Rattle.vfs.specs.Mounting.{allocMem, finishMem, walkMem, plannedMem, foundMem, rootedMem, early, mountMem}
+use Rattle.vfs.specs.Mounting.{allocMem, endMem, walkMem, plannedMem, foundMem, rootedMem, early, mountMem}
 use Rattle.vfs.specs.Restoring.{restoredMem, stopped, restoreMem}
 use Rattle.vfs.specs.Unmounting.{offMem, unmountMem}
-use Rattle.vfs.proofs.MountWays.{counter-in}
-use Rattle.behind.specs.Behind.{Leaves}
+use Rattle.vfs.proofs.MountWays.{counter-in, alloc-view, alloc-keeps}
+use Rattle.behind.specs.Behind.{LeavesRest}
 use Rattle.behind.proofs.Front.{header-front, view-front, laid-front}
 use Rattle.behind.proofs.Few.{TreeIn, view-in, grown-in, mount-in}
 use Rattle.behind.proofs.Placing.{place-front, take-off-front, grown-front}
@@ -42,24 +39,24 @@ use Rattle.behind.proofs.Placing.{place-front, take-off-front, grown-fr
 module _ (rest : List ℕ) where
   -- ---- the header
 
-  pub removal-front : (mem : List ℕ) → laid mem ≡ true → Leaves setRemoval mem rest
+  pub removal-front : (mem : List ℕ) → laid mem ≡ true → LeavesRest setRemoval mem rest
   unfolding setRemoval
   removal-front mem e = header-front rest mem (laid-long mem e) 15 (bytesOf 1 1 ∷ []) (omega (arith, length-bytesOf 1 1))
 
-  counter-front : (mem : List ℕ) → laid mem ≡ true → (c : ℕ) → Leaves (setCounter c) mem rest
+  counter-front : (mem : List ℕ) → laid mem ≡ true → (c : ℕ) → LeavesRest (setCounter c) mem rest
   unfolding setCounter
   counter-front mem e c = header-front rest mem (laid-long mem e) 14 (bytesOf 1 c ∷ []) (omega (arith, length-bytesOf 1 c))
 
   -- ---- mount and restored mount
 
   module _ (mem : List ℕ) (e : laid mem ≡ true) where
-    alloc-front : Leaves allocMem mem rest
+    alloc-front : LeavesRest allocMem mem rest
     unfolding allocMem
     alloc-front = ap (λ (i : Instance). setCounter (allocation i .counter) (mem ++ rest)) (view-front rest mem (laid-is mem e)) ∙ counter-front mem e (allocation (view mem) .counter)
 
     -- rows 7 and 8
-    finish-front : (k : ℕ) (r : Request) (x : ℕ) → k < 256 → InSlots (mountOf (view mem .tree) x) → Leaves (finishMem k r x) mem rest
-    unfolding finishMem
+    finish-front : (k : ℕ) (r : Request) (x : ℕ) → k < 256 → InSlots (mountOf (view mem .tree) x) → LeavesRest (endMem k r x) mem rest
+    unfolding endMem
     finish-front k r x h old = go (ltb maxIno (r .root))
       where
         go : (b : Bool) → cond b (mem ++ rest) (placeMem (mountOn k r) (r .tag) x (mem ++ rest)) ≡ cond b mem (placeMem (mountOn k r) (r .tag) x mem) ++ rest
@@ -68,7 +65,7 @@ module _ (rest : List ℕ) where
 
   module _ (mem : List ℕ) (e : laid mem ≡ true) where
     -- the walk, then rows 7 and 8
-    planned-front : (k : ℕ) (r : Request) → k < 256 → TreeIn (view mem .tree) → tooLong (r .path) ≡ false → noRoom (view mem) (r .path) ≡ false → Leaves (plannedMem k r) mem rest
+    planned-front : (k : ℕ) (r : Request) → k < 256 → TreeIn (view mem .tree) → tooLong (r .path) ≡ false → noRoom (view mem) (r .path) ≡ false → LeavesRest (plannedMem k r) mem rest
     unfolding plannedMem walkMem
     planned-front k r h t s n =
         let p : List ℕ = r .path in
@@ -78,43 +75,31 @@ module _ (rest : List ℕ) where
         let m′ = appendAll ns mem in
         let k′ : laid m′ ≡ true = keeps-walked mem p e s n in
         let t′ : TreeIn (view m′ .tree) = subst (λ (i : Instance). TreeIn (i .tree)) (sym (view-walked mem p e s n)) (grown-in (nextOf mem) ns (view mem .tree) f t) in
-        ap (λ (i : Instance). finishMem k r (ended i p) (appendAll (planned (i .tree) p .nodes) (mem ++ rest))) (view-front rest mem (laid-is mem e))
-        ∙ ap (finishMem k r (ended (view mem) p)) (grown-front rest ns mem e f (left .0) (left .1))
+        ap (λ (i : Instance). endMem k r (ended i p) (appendAll (planned (i .tree) p .nodes) (mem ++ rest))) (view-front rest mem (laid-is mem e))
+        ∙ ap (endMem k r (ended (view mem) p)) (grown-front rest ns mem e f (left .0) (left .1))
         ∙ finish-front m′ k′ k r (ended (view mem) p) h (mount-in (view m′ .tree) (ended (view mem) p) t′)
 
   module _ (mem : List ℕ) (e : laid mem ≡ true) (b : Bytes mem) (r : Request) (s : tooLong (r .path) ≡ false) where
     abbrev i : Instance
     i = view mem
 
-    counter-low : allocation i .counter < 256
-    unfolding allocation allocate
-    counter-low = mod-lt _ (lit< tt)
-
     index-low : (k : ℕ) → allocation i .found ≡ some k → k < 256
     unfolding allocation
     index-low k f = let a = exact (heldIn i) (counterOf i) (counter-in mem b) .handed-out k .0 f .1 .most in omega arith
 
-    moved : view (allocMem mem) ≡ withCounter (allocation i .counter) i
-    unfolding allocMem
-    moved = view-counter (allocation i .counter) mem counter-low (omega (arith, laid-long mem e))
-
-    keeps-alloc : laid (allocMem mem) ≡ true
-    unfolding allocMem
-    keeps-alloc = keeps-counter mem e (allocation i .counter)
-
     same-room : noRoom (view (allocMem mem)) (r .path) ≡ noRoom i (r .path)
     unfolding noRoom
-    same-room = rw moved
+    same-room = rw (alloc-view mem e)
 
     -- row 5, or the rest with the index found
-    found-front : noRoom i (r .path) ≡ false → (o : Option ℕ) → allocation i .found ≡ o → Leaves (foundMem o r) mem rest
+    found-front : noRoom i (r .path) ≡ false → (o : Option ℕ) → allocation i .found ≡ o → LeavesRest (foundMem o r) mem rest
     unfolding foundMem
     found-front n none f = alloc-front mem e
     found-front n (some k) f =
         ap (plannedMem k r) (alloc-front mem e)
-        ∙ planned-front (allocMem mem) keeps-alloc k r (index-low k f) (subst (λ (j : Instance). TreeIn (j .tree)) (sym moved) (view-in mem b)) s (same-room ∙ n)
+        ∙ planned-front (allocMem mem) (alloc-keeps mem e) k r (index-low k f) (subst (λ (j : Instance). TreeIn (j .tree)) (sym (alloc-view mem e)) (view-in mem b)) s (same-room ∙ n)
 
-    rooted-front : Leaves (rootedMem r) mem rest
+    rooted-front : LeavesRest (rootedMem r) mem rest
     unfolding rootedMem
     rooted-front =
         ap (λ (j : Instance). cond (noRoom j (r .path)) (mem ++ rest) (foundMem (allocation j .found) r (mem ++ rest))) (view-front rest mem (laid-is mem e))
@@ -124,7 +109,7 @@ module _ (rest : List ℕ) where
         go true n = refl
         go false n = found-front n (allocation i .found) refl
 
-    restored-front : (k : ℕ) → k < 256 → Leaves (restoredMem k r) mem rest
+    restored-front : (k : ℕ) → k < 256 → LeavesRest (restoredMem k r) mem rest
     unfolding restoredMem
     restored-front k h =
         ap (λ (j : Instance). cond (noRoom j (r .path)) (mem ++ rest) (plannedMem k r (mem ++ rest))) (view-front rest mem (laid-is mem e))
@@ -135,7 +120,7 @@ module _ (rest : List ℕ) where
         go false n = planned-front mem e k r h (view-in mem b) s n
 
   module _ (mem : List ℕ) (e : laid mem ≡ true) (b : Bytes mem) where
-    pub mount-front : (r : Request) → Leaves (mountMem r) mem rest
+    pub mount-front : (r : Request) → LeavesRest (mountMem r) mem rest
     unfolding mountMem early
     mount-front r = rw (laid-front rest mem e, e) (go (early r) refl (rooted (r .path)))
       where
@@ -145,7 +130,7 @@ module _ (rest : List ℕ) where
         go false q true = rooted-front mem e b r (or-neither _ _ (or-neither _ _ q .0) .0)
         go false q false = alloc-front mem e
 
-    pub restore-front : (k : ℕ) (r : Request) → k < 256 → Leaves (restoreMem k r) mem rest
+    pub restore-front : (k : ℕ) (r : Request) → k < 256 → LeavesRest (restoreMem k r) mem rest
     unfolding restoreMem stopped
     restore-front k r h = rw (laid-front rest mem e, e) (go (stopped k r) refl)
       where
@@ -153,7 +138,7 @@ module _ (rest : List ℕ) where
         go true q = refl
         go false q = restored-front mem e b r (or-neither _ _ (or-neither _ _ (or-neither _ _ (or-neither _ _ q .0) .0) .0) .0) k h
 
-    pub unmount-front : (path : List ℕ) → Leaves (unmountMem path) mem rest
+    pub unmount-front : (path : List ℕ) → LeavesRest (unmountMem path) mem rest
     unfolding unmountMem offMem
     unmount-front path =
         rw (laid-front rest mem e, e)

@@ -24,7 +24,7 @@ use Rattle.tables.proofs.Table.{cell-end, length-putRow, length-closeUp, row-lo
 use Rattle.tables.proofs.Spells.{cells-fit, mount-fit}
 use Rattle.tables.proofs.Heads.{two-fields, one-fit, fields-fit}
 use Rattle.tables.proofs.Keeps.{laid-is, is-ruled, laid-ruled}
-use Rattle.behind.specs.Behind.{Leaves}
+use Rattle.behind.specs.Behind.{LeavesRest}
 
 -- other bytes with the same header keep the layout rule, where they are enough
 same-head : (mem m′ : List ℕ) → laid mem ≡ true → headOf m′ ≡ headOf mem → 512 * capacityOf mem + 8192 ≤ length m′ → laid m′ ≡ true
@@ -81,11 +81,11 @@ module _ (rest : List ℕ) where
   -- ---- the instance
 
   module _ (mem : List ℕ) (long : 8192 ≤ length mem) where
-    pub header-front : (k : ℕ) (xs : List (List ℕ)) → Fit header (fromPlace k xs) → Leaves (putHeader k xs) mem rest
+    pub header-front : (k : ℕ) (xs : List (List ℕ)) → Fit header (fromPlace k xs) → LeavesRest (putHeader k xs) mem rest
     unfolding putHeader
     header-front k xs f = put-front 1 header (fromPlace k xs) mem 0 (omega arith) (omega arith) f
 
-    pub slot-front : (k : ℕ) (held : Bool) (tag : ℕ) → k < 256 → Leaves (setSlot k held tag) mem rest
+    pub slot-front : (k : ℕ) (held : Bool) (tag : ℕ) → k < 256 → LeavesRest (setSlot k held tag) mem rest
     unfolding setSlot
     slot-front k held tag h =
         put-front 256 slotTable (bytesOf 1 (heldByte held) ∷ bytesOf 4 tag ∷ []) mem k h (omega arith) (omega (arith, length-bytesOf 1 (heldByte held), length-bytesOf 4 tag))
@@ -134,13 +134,13 @@ module _ (rest : List ℕ) where
         (λ t. nodesFrom (field 1 (h t)) (mem ++ rest) 0 (field 2 (h t))) ∙ nodes-front in
         λ t. instanceFrom (h t) (slots-front mem long t) (nodes t)
 
-    pub row-mount-front : (m : Option Mount) (i : ℕ) → i < c → Leaves (setRowMount m i) mem rest
+    pub row-mount-front : (m : Option Mount) (i : ℕ) → i < c → LeavesRest (setRowMount m i) mem rest
     unfolding setRowMount
     row-mount-front m i h =
         ap (λ (k : ℕ). putRow (nodeTable k) (rowMountCells m) (mem ++ rest) i) capacity-front
         ∙ put-front n (nodeTable n) (rowMountCells m) mem i (omega (arith, d .live)) beneath (mount-fit m n)
 
-    pub append-front : (above : ℕ) (p : List ℕ) → length p ≤ 255 → Leaves (appendNode above p) mem rest
+    pub append-front : (above : ℕ) (p : List ℕ) → length p ≤ 255 → LeavesRest (appendNode above p) mem rest
     unfolding appendNode
     append-front above p l =
         let x : ℕ = nextOf mem in
@@ -153,7 +153,7 @@ module _ (rest : List ℕ) where
         ∙ header-front m′ (omega (arith, d .long)) 2 (bytesOf 8 (c + 1) ∷ bytesOf 8 (x + 1) ∷ []) (fields-fit (c + 1) (x + 1))
         ∙ ap (λ (m : List ℕ). m ++ rest) (sym (two-fields (c + 1) (x + 1) m′))
 
-    pub remove-front : (i : ℕ) → i < c → Leaves (removeRow i) mem rest
+    pub remove-front : (i : ℕ) → i < c → LeavesRest (removeRow i) mem rest
     unfolding removeRow setCount
     remove-front i h =
         let m′ = closeUp (nodeTable n) mem i (c - 1 - i) in

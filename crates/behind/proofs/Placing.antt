@@ -23,7 +23,7 @@ use Rattle.placing.proofs.Stands.{keeps-freed, keeps-out}
 use Rattle.plan.specs.Apply.{appendAll}
 use Rattle.plan.proofs.Fresh.{Fresh}
 use Rattle.plan.proofs.Grows.{append-capacity, append-count, append-next}
-use Rattle.behind.specs.Behind.{Leaves}
+use Rattle.behind.specs.Behind.{LeavesRest}
 use Rattle.behind.proofs.Front.{header-front, slot-front, view-front, row-mount-front, append-front, remove-front}
 
 module _ (rest : List ℕ) where
@@ -35,7 +35,7 @@ module _ (rest : List ℕ) where
     unfolding view
     nodes-front = ap (λ (i : Instance). i .tree .nodes) (view-front rest mem d)
 
-    mount-front : (m : Option Mount) (x : ℕ) → Leaves (λ (s : List ℕ). mountMem (nodesOf s) m x s) mem rest
+    mount-front : (m : Option Mount) (x : ℕ) → LeavesRest (λ (s : List ℕ). mountMem (nodesOf s) m x s) mem rest
     unfolding mountMem setRootMount
     mount-front m x = ap (λ (ns : List Node). mountMem ns m x (mem ++ rest)) nodes-front ∙ go (eqb x rootNumber) (placeIn (nodesOf mem) x) refl
       where
@@ -45,7 +45,7 @@ module _ (rest : List ℕ) where
         go false none q = refl
         go false (some i) q = row-mount-front rest mem d m i (row-below mem x i q)
 
-    gone-front : (x : ℕ) → Leaves (λ (s : List ℕ). removeMem (nodesOf s) x s) mem rest
+    gone-front : (x : ℕ) → LeavesRest (λ (s : List ℕ). removeMem (nodesOf s) x s) mem rest
     unfolding removeMem
     gone-front x = ap (λ (ns : List Node). removeMem ns x (mem ++ rest)) nodes-front ∙ go (placeIn (nodesOf mem) x) refl
       where
@@ -53,12 +53,12 @@ module _ (rest : List ℕ) where
         go none q = refl
         go (some i) q = remove-front rest mem d i (row-below mem x i q)
 
-    freed-front : (m : Option Mount) → InSlots m → Leaves (freedMem m) mem rest
+    freed-front : (m : Option Mount) → InSlots m → LeavesRest (freedMem m) mem rest
     unfolding freedMem
     freed-front none h = refl
     freed-front (some m) h = slot-front rest mem (laid-long mem e) (m .index) false 0 h
 
-    out-front : (x : ℕ) → Leaves (outMem x) mem rest
+    out-front : (x : ℕ) → LeavesRest (outMem x) mem rest
     unfolding outMem view
     out-front x =
         ap (λ (i : Instance). cond (i .removal && not (eqb x rootNumber)) (removeMem (nodesOf (mem ++ rest)) x (mem ++ rest)) (mem ++ rest)) (view-front rest mem d)
@@ -69,7 +69,7 @@ module _ (rest : List ℕ) where
         go false = refl
 
   module _ (mem : List ℕ) (e : laid mem ≡ true) where
-    pub place-front : (m : Mount) (tag x : ℕ) → m .index < 256 → InSlots (mountOf (view mem .tree) x) → Leaves (placeMem m tag x) mem rest
+    pub place-front : (m : Mount) (tag x : ℕ) → m .index < 256 → InSlots (mountOf (view mem .tree) x) → LeavesRest (placeMem m tag x) mem rest
     unfolding placeMem
     place-front m tag x k h =
         let old : Option Mount = mountOf (view mem .tree) x in
@@ -82,7 +82,7 @@ module _ (rest : List ℕ) where
         ∙ ap (setSlot (m .index) true tag) (mount-front m₁ k₁ (some m) x)
         ∙ slot-front rest m₂ (laid-long m₂ (keeps-mount m₁ k₁ (some m) x)) (m .index) true tag k
 
-    pub take-off-front : (m : Mount) (x : ℕ) → m .index < 256 → Leaves (takeOffMem m x) mem rest
+    pub take-off-front : (m : Mount) (x : ℕ) → m .index < 256 → LeavesRest (takeOffMem m x) mem rest
     unfolding takeOffMem
     take-off-front m x k =
         let m₁ = mountMem (nodesOf mem) none x mem in
@@ -94,7 +94,7 @@ module _ (rest : List ℕ) where
 
   -- ---- nodes made
 
-  pub grown-front : (ns : List Node) (mem : List ℕ) → laid mem ≡ true → Fresh (nextOf mem) ns → countOf mem + length ns < capacityOf mem → nextOf mem + length ns ≤ 2 ^ 56 → Leaves (appendAll ns) mem rest
+  pub grown-front : (ns : List Node) (mem : List ℕ) → laid mem ≡ true → Fresh (nextOf mem) ns → countOf mem + length ns < capacityOf mem → nextOf mem + length ns ≤ 2 ^ 56 → LeavesRest (appendAll ns) mem rest
   unfolding appendAll Fresh
   grown-front [] mem e f c x = refl
   grown-front (n ∷ ns) mem e f c x =

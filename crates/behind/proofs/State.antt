@@ -31,24 +31,24 @@ use Rattle.restore_parts.proofs.Records.{AllLoad, count-is, all-load}
 use Rattle.restore_parts.proofs.Loads.{loads, loads-all, loaded-capacity, loaded-count, next-laid}
 use Rattle.persist.specs.Restoring.{restoreStateMem}
 use Rattle.persist.proofs.StateWays.{room}
-use Rattle.behind.specs.Behind.{Leaves}
+use Rattle.behind.specs.Behind.{LeavesRest}
 use Rattle.behind.proofs.Front.{header-front, view-front, laid-front, append-front}
 
 module _ (rest : List ℕ) where
   -- ---- the records
 
-  next-front : (mem : List ℕ) → 8192 ≤ length mem → (x : ℕ) → Leaves (setNext x) mem rest
+  next-front : (mem : List ℕ) → 8192 ≤ length mem → (x : ℕ) → LeavesRest (setNext x) mem rest
   unfolding setNext
   next-front mem l x = header-front rest mem l 3 (bytesOf 8 x ∷ []) (omega (arith, length-bytesOf 8 x))
 
-  load-front : (e : Entry) (mem : List ℕ) → laid mem ≡ true → Loads e → Leaves (loadNode e) mem rest
+  load-front : (e : Entry) (mem : List ℕ) → laid mem ≡ true → Loads e → LeavesRest (loadNode e) mem rest
   unfolding loadNode
   load-front e mem k f =
       let m′ = setNext (e .number) mem in
       ap (appendNode (e .above) (e .called)) (next-front mem (laid-long mem k) (e .number))
       ∙ append-front rest m′ (next-laid mem (laid-is mem k) (e .number) (omega (arith, f .top)) (f .low)) (e .above) (e .called) (f .short)
 
-  loads-front : (es : List Entry) (mem : List ℕ) → laid mem ≡ true → AllLoad es → countOf mem + length es < capacityOf mem → Leaves (loadNodes es) mem rest
+  loads-front : (es : List Entry) (mem : List ℕ) → laid mem ≡ true → AllLoad es → countOf mem + length es < capacityOf mem → LeavesRest (loadNodes es) mem rest
   unfolding loadNodes AllLoad
   loads-front [] mem k f room = refl
   loads-front (e ∷ es) mem k f room =
@@ -62,7 +62,7 @@ module _ (rest : List ℕ) where
   options-fit o =
       omega (arith, length-bytesOf 8 (o .inOpts), length-bytesOf 8 (o .outOpts), length-bytesOf 4 (o .mapping .internal), length-bytesOf 4 (o .mapping .external), length-bytesOf 4 (o .mapping .range), length-bytesOf 1 (o .flags))
 
-  state-front : (next counter : ℕ) (o : Options) (mem : List ℕ) → 8192 ≤ length mem → Leaves (setState next counter o) mem rest
+  state-front : (next counter : ℕ) (o : Options) (mem : List ℕ) → 8192 ≤ length mem → LeavesRest (setState next counter o) mem rest
   unfolding setState setOptions setNext putHeader
   state-front next counter o mem l =
       let cells : List (List ℕ) = bytesOf 1 counter ∷ [] ∷ bytesOf 1 (heldByte (hasBits (o .inOpts))) ∷ [] in
@@ -78,7 +78,7 @@ module _ (rest : List ℕ) where
 
   module _ (saved mem : List ℕ) (k : laid mem ≡ true) where
     whole-front : fresh (view mem) ≡ true → accepted saved ≡ true → unknown (view mem .fixed .known) (stateOf saved .options) ≡ false → ltb (view mem .fixed .capacity) (1 + length (stateOf saved .nodes)) ≡ false
-        → Leaves (stateMem (stateOf saved)) mem rest
+        → LeavesRest (stateMem (stateOf saved)) mem rest
     unfolding stateMem
     whole-front f a u t =
         let s : State = stateOf saved in
@@ -97,7 +97,7 @@ module _ (rest : List ℕ) where
         (says nothing (restoredTo (stateOf saved) (view mem))) .code)
         DONE
 
-    pub restored-front : Leaves (restoreStateMem saved) mem rest
+    pub restored-front : LeavesRest (restoreStateMem saved) mem rest
     unfolding restoreStateMem restoreRule firstOf done
     restored-front =
         rw (laid-front rest mem k, k)
@@ -114,7 +114,7 @@ module _ (rest : List ℕ) where
 
   -- ---- creation
 
-  pub create-front : (q : Creation) (mem : List ℕ) → storageFor (q .capacity) ≤ length mem → Leaves (createMem q) mem rest
+  pub create-front : (q : Creation) (mem : List ℕ) → storageFor (q .capacity) ≤ length mem → LeavesRest (createMem q) mem rest
   unfolding createMem emptySlots
   create-front q mem l =
       let cells = spell header (headerOf (newInstance q)) in

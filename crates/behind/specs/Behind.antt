@@ -19,18 +19,18 @@ use Rattle.vfs.specs.Unmounting.{unmountMem}
 use Rattle.persist.specs.Restoring.{restoreStateMem}
 
 -- with a rest behind them, bytes change as they do without, and the rest stays
-abbrev pub Leaves : (List ℕ → List ℕ) → List ℕ → List ℕ → Type 0
-Leaves f mem rest = f (mem ++ rest) ≡ f mem ++ rest
+abbrev pub LeavesRest : (List ℕ → List ℕ) → List ℕ → List ℕ → Type 0
+LeavesRest f mem rest = f (mem ++ rest) ≡ f mem ++ rest
 
 -- bytes that keep the layout rule, with any rest behind them: they keep it, they stand for the same instance, and each call that writes leaves the rest
 pub record Apart (mem rest : List ℕ) : Type 0 where
   pub keeps : laid (mem ++ rest) ≡ true
   pub stands : view (mem ++ rest) ≡ view mem
-  pub removal : Leaves setRemoval mem rest
-  pub mount : (r : Request) → Leaves (mountMem r) mem rest
-  pub restored-mount : (k : ℕ) (r : Request) → k < 256 → Leaves (restoreMem k r) mem rest
-  pub unmount : (path : List ℕ) → Leaves (unmountMem path) mem rest
-  pub state : (saved : List ℕ) → Leaves (restoreStateMem saved) mem rest
+  pub removal : LeavesRest setRemoval mem rest
+  pub mount : (r : Request) → LeavesRest (mountMem r) mem rest
+  pub restored-mount : (k : ℕ) (r : Request) → k < 256 → LeavesRest (restoreMem k r) mem rest
+  pub unmount : (path : List ℕ) → LeavesRest (unmountMem path) mem rest
+  pub state : (saved : List ℕ) → LeavesRest (restoreStateMem saved) mem rest
 
 -- the first 512 × N + 8,192 bytes of a storage keep the layout rule by themselves (R20, R23)
 abbrev pub EveryStorage : Type 0
@@ -42,4 +42,4 @@ EveryInstance = (mem rest : List ℕ) → Bytes mem → laid mem ≡ true → Ap
 
 -- and of a creation on bytes enough for it (R23, R26)
 abbrev pub EveryCreation : Type 0
-EveryCreation = (q : Creation) (mem rest : List ℕ) → storageFor (q .capacity) ≤ length mem → Leaves (createMem q) mem rest
+EveryCreation = (q : Creation) (mem rest : List ℕ) → storageFor (q .capacity) ≤ length mem → LeavesRest (createMem q) mem rest

@@ -3,6 +3,7 @@ use mathlib.Core.Path.{_≡_, refl, sym, ap, _∙_}
 use Prim.Native.Nat.{ℕ}
 use mathlib.Core.Bool.{cond}
 use lib.Dec.{eqb}
+use Rattle.rules.specs.Numbers.{DONE, NOENT, INVAL, TOOLONG, INODE, FULL, NOROOM, NOTFOUND, BADINDEX}
 use Rattle.tables.specs.Answer.{tagIn}
 use Rattle.tables.specs.Call.{Told}
 use Rattle.tables.specs.declared.slots.Tag.{Tag}
@@ -63,12 +64,12 @@ tagBack has t = at 1 has (Held t) Empty
 
 abbrev mountedBack : MountAnswer → Mounted
 mountedBack r =
-    at 0 (r .code) (MountedDone (r .«fs_idx») (r .count) (tagBack (r .«has_replaced») (r .replaced)))
-    (at 3 (r .code) MountedTooLong
-    (at 2 (r .code) (MountedInval (r .count))
-    (at 4 (r .code) (MountedInode (r .count))
-    (at 6 (r .code) MountedNoRoom
-    (at 5 (r .code) (MountedFull (r .count)) MountedSmall)))))
+    at DONE (r .code) (MountedDone (r .«fs_idx») (r .count) (tagBack (r .«has_replaced») (r .replaced)))
+    (at TOOLONG (r .code) MountedTooLong
+    (at INVAL (r .code) (MountedInval (r .count))
+    (at INODE (r .code) (MountedInode (r .count))
+    (at NOROOM (r .code) MountedNoRoom
+    (at FULL (r .code) (MountedFull (r .count)) MountedSmall)))))
 
 mounted-back : (a : Mounted) → mountedBack (mountNumbers (mountedTold a)) ≡ a
 unfolding mountedTold tagIn
@@ -86,12 +87,12 @@ mounted-apart = apart (λ (a : Mounted). mountNumbers (mountedTold a)) mountedBa
 
 abbrev restoredBack : RestoreMountAnswer → Restored
 restoredBack r =
-    at 0 (r .code) (RestoredDone (tagBack (r .«has_replaced») (r .replaced)) (tagBack (r .«has_displaced») (r .displaced)))
-    (at 3 (r .code) RestoredTooLong
-    (at 2 (r .code) RestoredInval
-    (at 8 (r .code) BadIndex
-    (at 4 (r .code) RestoredInode
-    (at 6 (r .code) RestoredNoRoom RestoredSmall)))))
+    at DONE (r .code) (RestoredDone (tagBack (r .«has_replaced») (r .replaced)) (tagBack (r .«has_displaced») (r .displaced)))
+    (at TOOLONG (r .code) RestoredTooLong
+    (at INVAL (r .code) RestoredInval
+    (at BADINDEX (r .code) BadIndex
+    (at INODE (r .code) RestoredInode
+    (at NOROOM (r .code) RestoredNoRoom RestoredSmall)))))
 
 restored-back : (a : Restored) → restoredBack (restoreMountNumbers (restoredTold a)) ≡ a
 unfolding restoredTold tagIn
@@ -111,8 +112,8 @@ restored-apart = apart (λ (a : Restored). restoreMountNumbers (restoredTold a))
 
 abbrev unmountedBack : UmountAnswer → Unmounted
 unmountedBack r =
-    at 0 (r .code) (UnmountedDone (record { 0 = r .node }) (record { 0 = r .parent }) (tagBack (r .«has_released») (r .released)))
-    (at 7 (r .code) UnmountedNotFound (at 2 (r .code) UnmountedInval UnmountedSmall))
+    at DONE (r .code) (UnmountedDone (record { 0 = r .node }) (record { 0 = r .parent }) (tagBack (r .«has_released») (r .released)))
+    (at NOTFOUND (r .code) UnmountedNotFound (at INVAL (r .code) UnmountedInval UnmountedSmall))
 
 unmounted-back : (a : Unmounted) → unmountedBack (umountNumbers (unmountedTold a)) ≡ a
 unfolding unmountedTold tagIn
@@ -129,8 +130,8 @@ unmounted-apart = apart (λ (a : Unmounted). umountNumbers (unmountedTold a)) un
 
 abbrev rootfsBack : RootfsAnswer → Rootfs
 rootfsBack r =
-    at 0 (r .code) (at 1 (r .«has_backend») (RootfsBackend (r .tag) (r .«fs_idx»)) RootfsNothing)
-    (at 7 (r .code) RootfsNotFound (at 2 (r .code) RootfsInval RootfsSmall))
+    at DONE (r .code) (at 1 (r .«has_backend») (RootfsBackend (r .tag) (r .«fs_idx»)) RootfsNothing)
+    (at NOTFOUND (r .code) RootfsNotFound (at INVAL (r .code) RootfsInval RootfsSmall))
 
 rootfs-back : (a : Rootfs) → rootfsBack (rootfsNumbers (rootfsTold a)) ≡ a
 unfolding rootfsTold
@@ -145,8 +146,8 @@ rootfs-apart = apart (λ (a : Rootfs). rootfsNumbers (rootfsTold a)) rootfsBack 
 
 abbrev routedBack : RouteAnswer → Routed
 routedBack r =
-    at 0 (r .code) (at 1 (r .«to_backend») (RoutedBackend (r .tag) (r .«fs_idx») (record { 0 = r .number })) (Tree (record { 0 = r .number })))
-    (at 1 (r .code) RoutedNoEnt RoutedSmall)
+    at DONE (r .code) (at 1 (r .«to_backend») (RoutedBackend (r .tag) (r .«fs_idx») (record { 0 = r .number })) (Tree (record { 0 = r .number })))
+    (at NOENT (r .code) RoutedNoEnt RoutedSmall)
 
 routed-back : (a : Routed) → routedBack (routeNumbers (routedTold a)) ≡ a
 unfolding routedTold
@@ -159,7 +160,7 @@ pub routed-apart : (a b : Routed) → routeNumbers (routedTold a) ≡ routeNumbe
 routed-apart = apart (λ (a : Routed). routeNumbers (routedTold a)) routedBack routed-back
 
 abbrev remappedBack : IdsAnswer → Remapped
-remappedBack r = at 0 (r .code) (Ids (r .uid) (r .gid)) RemappedSmall
+remappedBack r = at DONE (r .code) (Ids (r .uid) (r .gid)) RemappedSmall
 
 remapped-back : (a : Remapped) → remappedBack (idsNumbers (remappedTold a)) ≡ a
 unfolding remappedTold
@@ -172,7 +173,7 @@ remapped-apart = apart (λ (a : Remapped). idsNumbers (remappedTold a)) remapped
 -- ---- the tree
 
 abbrev walkedBack : WalkAnswer → PathWalk
-walkedBack r = at 0 (r .code) (at 1 (r .«has_node») (Node (record { 0 = r .node })) WalkNothing) (at 2 (r .code) WalkInval WalkSmall)
+walkedBack r = at DONE (r .code) (at 1 (r .«has_node») (Node (record { 0 = r .node })) WalkNothing) (at INVAL (r .code) WalkInval WalkSmall)
 
 walked-back : (a : PathWalk) → walkedBack (walkNumbers (pathWalkTold a)) ≡ a
 unfolding pathWalkTold
@@ -186,8 +187,8 @@ walked-apart = apart (λ (a : PathWalk). walkNumbers (pathWalkTold a)) walkedBac
 
 abbrev lookedBack : LookupAnswer → Looked
 lookedBack r =
-    at 0 (r .code) (Entry (record { inode = record { 0 = r .inode }; mode = r .mode; uid = r .uid; gid = r .gid; blksize = r .blksize }))
-    (at 1 (r .code) LookedNoEnt (at 2 (r .code) LookedInval LookedSmall))
+    at DONE (r .code) (Entry (record { inode = record { 0 = r .inode }; mode = r .mode; uid = r .uid; gid = r .gid; blksize = r .blksize }))
+    (at NOENT (r .code) LookedNoEnt (at INVAL (r .code) LookedInval LookedSmall))
 
 looked-back : (a : Looked) → lookedBack (lookupNumbers (lookedTold a)) ≡ a
 unfolding lookedTold entryAnswer
@@ -200,7 +201,7 @@ pub looked-apart : (a b : Looked) → lookupNumbers (lookedTold a) ≡ lookupNum
 looked-apart = apart (λ (a : Looked). lookupNumbers (lookedTold a)) lookedBack looked-back
 
 abbrev listedBack : WroteAnswer → Listed
-listedBack r = at 0 (r .code) (ListedWrote (r .written)) (at 1 (r .code) ListedNoEnt ListedSmall)
+listedBack r = at DONE (r .code) (ListedWrote (r .written)) (at NOENT (r .code) ListedNoEnt ListedSmall)
 
 listed-back : (a : Listed) → listedBack (wroteNumbers (listedTold a)) ≡ a
 unfolding listedTold

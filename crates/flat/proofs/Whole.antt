@@ -1,7 +1,8 @@
--- The same of the calls on the instance as a whole, on saved state, and without an instance. Assumes nothing.
+-- No two answers of a call on the instance as a whole, on saved state, or without an instance have the same numbers. Assumes nothing.
 use mathlib.Core.Path.{_≡_, refl}
 use mathlib.Core.Bool.{true, false}
 use lib.Dec.{eqb}
+use Rattle.rules.specs.Numbers.{DONE, NOROOM, BADMAP, BADSAVE, NOTFRESH, BADOPT}
 use Rattle.inode.specs.Converted.{codeOf, fullOf}
 use Rattle.inode.specs.declared.Converted.{Converted}
 use Rattle.inode.specs.declared.Converted.the-variants.{Full as ConvertedFull, Inode as ConvertedInode}
@@ -24,7 +25,7 @@ use Rattle.persist.specs.declared.saving.Saved.{Saved}
 use Rattle.persist.specs.declared.saving.Saved.the-variants.{Wrote as SavedWrote, Small as SavedSmall}
 use Rattle.persist.specs.declared.restoring.StateRestored.{StateRestored}
 use Rattle.persist.specs.declared.restoring.StateRestored.the-variants.{Done as StateDone, NotFresh, BadSave, BadOpt as StateBadOpt, NoRoom as StateNoRoom, Small as StateSmall}
-use Rattle.flat.specs.Flat.{codeNumber, codeNumbers, initializedNumbers, optionsNumbers, wroteNumbers, inodeNumbers}
+use Rattle.flat.specs.Flat.{codeAlone, codeNumbers, initializedNumbers, optionsNumbers, wroteNumbers, inodeNumbers}
 use Rattle.flat.specs.declared.CodeAnswer.{CodeAnswer}
 use Rattle.flat.specs.declared.InitializedAnswer.{InitializedAnswer}
 use Rattle.flat.specs.declared.OptionsAnswer.{OptionsAnswer}
@@ -35,20 +36,20 @@ use Rattle.flat.proofs.Apart.{apart, at}
 -- ---- the instance
 
 abbrev createdBack : CodeAnswer → Created
-createdBack r = at 0 (r .code) CreatedDone (at 13 (r .code) BadOpt (at 9 (r .code) BadMap CreatedSmall))
+createdBack r = at DONE (r .code) CreatedDone (at BADOPT (r .code) BadOpt (at BADMAP (r .code) BadMap CreatedSmall))
 
-created-back : (a : Created) → createdBack (codeNumber (createdCode a)) ≡ a
+created-back : (a : Created) → createdBack (codeAlone (createdCode a)) ≡ a
 unfolding createdCode
 created-back CreatedDone = refl
 created-back CreatedSmall = refl
 created-back BadOpt = refl
 created-back BadMap = refl
 
-pub created-apart : (a b : Created) → codeNumber (createdCode a) ≡ codeNumber (createdCode b) → a ≡ b
-created-apart = apart (λ (a : Created). codeNumber (createdCode a)) createdBack created-back
+pub created-apart : (a b : Created) → codeAlone (createdCode a) ≡ codeAlone (createdCode b) → a ≡ b
+created-apart = apart (λ (a : Created). codeAlone (createdCode a)) createdBack created-back
 
 abbrev removalBack : CodeAnswer → Removal
-removalBack r = at 0 (r .code) RemovalDone RemovalSmall
+removalBack r = at DONE (r .code) RemovalDone RemovalSmall
 
 removal-back : (a : Removal) → removalBack (codeNumbers (removalTold a)) ≡ a
 unfolding removalTold
@@ -59,7 +60,7 @@ pub removal-apart : (a b : Removal) → codeNumbers (removalTold a) ≡ codeNumb
 removal-apart = apart (λ (a : Removal). codeNumbers (removalTold a)) removalBack removal-back
 
 abbrev initializedBack : InitializedAnswer → IsInitialized
-initializedBack r = at 0 (r .code) (Is (eqb (r .initialized) 1)) InitializedSmall
+initializedBack r = at DONE (r .code) (Is (eqb (r .initialized) 1)) InitializedSmall
 
 initialized-back : (a : IsInitialized) → initializedBack (initializedNumbers (initializedTold a)) ≡ a
 unfolding initializedTold
@@ -72,7 +73,7 @@ initialized-apart = apart (λ (a : IsInitialized). initializedNumbers (initializ
 
 abbrev optionsBack : OptionsAnswer → OptionsOf
 optionsBack r =
-    at 0 (r .code)
+    at DONE (r .code)
     (Options (record { «in_opts» = r .«in_opts»; «out_opts» = r .«out_opts»; mapping = record { internal = r .internal; external = r .external; range = r .range }; flags = r .flags }))
     OptionsSmall
 
@@ -87,7 +88,7 @@ options-apart = apart (λ (a : OptionsOf). optionsNumbers (optionsTold a)) optio
 -- ---- saved state
 
 abbrev savedBack : WroteAnswer → Saved
-savedBack r = at 0 (r .code) (SavedWrote (r .written)) SavedSmall
+savedBack r = at DONE (r .code) (SavedWrote (r .written)) SavedSmall
 
 saved-back : (a : Saved) → savedBack (wroteNumbers (savedTold a)) ≡ a
 unfolding savedTold
@@ -98,7 +99,7 @@ pub saved-apart : (a b : Saved) → wroteNumbers (savedTold a) ≡ wroteNumbers 
 saved-apart = apart (λ (a : Saved). wroteNumbers (savedTold a)) savedBack saved-back
 
 abbrev stateBack : CodeAnswer → StateRestored
-stateBack r = at 0 (r .code) StateDone (at 11 (r .code) NotFresh (at 10 (r .code) BadSave (at 13 (r .code) StateBadOpt (at 6 (r .code) StateNoRoom StateSmall))))
+stateBack r = at DONE (r .code) StateDone (at NOTFRESH (r .code) NotFresh (at BADSAVE (r .code) BadSave (at BADOPT (r .code) StateBadOpt (at NOROOM (r .code) StateNoRoom StateSmall))))
 
 state-back : (a : StateRestored) → stateBack (codeNumbers (stateTold a)) ≡ a
 unfolding stateTold
@@ -115,7 +116,7 @@ state-apart = apart (λ (a : StateRestored). codeNumbers (stateTold a)) stateBac
 -- ---- without an instance
 
 abbrev convertedBack : InodeAnswer → Converted
-convertedBack r = at 0 (r .code) (ConvertedFull (record { 0 = r .inode })) ConvertedInode
+convertedBack r = at DONE (r .code) (ConvertedFull (record { 0 = r .inode })) ConvertedInode
 
 converted-back : (a : Converted) → convertedBack (inodeNumbers (codeOf a) (fullOf a)) ≡ a
 unfolding codeOf fullOf
@@ -126,11 +127,11 @@ pub converted-apart : (a b : Converted) → inodeNumbers (codeOf a) (fullOf a) �
 converted-apart = apart (λ (a : Converted). inodeNumbers (codeOf a) (fullOf a)) convertedBack converted-back
 
 abbrev checkedBack : CodeAnswer → Checked
-checkedBack r = at 0 (r .code) CheckedDone CheckedInval
+checkedBack r = at DONE (r .code) CheckedDone CheckedInval
 
-checked-back : (a : Checked) → checkedBack (codeNumber (code a)) ≡ a
+checked-back : (a : Checked) → checkedBack (codeAlone (code a)) ≡ a
 checked-back CheckedDone = refl
 checked-back CheckedInval = refl
 
-pub checked-apart : (a b : Checked) → codeNumber (code a) ≡ codeNumber (code b) → a ≡ b
-checked-apart = apart (λ (a : Checked). codeNumber (code a)) checkedBack checked-back
+pub checked-apart : (a b : Checked) → codeAlone (code a) ≡ codeAlone (code b) → a ≡ b
+checked-apart = apart (λ (a : Checked). codeAlone (code a)) checkedBack checked-back

@@ -57,12 +57,12 @@ value t k = getD (values (t .answer)) k 0
 -- ---- answers
 
 -- the number of the answer alone (R15)
-abbrev pub codeNumber : ℕ → CodeAnswer
-codeNumber code = record { code = code }
+abbrev pub codeAlone : ℕ → CodeAnswer
+codeAlone code = record { code = code }
 
 -- of an answer without values (R15)
 abbrev pub codeNumbers : Told → CodeAnswer
-codeNumbers t = codeNumber (t .code)
+codeNumbers t = codeAlone (t .code)
 
 -- whether it is initialized (R33)
 abbrev pub initializedNumbers : Told → InitializedAnswer

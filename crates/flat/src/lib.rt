@@ -15,7 +15,7 @@ ghost use Rattle.vfs.specs.Restoring.{restoredTold};
 ghost use Rattle.vfs.specs.Unmounting.{unmountedTold};
 ghost use Rattle.persist.specs.Saving.{savedTold};
 ghost use Rattle.persist.specs.Restoring.{stateTold};
-ghost use Rattle.flat.specs.Flat.{has, truthNumber, codeNumber, codeNumbers, initializedNumbers, optionsNumbers, mountNumbers, restoreMountNumbers, umountNumbers, rootfsNumbers, walkNumbers, routeNumbers, lookupNumbers, wroteNumbers, idsNumbers, inodeNumbers};
+ghost use Rattle.flat.specs.Flat.{has, truthNumber, codeAlone, codeNumbers, initializedNumbers, optionsNumbers, mountNumbers, restoreMountNumbers, umountNumbers, rootfsNumbers, walkNumbers, routeNumbers, lookupNumbers, wroteNumbers, idsNumbers, inodeNumbers};
 use inode::Converted;
 use listing::Listed;
 use path::names::Checked;
@@ -193,7 +193,7 @@ fn number_of(b: bool) -> u32
 
 // What a creation answers, as its number (R26).
 pub fn created(a: Created) -> CodeAnswer
-    ensures { λ r. ⌜ r ≡ codeNumber (createdCode a) ⌝ }
+    ensures { λ r. ⌜ r ≡ codeAlone (createdCode a) ⌝ }
 {
     match a {
         Created::Done => CodeAnswer { code: DONE },
@@ -579,7 +579,7 @@ pub fn converted(a: Converted) -> InodeAnswer
 
 // What the component check answers, as its number (R61).
 pub fn checked(a: Checked) -> CodeAnswer
-    ensures { λ r. ⌜ r ≡ codeNumber (code a) ⌝ }
+    ensures { λ r. ⌜ r ≡ codeAlone (code a) ⌝ }
 {
     match a {
         Checked::Done => CodeAnswer { code: DONE },

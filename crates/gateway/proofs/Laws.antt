@@ -1,20 +1,18 @@
 -- What an export answers and leaves, from what the call answers and leaves that it wraps. Assumes nothing.
 use Prim.Native.Nat.{ℕ}
 use mathlib.Core.Path.{_≡_, sym, subst}
-use mathlib.Core.Bool.{cond}
 use mathlib.Core.List.{List}
-use lib.Dec.{ltb}
 use Rattle.le.specs.Mem.{write}
-use Rattle.rules.specs.Numbers.{maxIno, convert, INODE, DONE}
+use Rattle.rules.specs.Numbers.{convert}
 use Rattle.rules.specs.Instance.{Instance}
 use Rattle.rules.specs.Outcome.{Outcome}
 use Rattle.rules.specs.Create.{Creation}
 use Rattle.rules.specs.Mount.{Request}
 use Rattle.tables.specs.Call.{Told, answeredBy, writtenBy, Does}
-use Rattle.inode.specs.Converted.{codeOf, fullOf, Converts}
+use Rattle.inode.specs.Converted.{codeOf, fullOf, convertCode, Converts}
 use Rattle.inode.specs.declared.Converted.{Converted}
 use Rattle.storage.specs.Creation.{Creates}
-use Rattle.flat.specs.Flat.{codeNumber, wroteNumbers, inodeNumbers}
+use Rattle.flat.specs.Flat.{codeAlone, wroteNumbers, inodeNumbers}
 use Rattle.flat.specs.declared.CodeAnswer.{CodeAnswer}
 use Rattle.flat.specs.declared.WroteAnswer.{WroteAnswer}
 use Rattle.flat.specs.declared.InodeAnswer.{InodeAnswer}
@@ -39,9 +37,9 @@ pub writes-by : (mem : List ℕ) (f : Instance → Outcome) (d : List ℕ) (t : 
     → r ≡ wroteNumbers t → t ≡ answeredBy mem f → e ≡ write d 0 (writtenBy mem f) → WritesBy mem f d r e
 writes-by mem f d t r e h told bytes = record { answer = by-told wroteNumbers r t (answeredBy mem f) h told; bytes = bytes }
 
-pub creates-by : (mem : List ℕ) (q : Creation) (code : ℕ) (r : CodeAnswer) (after : List ℕ) → r ≡ codeNumber code → Creates mem q code after → Creates mem q (r .code) after
+pub creates-by : (mem : List ℕ) (q : Creation) (code : ℕ) (r : CodeAnswer) (after : List ℕ) → r ≡ codeAlone code → Creates mem q code after → Creates mem q (r .code) after
 creates-by mem q code r after e d = rw e d
 
 pub converts-by : (index number : ℕ) (a : Converted) (r : InodeAnswer) → r ≡ inodeNumbers (codeOf a) (fullOf a) → Converts index number a
-    → r ≡ inodeNumbers (cond (ltb maxIno number) INODE DONE) (convert index number)
+    → r ≡ inodeNumbers (convertCode number) (convert index number)
 converts-by index number a r e d = rw (sym (d .code), sym (d .full)) e

@@ -1,12 +1,11 @@
 // Calls without an instance: conversion, ids by a given mapping, the component check, and the allocator's step (R24).
 ghost use mathlib.Core.Path.{_≡_};
-ghost use mathlib.Core.Bool.{cond};
-ghost use lib.Dec.{ltb};
-ghost use Rattle.rules.specs.Numbers.{maxIno, convert, INODE, DONE};
+ghost use Rattle.rules.specs.Numbers.{convert};
 ghost use Rattle.rules.specs.Ids.{wrapped, unwrapped};
+ghost use Rattle.inode.specs.Converted.{convertCode};
 ghost use Rattle.path.specs.Checks.{checkCode};
 ghost use Rattle.index.specs.Take.{Steps};
-ghost use Rattle.flat.specs.Flat.{codeNumber, inodeNumbers};
+ghost use Rattle.flat.specs.Flat.{codeAlone, inodeNumbers};
 ghost use Rattle.gateway.specs.Calls.{mappingBy};
 use flat::CodeAnswer;
 use flat::InodeAnswer;
@@ -18,7 +17,7 @@ use inode::BackendNumber;
 // The full number of a backend's number under its index, or INODE (R7).
 #[no_mangle]
 pub extern "C" fn galdovar_convert_inode(fs_idx: u8, number: u64) -> InodeAnswer
-    ensures { λ r. ⌜ r ≡ inodeNumbers (cond (ltb maxIno number) INODE DONE) (convert «fs_idx» number) ⌝ }
+    ensures { λ r. ⌜ r ≡ inodeNumbers (convertCode number) (convert «fs_idx» number) ⌝ }
 {
     flat::converted(inode::convert_inode(fs_idx, BackendNumber(number)))
 }
@@ -52,7 +51,7 @@ pub extern "C" fn galdovar_map_back(internal: u32, external: u32, range: u32, id
 // The check of one component: `.`, `..`, a slash or a byte 0 is INVAL (R61, R62).
 #[no_mangle]
 pub extern "C" fn galdovar_validate_path_component(name: &[u8]) -> CodeAnswer
-    ensures { λ r. ⌜ r ≡ codeNumber (checkCode (now (name .entry))) ⌝ }
+    ensures { λ r. ⌜ r ≡ codeAlone (checkCode (now (name .entry))) ⌝ }
 {
     flat::checked(path::names::validate_path_component(name))
 }

@@ -18,7 +18,11 @@ unfoldable pub codeOf : Converted → ℕ
 codeOf (Full x) = DONE
 codeOf Inode = INODE
 
--- the answer to an index and a number: the full number, or INODE exactly if the number is above 2^56 − 1 (R7)
+-- by the rule: INODE exactly if the number is above 2^56 − 1 (R7)
+abbrev pub convertCode : ℕ → ℕ
+convertCode number = cond (ltb maxIno number) INODE DONE
+
+-- the answer to an index and a number: the full number, or INODE (R7)
 pub record Converts (index number : ℕ) (r : Converted) : Type 0 where
   pub full : fullOf r ≡ convert index number
-  pub code : codeOf r ≡ cond (ltb maxIno number) INODE DONE
+  pub code : codeOf r ≡ convertCode number

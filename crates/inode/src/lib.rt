@@ -1,8 +1,8 @@
 // Full inode numbers, and the numbers of nodes and of backends, each a type of its own: neither stands for a full number without the conversion (R8).
 ghost use mathlib.Core.Path.{_≡_};
 ghost use lib.Dec.{eqb};
-ghost use Rattle.rules.specs.Numbers.{indexOf, numberOf};
-ghost use Rattle.inode.specs.Converted.{Converts};
+ghost use Rattle.rules.specs.Numbers.{orZero, indexOf, numberOf};
+ghost use Rattle.inode.specs.Converted.{fullOf, Converts};
 
 // A full inode number: an index and a number below 2^56.
 pub struct VfsInode(pub u64);
@@ -69,5 +69,15 @@ impl VfsInode {
         ensures { λ r. ⌜ r ≡ eqb (indexOf (self .0)) 0 ⌝ }
     {
         self.fs_idx() == rules::VFS_PSEUDO_FS_IDX
+    }
+}
+
+// The full number of a conversion, or 0 for INODE (R7, R16).
+pub fn or_zero(c: Converted) -> VfsInode
+    ensures { λ r. ⌜ r .0 ≡ orZero (fullOf c) ⌝ }
+{
+    match c {
+        Converted::Full(full) => full,
+        Converted::Inode => VfsInode(0),
     }
 }

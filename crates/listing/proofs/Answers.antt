@@ -1,44 +1,23 @@
--- The answers of a listing: a law for each, and that the contract allows one alone. Assumes nothing.
-use mathlib.Core.Path.{_≡_, refl, sym, ap, _∙_}
+-- The answers of a listing: a law for each. Assumes nothing.
+use mathlib.Core.Path.{_≡_, refl, ap}
 use mathlib.Core.Bool.{true, false}
 use mathlib.Core.List.{List, []}
 use Prim.Native.Nat.{ℕ, min}
-use native.Mathlib.Omega.{arith}
 use lib.ListN.{length, drop}
 use borrow.Author.Tests.{eq-eqb, ne-eqb}
 use Rattle.rules.specs.Numbers.{NOENT}
 use Rattle.rules.specs.Tree.{isKnown, childrenIn}
-use Rattle.rules.specs.Outcome.{wrote, Outcome, refused, writes, firstOf}
+use Rattle.rules.specs.Outcome.{Outcome, refused, writes, firstOf}
 use Rattle.rules.specs.Listing.{direntsFrom, laid as laidRecords, listRule}
 use Rattle.le.specs.Mem.{write}
 use Rattle.tables.specs.View.{nodesOf, view}
 use Rattle.tables.specs.Rule.{laid}
-use Rattle.tables.specs.Call.{Told, toldBy}
+use Rattle.tables.specs.Call.{toldBy}
 use Rattle.dirent.specs.Lays.{Lays}
 use Rattle.storage.proofs.Calls.{writes-small, writes-by}
 use Rattle.listing.specs.declared.Listed.{Listed}
 use Rattle.listing.specs.declared.Listed.the-variants.{Wrote, NoEnt, Small}
 use Rattle.listing.specs.Listed.{listedTold, listing, Lists}
-
--- ---- the answers are known by their meaning
-
-pub listed-injective : (a b : Listed) → listedTold a ≡ listedTold b → a ≡ b
-unfolding listedTold
-listed-injective (Wrote n) (Wrote m) e = let h : wrote n ≡ wrote m = ap (λ (t : Told). t .answer) e in cc
-listed-injective (Wrote n) NoEnt e = absurd (omega (arith, ap (λ (t : Told). t .code) e))
-listed-injective (Wrote n) Small e = absurd (omega (arith, ap (λ (t : Told). t .code) e))
-listed-injective NoEnt (Wrote m) e = absurd (omega (arith, ap (λ (t : Told). t .code) e))
-listed-injective NoEnt NoEnt e = refl
-listed-injective NoEnt Small e = absurd (omega (arith, ap (λ (t : Told). t .code) e))
-listed-injective Small (Wrote m) e = absurd (omega (arith, ap (λ (t : Told). t .code) e))
-listed-injective Small NoEnt e = absurd (omega (arith, ap (λ (t : Told). t .code) e))
-listed-injective Small Small e = refl
-
--- any two answers that the contract allows are equal, and so are the bytes after
-pub lists-once : (mem : List ℕ) (node size offset : ℕ) (d : List ℕ) (r t : Listed) (e f : List ℕ) → Lists mem node size offset d r e → Lists mem node size offset d t f → (r ≡ t) × (e ≡ f)
-lists-once mem node size offset d r t e f a b = (listed-injective r t (a .answer ∙ sym (b .answer)), a .bytes ∙ sym (b .bytes))
-
--- ---- each answer
 
 module _ (mem : List ℕ) (node size offset : ℕ) (d : List ℕ) where
   pub lists-small : laid mem ≡ false → Lists mem node size offset d Small d

@@ -1,4 +1,3 @@
--- What the walk, the find and the calls of the code stand for.
-pub mod Walks
+-- What the find and the calls of the code stand for.
 pub mod Finds
 pub mod Told

@@ -6,7 +6,8 @@ use mathlib.Core.Option.{none, some}
 use Rattle.rules.specs.Numbers.{dirMode, blockSize, orZero, convert, INVAL}
 use Rattle.rules.specs.Utf8.{wellFormed}
 use Rattle.rules.specs.Path.{rooted}
-use Rattle.rules.specs.Ids.{Mapping, wrapped}
+use Rattle.rules.specs.Ids.{wrapped}
+use Rattle.rules.specs.Instance.{Instance}
 use Rattle.rules.specs.Outcome.{Answer, walked, entry, _⇒_, firstOf}
 use Rattle.tables.specs.Call.{Told, tells, refuses, toldSmall}
 use Rattle.pseudo_fs.specs.declared.PathFault.{PathFault}
@@ -34,6 +35,6 @@ entryAnswer e = entry (e .inode .0) (e .mode) (e .uid) (e .gid) (e .blksize)
 
 -- ---- the pseudo entry
 
--- of any number and any mapping (R7, R13, R117)
-unfoldable pub pseudoAnswer : Mapping → ℕ → Answer
-pseudoAnswer m x = entry (orZero (convert 0 x)) dirMode (wrapped m 0) (wrapped m 0) blockSize
+-- of any number, with any mapping in force (R7, R13, R117)
+unfoldable pub pseudoAnswer : Instance → ℕ → Answer
+pseudoAnswer i x = entry (orZero (convert 0 x)) dirMode (wrapped (i .fixed .mapping) 0) (wrapped (i .fixed .mapping) 0) blockSize

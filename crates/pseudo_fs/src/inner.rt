@@ -1,8 +1,6 @@
 // The walk, the find and the pseudo entry in bytes that keep the layout rule: nothing here is for a host.
 use crate::Entry;
-use inode::Converted;
 use inode::NodeNumber;
-use inode::VfsInode;
 use path::components::Component;
 use path::components::next_component;
 use path::names::has_byte;
@@ -20,19 +18,12 @@ use tables::rows::parent_of;
 use utf8::is_plain;
 use utf8::is_utf8;
 ghost use mathlib.Core.Path.{_≡_};
-ghost use Rattle.rules.specs.Numbers.{orZero, convert};
-ghost use Rattle.rules.specs.Path.{components};
-ghost use Rattle.tables.specs.View.{mappingFrom, headOf, nodesOf};
+ghost use Rattle.rules.specs.Unmount.{reached};
+ghost use Rattle.tables.specs.View.{nodesOf, view};
 ghost use Rattle.tables.specs.Rule.{Laid};
-ghost use Rattle.pseudo_fs.specs.Walks.{Walks};
+ghost use Rattle.tables.specs.Answer.{foundIn};
 ghost use Rattle.pseudo_fs.specs.Finds.{childFinding, Finds};
 ghost use Rattle.pseudo_fs.specs.Told.{entryAnswer, pseudoAnswer};
-
-// The node where a walk ends, or the place in the path of the first name that is missing.
-pub enum Walked {
-    At(u64),
-    Missing { place: usize },
-}
 
 // The node that a find in a directory gives, or its refusal.
 pub enum Finding {
@@ -41,17 +32,17 @@ pub enum Finding {
     Inval,
 }
 
-// The walk from the root along the components of a path (R37, R38, R39, R45, R46).
-pub fn walk(s: &[u8], path: &[u8]) -> Walked
+// The node where the walk from the root along the components of a path ends, or nothing (R37, R38, R39, R45, R46).
+pub fn walk(s: &[u8], path: &[u8]) -> Found
     requires { ⌜ Laid (now s) ⌝ }
-    ensures { λ r. ⌜ Walks (nodesOf (now (s .entry))) (components 0 (now (path .entry))) r ⌝ }
+    ensures { λ r. ⌜ foundIn r ≡ reached (view (now (s .entry))) (now (path .entry)) ⌝ }
 {
     let n = count(s);
     let mut node = rules::ROOT_ID;
     let mut at = 0;
     'outer: loop {
         match next_component(path, at) {
-            Component::End => return Walked::At(node),
+            Component::End => return Found::Node(node),
             Component::Parent { next, .. } => {
                 node = parent_of(s, node);
                 at = next;
@@ -62,7 +53,7 @@ pub fn walk(s: &[u8], path: &[u8]) -> Walked
                 loop {
                     let j = next_alike(s, i, key);
                     if n <= j {
-                        return Walked::Missing { place: start };
+                        return Found::Nothing;
                     }
                     if child_alike(s, j, node, &path[start..next]) {
                         node = number(s, j);
@@ -90,7 +81,7 @@ fn child_in(s: &[u8], x: u64, name: &[u8]) -> Finding
     }
 }
 
-// In a directory: unknown parent NOENT, then byte 0 or bad UTF-8 INVAL, then `.`, `..`, the child or NOENT (R57, R58, R59). A plain name needs the first test alone.
+// In a directory: unknown parent NOENT, then byte 0 or bad UTF-8 INVAL, then `.`, `..`, the child or NOENT (R57, R58, R59). A plain name passes all the tests but the first.
 pub fn find(s: &[u8], x: u64, name: &[u8]) -> Finding
     requires { ⌜ Laid (now s) ⌝ }
     ensures { λ r. ⌜ Finds (nodesOf (now (s .entry))) x (now (name .entry)) r ⌝ }
@@ -116,25 +107,15 @@ pub fn find(s: &[u8], x: u64, name: &[u8]) -> Finding
     child_in(s, x, name)
 }
 
-// The full number of a node of the tree; 0 where the number is above 2^56 − 1, which no node's is (R7, R8).
-fn full_number(x: u64) -> VfsInode
-    ensures { λ r. ⌜ r .0 ≡ orZero (convert 0 x) ⌝ }
-{
-    match inode::pseudo_inode(NodeNumber(x)) {
-        Converted::Full(full) => full,
-        Converted::Inode => VfsInode(0),
-    }
-}
-
-// The pseudo entry of a node, with its ids mapped out by the mapping in force (R13, R118).
+// The pseudo entry of a node, with its ids mapped out by the mapping in force; its full number is 0 where the number is above 2^56 − 1, which no node's is (R7, R13, R118).
 pub fn pseudo_entry(s: &[u8], x: u64) -> Entry
     requires { ⌜ Laid (now s) ⌝ }
-    ensures { λ r. ⌜ entryAnswer r ≡ pseudoAnswer (mappingFrom 7 (headOf (now (s .entry)))) x ⌝ }
+    ensures { λ r. ⌜ entryAnswer r ≡ pseudoAnswer (view (now (s .entry))) x ⌝ }
 {
-    let inode = full_number(x);
+    let full = inode::or_zero(inode::pseudo_inode(NodeNumber(x)));
     let id = id_map::map_out(tables::header::mapping(s), 0);
     Entry {
-        inode,
+        inode: full,
         mode: rules::DIR_MODE,
         uid: id,
         gid: id,

@@ -1,10 +1,10 @@
 // The pseudo tree: the walk along a path, and the entry of a node.
-use inner::Walked;
 use inner::walk;
 use inode::NodeNumber;
 use inode::VfsInode;
 use path::components::is_rooted;
 use storage::is_laid;
+use tables::rows::Found;
 use utf8::is_utf8;
 ghost use mathlib.Core.Path.{_≡_};
 ghost use Rattle.rules.specs.Instance.{Instance};
@@ -66,7 +66,7 @@ pub fn path_walk(s: &[u8], path: &[u8]) -> PathWalk
         PathFault::Sound => {}
     }
     match walk(s, path) {
-        Walked::At(x) => PathWalk::Node(NodeNumber(x)),
-        Walked::Missing { .. } => PathWalk::Nothing,
+        Found::Node(x) => PathWalk::Node(NodeNumber(x)),
+        Found::Nothing => PathWalk::Nothing,
     }
 }

@@ -1,10 +1,10 @@
 -- The layout rule, test by test: where one fails the rule does. And what it means for the answer of a call. Assumes nothing.
-use mathlib.Core.Path.{_≡_, sym, _∙_}
+use mathlib.Core.Path.{_≡_, sym, ap, _∙_}
 use mathlib.Core.Bool.{Bool, true, false, not, _||_, and-true}
 use mathlib.Core.List.{List}
 use Prim.Native.Nat.{ℕ, _+_, _*_, _^_, _≤_, _<_}
 use lib.ListN.{length}
-use borrow.Author.Tests.{eq-eqb, ne-eqb, le-leb, lt-leb, lt-ltb, le-ltb, not-false}
+use borrow.Author.Tests.{eq-eqb, ne-eqb, le-leb, lt-leb, lt-ltb, le-ltb, not-true, not-false}
 use Rattle.le.specs.Mem.{get}
 use Rattle.rules.specs.Ids.{Mapping, badMapping}
 use Rattle.rules.specs.Create.{outside, unknown}
@@ -16,7 +16,7 @@ use Rattle.tables.specs.Table.{row}
 use Rattle.tables.specs.Layout.{mark, capacityOf, countOf, nextOf}
 use Rattle.tables.specs.View.{mappingFrom, headOf, view}
 use Rattle.tables.specs.Rule.{laidBy, laid, Laid}
-use Rattle.tables.specs.Call.{toldBy, toldSmall, answeredBy}
+use Rattle.tables.specs.Call.{Told, toldBy, toldSmall, answeredBy}
 use Rattle.tables.proofs.Keeps.{laid-is}
 use Rattle.storage.specs.Laid.{settingsFit}
 
@@ -95,6 +95,14 @@ module _ (mem : List ℕ) where
   pub told-by : (f : Instance → Outcome) → laid mem ≡ true → answeredBy mem f ≡ toldBy (f (view mem))
   unfolding answeredBy
   told-by f e = rw e
+
+  -- a call that only reads, which found the rule kept, tells what its own rule gives
+  pub tells-by : (f : Instance → Outcome) (t : Told) (o : Outcome) → laid mem ≡ true → t ≡ toldBy o → f (view mem) ≡ o → t ≡ answeredBy mem f
+  tells-by f t o e a b = a ∙ (ap toldBy (sym b) ∙ sym (told-by f e))
+
+  -- which tested the rule, with the answer l, and tells SMALL
+  pub tells-small : (l : Bool) → l ≡ laid mem → (f : Instance → Outcome) → not l ≡ true → toldSmall ≡ answeredBy mem f
+  tells-small l e f t = sym (told-small f (sym e ∙ not-true l t))
 
 -- ---- a call that tested the rule, with the answer l, and goes on
 

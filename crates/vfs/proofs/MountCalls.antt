@@ -1,20 +1,20 @@
 -- The mount as a call: what each of its tests gives, in their order. Assumes nothing.
-use mathlib.Core.Path.{_≡_, refl, sym, ap, _∙_}
+use mathlib.Core.Path.{_≡_, refl, sym, _∙_}
 use mathlib.Core.Bool.{Bool, true, false, not}
 use mathlib.Core.List.{List}
 use mathlib.Core.Option.{Option, none, some}
 use Prim.Native.Nat.{ℕ, _≤_, _<_}
-use lib.ListN.{length}
 use lib.Dec.{ltb}
 use borrow.Author.Tests.{not-true, not-false, lt-ltb, le-ltb}
-use Rattle.rules.specs.Numbers.{maxIno, INVAL, INODE, FULL}
+use Rattle.rules.specs.Numbers.{maxIno, INODE}
 use Rattle.rules.specs.Path.{rooted}
 use Rattle.rules.specs.Instance.{Instance}
 use Rattle.rules.specs.Outcome.{Outcome, nothing, refused, firstOf}
 use Rattle.rules.specs.Mount.{Request, allocation, stepped, allocated, mountAs, mountRule}
 use Rattle.tables.specs.View.{view}
-use Rattle.tables.specs.Call.{counted, Does}
-use Rattle.vfs.specs.Mounting.{requestOf, mountedTold, rootedMem, rootedRule, early, mountMem, byFound, Unrooted, Follows}
+use Rattle.tables.specs.Call.{Does}
+use Rattle.vfs.specs.Follows.{Follows}
+use Rattle.vfs.specs.Mounting.{requestOf, mountedTold, allocMem, rootedMem, unrootedRule, rootedRule, early, mountMem, byFound}
 use Rattle.vfs.specs.declared.backend.Backend.{Backend}
 use Rattle.vfs.specs.declared.mounting.Mounted.{Mounted}
 use Rattle.vfs.specs.declared.mounting.Mounted.the-variants.{TooLong, Inval, Inode, Small}
@@ -50,22 +50,18 @@ module _ (mem path : List ℕ) (b : Backend) where
       unfolding early
       not-early = rw (p .fits, p .formed, top)
 
-      pub no-slash-ends : not r ≡ true → (v : Mounted) (after : List ℕ) → Unrooted mem v after → Gives v after
+      pub no-slash-ends : not r ≡ true → (v : Mounted) (after : List ℕ) → Follows (unrootedRule (view mem)) (allocMem mem) (mountedTold v) after → Gives v after
       unfolding mountRule mountMem firstOf mountAs
-      no-slash-ends e v after w = go (allocation (view mem) .found) refl
+      no-slash-ends e v after w =
+          does mem F (mountedTold v) after (mountMem R mem) (unrootedRule (view mem)) (p .laid) (rw (p .fits, p .formed, top, off) (rows (allocation (view mem) .found))) (w .told)
+          (w .bytes ∙ sym (rw (p .laid, not-early, off))) (w .stands) (w .keeps)
         where
           off : rooted path ≡ false
           off = sym re ∙ not-true r e
 
-          ends : (code : ℕ) (f : Option ℕ) → allocation (view mem) .found ≡ f → byFound f ≡ code → mountAs (view mem) R f ≡ allocated (view mem) code nothing (stepped (view mem)) → Gives v after
-          ends code f q c m =
-              does mem F (mountedTold v) after (mountMem R mem) (allocated (view mem) code nothing (stepped (view mem))) (p .laid) (rw (p .fits, p .formed, top, off) (ap (mountAs (view mem) R) q ∙ m))
-              (w .told ∙ ap (λ (f : Option ℕ). counted (byFound f) (length (allocation (view mem) .visits))) q ∙ ap (λ (n : ℕ). counted n (length (allocation (view mem) .visits))) c)
-              (w .bytes ∙ sym (rw (p .laid, not-early, off))) (w .stands) (w .keeps)
-
-          go : (f : Option ℕ) → allocation (view mem) .found ≡ f → Gives v after
-          go none q = ends FULL none q refl refl
-          go (some k) q = ends INVAL (some k) q refl (rw off)
+          rows : (f : Option ℕ) → mountAs (view mem) R f ≡ allocated (view mem) (byFound f) nothing (stepped (view mem))
+          rows none = refl
+          rows (some k) = rw off
 
       pub slash-ends : not r ≡ false → (v : Mounted) (after : List ℕ) → Follows (rootedRule (view mem) R) (rootedMem R mem) (mountedTold v) after → Gives v after
       unfolding mountRule mountMem firstOf

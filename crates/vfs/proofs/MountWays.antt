@@ -4,16 +4,18 @@ use mathlib.Core.Bool.{true, false}
 use mathlib.Core.List.{List, []}
 use mathlib.Core.Option.{Option, some}
 use Prim.Native.Nat.{ℕ, _^_, _≤_, _<_}
+use native.Mathlib.Nat.{mod-lt}
 use native.Mathlib.Omega.{arith}
-use lib.Dec.{ltb}
+use lib.ListN.{length}
+use lib.Dec.{ltb, lit<}
 use borrow.Author.Tests.{lt-ltb, le-ltb}
 use Rattle.rules.specs.Numbers.{maxIno, DONE, INODE}
 use Rattle.rules.specs.Bytes.{Bytes}
 use Rattle.rules.specs.Round.{allocate}
 use Rattle.rules.specs.Tree.{Mount}
-use Rattle.rules.specs.Instance.{mountOf, tagOf, heldIn, counterOf, withCounter}
+use Rattle.rules.specs.Instance.{mountOf, tagOf, heldIn, counterOf}
 use Rattle.rules.specs.Outcome.{Answer, mounted, restored}
-use Rattle.rules.specs.Mount.{Request, freed, mountOn, tagAt, allocation}
+use Rattle.rules.specs.Mount.{Request, freed, mountOn, tagAt, allocation, stepped}
 use Rattle.le.specs.Mem.{get}
 use Rattle.rules.proofs.Fields.{get-fits}
 use Rattle.rules.proofs.Allocation.{exact}
@@ -34,7 +36,8 @@ use Rattle.placing.specs.Place.{placeMem, Places}
 use Rattle.placing.specs.declared.Tags.{Tags}
 use Rattle.placing.proofs.Stands.{slot-of, view-placed, keeps-placed}
 use Rattle.tables.specs.declared.mounts.MountPoint.{MountPoint}
-use Rattle.vfs.specs.Mounting.{requestOf, mountedTold, allocMem, finishMem, Finishes, EndsAt, MountsAt, Allocates, byFound, Unrooted}
+use Rattle.vfs.specs.Follows.{Follows}
+use Rattle.vfs.specs.Mounting.{requestOf, mountedTold, allocMem, endMem, Finishes, EndsAt, MountsAt, Allocates, byFound, unrootedRule}
 use Rattle.vfs.specs.Restoring.{restoredTold, RestoresAt}
 use Rattle.vfs.specs.declared.backend.Backend.{Backend}
 use Rattle.vfs.specs.declared.mounting.Mounted.{Mounted}
@@ -60,7 +63,7 @@ module _ (mem : List ℕ) (k x : ℕ) (b : Backend) (l : laid mem ≡ true) wher
 
   -- rows 7 and 8 as they are told
   large-told : maxIno < b .root .0 → (v : Answer) (n : ℕ) → EndsAt mem k x b v n (counted INODE n) mem
-  unfolding finishMem
+  unfolding endMem
   large-told h v n =
       let e : ltb maxIno (b .root .0) ≡ true = lt-ltb maxIno (b .root .0) h in
       record { told = rw e; bytes = rw e; stands = rw e; keeps = l }
@@ -77,7 +80,7 @@ module _ (mem : List ℕ) (k x : ℕ) (b : Backend) (low : b .root .0 ≤ maxIno
   placed-told : (values : Option ℕ → Option ℕ → Answer) (n : ℕ)
       → EndsAt mem k x b (values (tagAt (mountOf (view mem .tree) x) (view mem)) (tagOf (freed (mountOf (view mem .tree) x) (view mem)) k)) n
       (record { code = DONE; answer = values (tagIn (r .replaced)) (tagIn (r .displaced)); count = n }) after
-  unfolding finishMem
+  unfolding endMem
   placed-told values n =
       let e : ltb maxIno (b .root .0) ≡ false = le-ltb maxIno (b .root .0) low in
       record {
@@ -101,6 +104,17 @@ pub counter-in : (mem : List ℕ) → Bytes mem → counterOf (view mem) < 256
 unfolding view row get
 counter-in mem bytes = get-fits 1 mem 81 bytes
 
+-- ---- the counter moved
+
+module _ (mem : List ℕ) (l : laid mem ≡ true) where
+  pub alloc-view : view (allocMem mem) ≡ stepped (view mem)
+  unfolding allocMem allocation allocate
+  alloc-view = view-counter (allocation (view mem) .counter) mem (mod-lt _ (lit< tt)) (omega (arith, laid-long mem l))
+
+  pub alloc-keeps : laid (allocMem mem) ≡ true
+  unfolding allocMem
+  alloc-keeps = keeps-counter mem l (allocation (view mem) .counter)
+
 -- ---- the search over the bytes is the allocation of the view
 
 module _ (mem : List ℕ) (l : laid mem ≡ true) (bytes : Bytes mem) where
@@ -118,31 +132,37 @@ module _ (mem : List ℕ) (l : laid mem ≡ true) (bytes : Bytes mem) where
   unfolding allocation
   index-up k e = exact (heldIn (view mem)) (counterOf (view mem)) (counter-in mem bytes) .handed-out k .0 e .1 .least
 
-  pub allocates : (a : Allocated) → readOf a ≡ toldFound (allocate (heldAt mem) (counterAt mem)) → (after : List ℕ) → after ≡ setCounter (a .«next_super») mem → a .«next_super» < 256 → Allocates mem a after
+  pub allocates : (a : Allocated) → readOf a ≡ toldFound (allocate (heldAt mem) (counterAt mem)) → (after : List ℕ) → after ≡ setCounter (a .«next_super») mem → Allocates mem a after
   unfolding readOf toldFound foundOf allocMem
-  allocates a h after w low =
+  allocates a h after w =
       let as-told : readOf a ≡ toldFound (allocation (view mem)) = h ∙ ap toldFound (sym allocation-is) in
-      let found : foundOf (a .answer) ≡ allocation (view mem) .found = ap (λ t. t .found) as-told in
-      let moved : a .«next_super» ≡ allocation (view mem) .counter = ap (λ t. t .counter) as-told in
+      let exactly : after ≡ allocMem mem = w ∙ ap (λ t. setCounter (t .counter) mem) as-told in
       record {
-        found = found;
-        least = λ k e. index-up k (sym found ∙ ap foundOf e);
-        visited = ap (λ t. t .count) as-told;
-        bytes = w ∙ ap (λ c. setCounter c mem) moved;
-        stands = ap view w ∙ view-counter (a .«next_super») mem low (omega (arith, laid-long mem l)) ∙ ap (λ c. withCounter c (view mem)) moved;
-        keeps = ap laid w ∙ keeps-counter mem l (a .«next_super»);
+        answer = as-told;
+        least = λ k e. index-up k (sym (ap (λ t. t .found) as-told) ∙ ap foundOf e);
+        bytes = exactly;
+        stands = ap view exactly ∙ alloc-view mem l;
+        keeps = ap laid exactly ∙ alloc-keeps mem l;
       }
 
 -- ---- rows 5 and 6 of a path without leading slash
 
 module _ (mem : List ℕ) (a : Allocated) (after : List ℕ) (g : Allocates mem a after) where
-  moves : (r : Mounted) → mountedTold r ≡ counted (byFound (foundOf (a .answer))) (a .count) → Unrooted mem r after
-  moves r t = record { told = t ∙ (λ i. counted (byFound (g .found i)) (g .visited i)); bytes = g .bytes; stands = g .stands; keeps = g .keeps }
+  pub found-is : foundOf (a .answer) ≡ allocation (view mem) .found
+  unfolding readOf toldFound
+  found-is = ap (λ t. t .found) (g .answer)
 
-  pub no-slash : (k : ℕ) → a .answer ≡ Index k → Unrooted mem (Inval (a .count)) after
+  pub visited-is : a .count ≡ length (allocation (view mem) .visits)
+  unfolding readOf toldFound
+  visited-is = ap (λ t. t .count) (g .answer)
+
+  moves : (r : Mounted) → mountedTold r ≡ counted (byFound (foundOf (a .answer))) (a .count) → Follows (unrootedRule (view mem)) (allocMem mem) (mountedTold r) after
+  moves r t = record { told = t ∙ (λ i. counted (byFound (found-is i)) (visited-is i)); bytes = g .bytes; stands = g .stands; keeps = g .keeps }
+
+  pub no-slash : (k : ℕ) → a .answer ≡ Index k → Follows (unrootedRule (view mem)) (allocMem mem) (mountedTold (Inval (a .count))) after
   unfolding mountedTold foundOf
   no-slash k e = moves (Inval (a .count)) (rw e)
 
-  pub all-held : a .answer ≡ IndexFull → Unrooted mem (Full (a .count)) after
+  pub all-held : a .answer ≡ IndexFull → Follows (unrootedRule (view mem)) (allocMem mem) (mountedTold (Full (a .count))) after
   unfolding mountedTold foundOf
   all-held e = moves (Full (a .count)) (rw e)

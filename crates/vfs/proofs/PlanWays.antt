@@ -25,13 +25,15 @@ use Rattle.plan.specs.Apply.{appendAll}
 use Rattle.plan.specs.declared.Planned.{Planned}
 use Rattle.plan.specs.declared.Planned.the-variants.{Fits, NoRoom as PlanNoRoom}
 use Rattle.plan.proofs.Walked.{Fitted, fitted, refused as refused-plan, planned-none, room-none, fitted-over, view-walked, keeps-walked}
-use Rattle.vfs.specs.Mounting.{requestOf, mountedTold, finishMem, walkMem, plannedMem, foundMem, rootedMem, rootedRule, EndsAt, MountsAt, Allocates, Follows}
+use Rattle.vfs.specs.Follows.{Follows}
+use Rattle.vfs.specs.Mounting.{requestOf, mountedTold, endMem, walkMem, plannedMem, foundMem, rootedMem, rootedRule, EndsAt, MountsAt, Allocates}
 use Rattle.vfs.specs.Restoring.{restoredTold, restoredRule, restoredMem, RestoresAt}
 use Rattle.vfs.specs.declared.backend.Backend.{Backend}
 use Rattle.vfs.specs.declared.mounting.Mounted.{Mounted}
 use Rattle.vfs.specs.declared.mounting.Mounted.the-variants.{NoRoom, Full}
 use Rattle.vfs.specs.declared.restoring.Restored.{Restored}
 use Rattle.vfs.specs.declared.restoring.Restored.the-variants.{NoRoom as Restored-NoRoom}
+use Rattle.vfs.proofs.MountWays.{found-is, visited-is}
 
 -- ---- the nodes of the path: m has them all, and the path ends at x
 
@@ -66,9 +68,9 @@ module _ (mem path : List ℕ) (l : laid mem ≡ true) where
     unfolding walkMem
     leads-view = ap view (g .made) ∙ view-walked mem path l s (g .room)
 
-    leads-bytes : (k : ℕ) (b : Backend) → finishMem k (requestOf [] b) x m ≡ plannedMem k (requestOf path b) mem
-    unfolding plannedMem finishMem
-    leads-bytes k b = λ i. finishMem k (requestOf [] b) (g .ends i) (g .made i)
+    leads-bytes : (k : ℕ) (b : Backend) → endMem k (requestOf [] b) x m ≡ plannedMem k (requestOf path b) mem
+    unfolding plannedMem endMem
+    leads-bytes k b = λ i. endMem k (requestOf [] b) (g .ends i) (g .made i)
 
 -- the search changes nothing of the tree
 module _ (mem path : List ℕ) (a : Allocated) (mid : List ℕ) (g : Allocates mem a mid) where
@@ -83,7 +85,7 @@ module _ (mem path : List ℕ) (a : Allocated) (mid : List ℕ) (g : Allocates m
 
 ends-follow : (m : List ℕ) (k x : ℕ) (b : Backend) (v : Answer) (n : ℕ) (t : Told) (after : List ℕ) → EndsAt m k x b v n t after → (o big done : Outcome) (exact : List ℕ)
     → o ≡ cond (ltb maxIno (b .root .0)) big done → toldBy big ≡ counted INODE n → toldBy done ≡ record { code = DONE; answer = v; count = n }
-    → big .after ≡ view m → done .after ≡ placed k (requestOf [] b) x (view m) → finishMem k (requestOf [] b) x m ≡ exact → Follows o exact t after
+    → big .after ≡ view m → done .after ≡ placed k (requestOf [] b) x (view m) → endMem k (requestOf [] b) x m ≡ exact → Follows o exact t after
 ends-follow m k x b v n t after s o big done exact rule tb td ab ad e = go (ltb maxIno (b .root .0)) rule (s .told) (s .stands)
   where
     go : (c : Bool) → o ≡ cond c big done → t ≡ cond c (counted INODE n) (record { code = DONE; answer = v; count = n }) → view after ≡ cond c (view m) (placed k (requestOf [] b) x (view m)) → Follows o exact t after
@@ -121,13 +123,13 @@ module _ (mem path : List ℕ) (b : Backend) where
       pub full-way : a .answer ≡ IndexFull → Ends (Full (a .count)) mid
       unfolding rootedMem mountedTold foundMem foundOf mountAs
       full-way f =
-          let z : allocation (view mem) .found ≡ none = sym (g .found) ∙ ap foundOf f in
-          record { told = rw (room, z) (ap (counted FULL) (g .visited)); bytes = rw (room, z) (g .bytes); stands = rw (room, z) (g .stands); keeps = g .keeps }
+          let z : allocation (view mem) .found ≡ none = sym (found-is mem a mid g) ∙ ap foundOf f in
+          record { told = rw (room, z) (ap (counted FULL) (visited-is mem a mid g)); bytes = rw (room, z) (g .bytes); stands = rw (room, z) (g .stands); keeps = g .keeps }
 
       module _ (on : rooted path ≡ true) (k : ℕ) (f : a .answer ≡ Index k) where
         got : allocation (view mem) .found ≡ some k
         unfolding foundOf
-        got = sym (g .found) ∙ ap foundOf f
+        got = sym (found-is mem a mid g) ∙ ap foundOf f
 
         abbrev Walked : Instance
         Walked = walkedTo path (stepped (view mem))
@@ -152,8 +154,8 @@ module _ (mem path : List ℕ) (b : Backend) where
             let y : x ≡ ended (view mem) path = w .ends ∙ (λ i. ended (g .stands i) path) in
             let tag : tagAt (mountOf (view m .tree) x) (view m) ≡ tagAt (mountThere (view mem) path) (view mem) =
             (λ i. tagAt (mountOf (v i .tree) (y i)) (v i)) ∙ tag-kept (mountThere (view mem) path) Walked (view mem) refl in
-            ends-follow m k x b _ (a .count) (mountedTold r) after e (rootedRule (view mem) R) Big Done (rootedMem R mem) rule-is (ap (counted INODE) (sym (g .visited)))
-            (λ i. record { code = DONE; answer = mounted k (sym tag i); count = sym (g .visited) i }) (sym v) (λ i. placed k R (sym y i) (sym v i))
+            ends-follow m k x b _ (a .count) (mountedTold r) after e (rootedRule (view mem) R) Big Done (rootedMem R mem) rule-is (ap (counted INODE) (sym (visited-is mem a mid g)))
+            (λ i. record { code = DONE; answer = mounted k (sym tag i); count = sym (visited-is mem a mid g) i }) (sym v) (λ i. placed k R (sym y i) (sym v i))
             (leads-bytes mid path (g .keeps) s m x w k b ∙ rw (room, got) (ap (plannedMem k R) (g .bytes)))
 
 -- ---- restored mount

@@ -13,7 +13,8 @@ use Rattle.rules.specs.Outcome.{Outcome, refused, firstOf}
 use Rattle.rules.specs.Mount.{Request, restoreAs, restoreMountRule}
 use Rattle.tables.specs.View.{view}
 use Rattle.tables.specs.Call.{toldBy, Does}
-use Rattle.vfs.specs.Mounting.{requestOf, Follows}
+use Rattle.vfs.specs.Follows.{Follows}
+use Rattle.vfs.specs.Mounting.{requestOf}
 use Rattle.vfs.specs.Restoring.{restoredTold, restoredRule, restoredMem, stopped, restoreMem}
 use Rattle.vfs.specs.declared.backend.Backend.{Backend}
 use Rattle.vfs.specs.declared.restoring.Restored.{Restored}

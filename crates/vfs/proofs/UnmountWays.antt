@@ -6,7 +6,6 @@ use mathlib.Core.Option.{Option, none, some}
 use Prim.Native.Nat.{ℕ, _<_}
 use borrow.Author.Tests.{not-true}
 use Rattle.rules.specs.Numbers.{INVAL, NOTFOUND}
-use Rattle.rules.specs.Path.{components}
 use Rattle.rules.specs.Tree.{Mount, Node, parentIn}
 use Rattle.rules.specs.Instance.{Instance, mountOf}
 use Rattle.rules.specs.Outcome.{Outcome, unmounted, refused, firstOf}
@@ -14,22 +13,23 @@ use Rattle.rules.specs.Unmount.{badPath, reached, unmounts, unmountAt, unmountR
 use Rattle.tables.specs.View.{nodesOf, view}
 use Rattle.tables.specs.Rule.{laid}
 use Rattle.tables.proofs.Places.{view-nodes}
-use Rattle.tables.specs.Answer.{mountOfPoint, mountIn}
-use Rattle.tables.specs.Call.{toldBy, Does}
+use Rattle.tables.specs.Answer.{foundIn, mountOfPoint, mountIn}
+use Rattle.tables.specs.Call.{Does}
+use Rattle.tables.specs.declared.rows.Found.{Found}
+use Rattle.tables.specs.declared.rows.Found.the-variants.{Node as FoundNode, Nothing as FoundNothing}
 use Rattle.tables.specs.declared.slots.Tag.{Tag}
 use Rattle.tables.specs.declared.mounts.MountPoint.{MountPoint}
 use Rattle.tables.specs.declared.mounts.MountOn.{MountOn}
 use Rattle.tables.specs.declared.mounts.MountOn.the-variants.{Point, Nothing}
 use Rattle.inode.specs.declared.NodeNumber.{NodeNumber}
-use Rattle.pseudo_fs.specs.Walks.{Walks, walkedOf}
 use Rattle.pseudo_fs.specs.Told.{faultOf}
 use Rattle.pseudo_fs.specs.declared.PathFault.{PathFault}
 use Rattle.pseudo_fs.specs.declared.PathFault.the-variants.{Utf8, Slash, Sound}
-use Rattle.pseudo_fs.specs.declared.inner.Walked.{Walked}
-use Rattle.pseudo_fs.specs.declared.inner.Walked.the-variants.{At, Missing}
+use Rattle.pseudo_fs.proofs.Walks.{reaches, misses}
 use Rattle.pseudo_fs.proofs.Calls.{fault-bad}
 use Rattle.placing.specs.Place.{TakesOff}
 use Rattle.placing.proofs.Stands.{view-taken-off, keeps-taken-off}
+use Rattle.vfs.specs.Follows.{Follows}
 use Rattle.vfs.specs.Unmounting.{unmountedTold, offMem, unmountMem, Unmounts}
 use Rattle.vfs.specs.declared.unmounting.Unmounted.{Unmounted}
 use Rattle.vfs.specs.declared.unmounting.Unmounted.the-variants.{Done, NotFound, Inval, Small}
@@ -38,16 +38,11 @@ use Rattle.storage.proofs.Calls.{does-small, does-nothing, does}
 
 -- ---- of a node, by the mount on it
 
-record UnmountsBy (mem : List ℕ) (x : ℕ) (m : Option Mount) (r : Unmounted) (after : List ℕ) : Type 0 where
-  told : unmountedTold r ≡ toldBy (unmountAt (view mem) (some x) m)
-  bytes : after ≡ offMem (some x) m mem
-  stands : view after ≡ unmountAt (view mem) (some x) m .after
-  keeps : laid after ≡ true
+abbrev UnmountsBy : List ℕ → ℕ → Option Mount → Unmounted → List ℕ → Type 0
+UnmountsBy mem x m r after = Follows (unmountAt (view mem) (some x) m) (offMem (some x) m mem) (unmountedTold r) after
 
 by-mount : (mem : List ℕ) (x : ℕ) (m : Option Mount) (r : Unmounted) (after : List ℕ) → mountOf (view mem .tree) x ≡ m → UnmountsBy mem x m r after → Unmounts mem x r after
-by-mount mem x m r after e u =
-    let v : UnmountsBy mem x (mountOf (view mem .tree) x) r after = subst (λ (z : Option Mount). UnmountsBy mem x z r after) (sym e) u in
-    record { told = v .told; bytes = v .bytes; stands = v .stands; keeps = v .keeps }
+by-mount mem x m r after e u = subst (λ (z : Option Mount). UnmountsBy mem x z r after) (sym e) u
 
 pub takes : (mem after : List ℕ) (x up : ℕ) (on : MountOn) (m : MountPoint) (t : Tag) → laid mem ≡ true → mountIn on ≡ mountOf (view mem .tree) x → on ≡ Point m → m .«fs_idx» < 256
     → up ≡ parentIn (nodesOf mem) x → TakesOff mem (mountOfPoint m) x t after → (a b : NodeNumber) → a .0 ≡ x → b .0 ≡ up → Unmounts mem x (Done a b t) after
@@ -77,14 +72,6 @@ module _ (mem path : List ℕ) where
   unfolding unmountMem unmountedTold unmountRule firstOf
   bad e b = does-nothing mem F (unmountedTold Inval) (unmountMem path mem) (refused INVAL (view mem)) e (rw b) refl refl (rw (e, b))
 
-  walk-is : (o : Walked) → Walks (nodesOf mem) (components 0 path) o → walkedOf o ≡ reached (view mem) path
-  unfolding reached view
-  walk-is o w = w .node
-
-  pub reaches : (o : Walked) → Walks (nodesOf mem) (components 0 path) o → (x : ℕ) → o ≡ At x → reached (view mem) path ≡ some x
-  unfolding walkedOf
-  reaches o w x q = sym (walk-is o w) ∙ ap walkedOf q
-
   -- by what the tests answered
   module _ (l : Bool) (le : l ≡ laid mem) where
     pub small : not l ≡ true → Does mem F (unmountedTold Small) mem (unmountMem path mem)
@@ -100,19 +87,19 @@ module _ (mem path : List ℕ) where
       pub bad-slash : t ≡ Slash → Does mem F (unmountedTold Inval) mem (unmountMem path mem)
       bad-slash e = bad (laid-by mem l le on) (fault-bad path te e)
 
-      module _ (sound : t ≡ Sound) (o : Walked) (k : Walks (nodesOf mem) (components 0 path) o) where
+      module _ (sound : t ≡ Sound) (o : Found) (k : foundIn o ≡ reached (view mem) path) where
         path-good : badPath path ≡ false
         path-good = fault-bad path te sound
 
-        pub missing : (p : ℕ) → o ≡ Missing p → Does mem F (unmountedTold NotFound) mem (unmountMem path mem)
-        unfolding walkedOf unmountMem unmountedTold unmountRule unmountAt offMem firstOf
-        missing p q =
-            let n : reached (view mem) path ≡ none = sym (walk-is o k) ∙ ap walkedOf q in
+        pub missing : o ≡ FoundNothing → Does mem F (unmountedTold NotFound) mem (unmountMem path mem)
+        unfolding unmountMem unmountedTold unmountRule unmountAt offMem firstOf
+        missing q =
+            let n : reached (view mem) path ≡ none = misses _ o k q in
             does-nothing mem F (unmountedTold NotFound) (unmountMem path mem) (refused NOTFOUND (view mem)) (laid-by mem l le on) (rw (path-good, n)) refl refl (rw (laid-by mem l le on, path-good, n))
 
-        pub arrived : (x : ℕ) → o ≡ At x → (v : Unmounted) (after : List ℕ) → Unmounts mem x v after → Does mem F (unmountedTold v) after (unmountMem path mem)
+        pub arrived : (x : ℕ) → o ≡ FoundNode x → (v : Unmounted) (after : List ℕ) → Unmounts mem x v after → Does mem F (unmountedTold v) after (unmountMem path mem)
         unfolding unmountMem unmountRule firstOf
         arrived x q v after f =
-            let n : reached (view mem) path ≡ some x = reaches o k x q in
+            let n : reached (view mem) path ≡ some x = reaches _ o k x q in
             does mem F (unmountedTold v) after (unmountMem path mem) (unmountAt (view mem) (some x) (mountOf (view mem .tree) x)) (laid-by mem l le on) (rw (path-good, n)) (f .told)
             (f .bytes ∙ sym (rw (laid-by mem l le on, path-good, n))) (f .stands) (f .keeps)

@@ -4,22 +4,21 @@ use mathlib.Core.Bool.{Bool, true, cond, not, _||_}
 use mathlib.Core.List.{List, []}
 use mathlib.Core.Option.{Option, none, some}
 use mathlib.Core.Path.{_≡_}
-use lib.ListN.{length}
 use lib.Dec.{ltb}
 use Rattle.rules.specs.Numbers.{maxIno, DONE, INVAL, TOOLONG, INODE, FULL, NOROOM}
 use Rattle.rules.specs.Utf8.{wellFormed}
 use Rattle.rules.specs.Path.{rooted, tooLong}
 use Rattle.rules.specs.Instance.{Instance, mountOf, tagOf}
-use Rattle.rules.specs.Outcome.{Answer, mounted, Outcome, refused}
-use Rattle.rules.specs.Mount.{Request, planned, noRoom, ended, freed, mountOn, tagAt, placed, allocation, stepped, mountAs}
-use Rattle.index.specs.Search.{foundOf}
+use Rattle.rules.specs.Outcome.{Answer, nothing, mounted, Outcome, refused}
+use Rattle.rules.specs.Mount.{Request, planned, noRoom, ended, freed, mountOn, tagAt, placed, allocation, stepped, allocated, mountAs}
+use Rattle.index.specs.Search.{readOf, told}
 use Rattle.index.specs.declared.FsIndex.the-variants.{Index}
 use Rattle.index.specs.declared.Allocated.{Allocated}
 use Rattle.tables.specs.View.{view}
 use Rattle.tables.specs.Rule.{laid}
 use Rattle.tables.specs.Write.{setCounter}
 use Rattle.tables.specs.Answer.{tagIn}
-use Rattle.tables.specs.Call.{Told, toldBy, counted, refuses, toldSmall}
+use Rattle.tables.specs.Call.{Told, counted, refuses, toldSmall}
 use Rattle.placing.specs.Place.{placeMem}
 use Rattle.placing.specs.declared.Tags.{Tags}
 use Rattle.plan.specs.Apply.{appendAll}
@@ -48,8 +47,8 @@ unfoldable pub allocMem : List ℕ → List ℕ
 allocMem mem = setCounter (allocation (view mem) .counter) mem
 
 -- rows 7 and 8 on the node x (R74, R76)
-unfoldable pub finishMem : ℕ → Request → ℕ → List ℕ → List ℕ
-finishMem k r x mem = cond (ltb maxIno (r .root)) mem (placeMem (mountOn k r) (r .tag) x mem)
+unfoldable pub endMem : ℕ → Request → ℕ → List ℕ → List ℕ
+endMem k r x mem = cond (ltb maxIno (r .root)) mem (placeMem (mountOn k r) (r .tag) x mem)
 
 -- the nodes of the mount walk are made (R48)
 unfoldable pub walkMem : List ℕ → List ℕ → List ℕ
@@ -57,7 +56,7 @@ walkMem path mem = appendAll (planned (view mem .tree) path .nodes) mem
 
 -- the walk, then rows 7 and 8 where it ends
 unfoldable pub plannedMem : ℕ → Request → List ℕ → List ℕ
-plannedMem k r mem = finishMem k r (ended (view mem) (r .path)) (walkMem (r .path) mem)
+plannedMem k r mem = endMem k r (ended (view mem) (r .path)) (walkMem (r .path) mem)
 
 -- rows 5, 7 and 8, by what the allocation finds
 unfoldable pub foundMem : Option ℕ → Request → List ℕ → List ℕ
@@ -89,7 +88,7 @@ pub record Finishes (mem : List ℕ) (k x : ℕ) (b : Backend) (r : Tags) (after
 -- rows 7 and 8 on the node x, as they are told: the root number is too large, or the values given; with a count (R74, R75)
 pub record EndsAt (mem : List ℕ) (k x : ℕ) (b : Backend) (values : Answer) (n : ℕ) (t : Told) (after : List ℕ) : Type 0 where
   pub told : t ≡ cond (ltb maxIno (b .root .0)) (counted INODE n) (record { code = DONE; answer = values; count = n })
-  pub bytes : after ≡ finishMem k (requestOf [] b) x mem
+  pub bytes : after ≡ endMem k (requestOf [] b) x mem
   pub stands : view after ≡ cond (ltb maxIno (b .root .0)) (view mem) (placed k (requestOf [] b) x (view mem))
   pub keeps : laid after ≡ true
 
@@ -99,9 +98,8 @@ MountsAt mem k n x b r after = EndsAt mem k x b (mounted k (tagAt (mountOf (view
 
 -- the search and the counter moved by it (R80 to R84)
 pub record Allocates (mem : List ℕ) (a : Allocated) (after : List ℕ) : Type 0 where
-  pub found : foundOf (a .answer) ≡ allocation (view mem) .found
+  pub answer : readOf a ≡ told (allocation (view mem))
   pub least : (k : ℕ) → a .answer ≡ Index k → 1 ≤ k
-  pub visited : a .count ≡ length (allocation (view mem) .visits)
   pub bytes : after ≡ allocMem mem
   pub stands : view after ≡ stepped (view mem)
   pub keeps : laid after ≡ true
@@ -112,19 +110,9 @@ byFound none = FULL
 byFound (some k) = INVAL
 
 -- rows 5 and 6, of a path without leading slash: the counter has moved (R72, R73)
-pub record Unrooted (mem : List ℕ) (r : Mounted) (after : List ℕ) : Type 0 where
-  pub told : mountedTold r ≡ counted (byFound (allocation (view mem) .found)) (length (allocation (view mem) .visits))
-  pub bytes : after ≡ allocMem mem
-  pub stands : view after ≡ stepped (view mem)
-  pub keeps : laid after ≡ true
+abbrev pub unrootedRule : Instance → Outcome
+unrootedRule i = allocated i (byFound (allocation i .found)) nothing (stepped i)
 
 -- from row 4 on, of a path with leading slash (R71 to R79)
 abbrev pub rootedRule : Instance → Request → Outcome
 rootedRule i r = cond (noRoom i (r .path)) (refused NOROOM i) (mountAs i r (allocation i .found))
-
--- an outcome told, and the bytes after: exactly these, which stand for what it leaves and keep the layout rule
-pub record Follows (o : Outcome) (exact : List ℕ) (t : Told) (after : List ℕ) : Type 0 where
-  pub told : t ≡ toldBy o
-  pub bytes : after ≡ exact
-  pub stands : view after ≡ o .after
-  pub keeps : laid after ≡ true

@@ -1,9 +1,8 @@
 -- Unmount: what its answer tells, and the bytes that it leaves.
 use Prim.Native.Nat.{ℕ}
-use mathlib.Core.Bool.{true, cond}
+use mathlib.Core.Bool.{cond}
 use mathlib.Core.List.{List}
 use mathlib.Core.Option.{Option, none, some}
-use mathlib.Core.Path.{_≡_}
 use Rattle.rules.specs.Numbers.{NOTFOUND, INVAL}
 use Rattle.rules.specs.Tree.{Mount}
 use Rattle.rules.specs.Instance.{mountOf}
@@ -12,8 +11,9 @@ use Rattle.rules.specs.Unmount.{badPath, reached, mountUnder, unmountAt}
 use Rattle.tables.specs.View.{view}
 use Rattle.tables.specs.Rule.{laid}
 use Rattle.tables.specs.Answer.{tagIn}
-use Rattle.tables.specs.Call.{Told, toldBy, tells, refuses, toldSmall}
+use Rattle.tables.specs.Call.{Told, tells, refuses, toldSmall}
 use Rattle.placing.specs.Place.{takeOffMem}
+use Rattle.vfs.specs.Follows.{Follows}
 use Rattle.vfs.specs.declared.unmounting.Unmounted.{Unmounted}
 use Rattle.vfs.specs.declared.unmounting.Unmounted.the-variants.{Done, NotFound, Inval, Small}
 
@@ -36,8 +36,6 @@ unmountMem path mem =
     cond (laid mem) (cond (badPath path) mem (offMem (reached (view mem) path) (mountUnder (view mem) (reached (view mem) path)) mem)) mem
 
 -- the unmount of the node x, as it is told, and the bytes after (R96 to R100)
-pub record Unmounts (mem : List ℕ) (x : ℕ) (r : Unmounted) (after : List ℕ) : Type 0 where
-  pub told : unmountedTold r ≡ toldBy (unmountAt (view mem) (some x) (mountOf (view mem .tree) x))
-  pub bytes : after ≡ offMem (some x) (mountOf (view mem .tree) x) mem
-  pub stands : view after ≡ unmountAt (view mem) (some x) (mountOf (view mem .tree) x) .after
-  pub keeps : laid after ≡ true
+abbrev pub Unmounts : List ℕ → ℕ → Unmounted → List ℕ → Type 0
+Unmounts mem x r after =
+    Follows (unmountAt (view mem) (some x) (mountOf (view mem .tree) x)) (offMem (some x) (mountOf (view mem .tree) x) mem) (unmountedTold r) after

@@ -1,6 +1,6 @@
 // The mount tables: mount, restored mount and unmount, on an instance in lent bytes.
 pub mod backend;
-pub mod inner;
+mod inner;
 pub mod mounting;
 pub mod restoring;
 pub mod unmounting;

@@ -7,12 +7,13 @@ ghost use Rattle.rules.specs.Path.{rooted, tooLong};
 ghost use Rattle.rules.specs.Mount.{mountRule};
 ghost use Rattle.tables.specs.View.{view};
 ghost use Rattle.tables.specs.Call.{Does};
-ghost use Rattle.vfs.specs.Mounting.{requestOf, mountedTold, mountMem, rootedMem, rootedRule, Allocates, Unrooted, MountsAt, Follows};
+ghost use Rattle.vfs.specs.Follows.{Follows};
+ghost use Rattle.vfs.specs.Mounting.{requestOf, mountedTold, allocMem, mountMem, rootedMem, unrootedRule, rootedRule, Allocates, MountsAt};
 use crate::backend::Backend;
 use index::Allocated;
 use index::FsIndex;
 use plan::Planned;
-use pseudo_fs::inner::Walked;
+use tables::rows::Found;
 use tables::slots::Tag;
 
 // What a mount answers: the index, the count and the tag replaced, or a refusal, with its count where it has one.
@@ -49,7 +50,7 @@ fn allocate(s: &mut [u8]) -> Allocated
 // Rows 5 and 6, of a path without leading slash: the counter has moved (R72, R73).
 fn unrooted(s: &mut [u8]) -> Mounted
     requires { ⌜ laid (now s) ≡ true ⌝ }
-    ensures { λ r. ⌜ Unrooted (now (s .entry)) r (now (s .exit)) ⌝ }
+    ensures { λ r. ⌜ Follows (unrootedRule (view (now (s .entry)))) (allocMem (now (s .entry))) (mountedTold r) (now (s .exit)) ⌝ }
 {
     let found = allocate(s);
     let answer = found.answer;
@@ -112,8 +113,8 @@ fn mount_rooted(s: &mut [u8], path: &[u8], b: Backend) -> Mounted
     ensures { λ r. ⌜ Follows (rootedRule (view (now (s .entry))) (requestOf (now (path .entry)) b)) (rootedMem (requestOf (now (path .entry)) b) (now (s .entry))) (mountedTold r) (now (s .exit)) ⌝ }
 {
     match pseudo_fs::inner::walk(s, path) {
-        Walked::Missing { .. } => mount_new(s, path, b),
-        Walked::At(x) => {
+        Found::Nothing => mount_new(s, path, b),
+        Found::Node(x) => {
             let a = allocate(s);
             let answer = a.answer;
             match answer {

@@ -8,11 +8,12 @@ ghost use Rattle.rules.specs.Mount.{restoreMountRule};
 ghost use Rattle.tables.specs.View.{view};
 ghost use Rattle.tables.specs.Rule.{laid};
 ghost use Rattle.tables.specs.Call.{Does};
-ghost use Rattle.vfs.specs.Mounting.{requestOf, Follows};
+ghost use Rattle.vfs.specs.Follows.{Follows};
+ghost use Rattle.vfs.specs.Mounting.{requestOf};
 ghost use Rattle.vfs.specs.Restoring.{restoredTold, restoredRule, restoredMem, restoreMem, RestoresAt};
 use crate::backend::Backend;
 use plan::Planned;
-use pseudo_fs::inner::Walked;
+use tables::rows::Found;
 use tables::slots::Tag;
 
 // What a restored mount answers: the tag replaced on the node and the tag displaced in the slot, or a refusal.
@@ -72,8 +73,8 @@ fn restore_rooted(s: &mut [u8], k: u8, path: &[u8], b: Backend) -> Restored
     ensures { λ r. ⌜ Follows (restoredRule (view (now (s .entry))) k (requestOf (now (path .entry)) b)) (restoredMem k (requestOf (now (path .entry)) b) (now (s .entry))) (restoredTold r) (now (s .exit)) ⌝ }
 {
     match pseudo_fs::inner::walk(s, path) {
-        Walked::Missing { .. } => restore_new(s, k, path, b),
-        Walked::At(x) => restore_at(s, k, x, b),
+        Found::Nothing => restore_new(s, k, path, b),
+        Found::Node(x) => restore_at(s, k, x, b),
     }
 }
 

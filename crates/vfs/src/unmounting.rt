@@ -8,11 +8,11 @@ ghost use Rattle.tables.specs.Call.{Does};
 ghost use Rattle.vfs.specs.Unmounting.{unmountedTold, unmountMem, Unmounts};
 use inode::NodeNumber;
 use pseudo_fs::PathFault;
-use pseudo_fs::inner::Walked;
 use pseudo_fs::inner::walk;
 use pseudo_fs::path_fault;
 use storage::is_laid;
 use tables::mounts::MountOn;
+use tables::rows::Found;
 use tables::slots::Tag;
 
 // What an unmount answers: the node, its parent and the tag released, or a refusal.
@@ -61,7 +61,7 @@ pub fn umount(s: &mut [u8], path: &[u8]) -> Unmounted
         PathFault::Sound => {}
     }
     match walk(s, path) {
-        Walked::At(x) => unmount_at(s, x),
-        Walked::Missing { .. } => Unmounted::NotFound,
+        Found::Node(x) => unmount_at(s, x),
+        Found::Nothing => Unmounted::NotFound,
     }
 }

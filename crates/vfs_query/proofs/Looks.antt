@@ -11,7 +11,7 @@ use Rattle.rules.specs.Tree.{Mount}
 use Rattle.rules.specs.Instance.{Instance, mountOf}
 use Rattle.rules.specs.Outcome.{Answer, Outcome, says}
 use Rattle.rules.specs.Lookup.{entryOf, lookupRule, outward}
-use Rattle.tables.specs.View.{mappingFrom, headOf, nodesOf, view}
+use Rattle.tables.specs.View.{nodesOf, view}
 use Rattle.tables.specs.Rule.{laid}
 use Rattle.tables.specs.Call.{toldBy, tells, answeredBy}
 use Rattle.tables.specs.Answer.{mountOfPoint}
@@ -67,7 +67,7 @@ module _ (mem : List ℕ) (x : ℕ) (p : List ℕ) (e : laid mem ≡ true) (r : 
     cross-mounted m g a =
         ap (λ (v : Answer). tells v) a ∙ (ap (λ (o : Outcome). toldBy o) (root-is (view mem) y m (mount-low mem y m g)) ∙ sym (by-find ∙ rw (q, sym g)))
 
-    pub cross-bare : none ≡ mountOf (view mem .tree) y → entryAnswer n ≡ pseudoAnswer (mappingFrom 7 (headOf mem)) y → lookedTold (LookedEntry n) ≡ answeredBy mem crossing
+    pub cross-bare : none ≡ mountOf (view mem .tree) y → entryAnswer n ≡ pseudoAnswer (view mem) y → lookedTold (LookedEntry n) ≡ answeredBy mem crossing
     unfolding lookedTold outcomeOf
     cross-bare g a =
         let h : y < 2 ^ 56 = found-low mem x p y (rw q at f) in

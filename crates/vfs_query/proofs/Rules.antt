@@ -1,4 +1,4 @@
--- The rules of the queries by the code's tests, and what each return tells. Assumes nothing.
+-- The rules of the queries by the code's tests. Assumes nothing.
 use mathlib.Core.Path.{_≡_, refl, sym, ap, _∙_}
 use mathlib.Core.Bool.{Bool, true, false, not}
 use mathlib.Core.List.{List}
@@ -8,8 +8,7 @@ use lib.Dec.{eqb}
 use borrow.Author.Tests.{eq-eqb, ne-eqb, not-true, not-false}
 use Rattle.rules.specs.Numbers.{rootNumber, indexOf, numberOf, INVAL}
 use Rattle.rules.specs.Ids.{Mapping, badMapping, wrapped, unwrapped, mapped, unmapped}
-use Rattle.rules.specs.Path.{components}
-use Rattle.rules.specs.Tree.{Mount, walk}
+use Rattle.rules.specs.Tree.{Mount}
 use Rattle.rules.specs.Instance.{Instance, tagIn as tagInSlot, tagOf, mountOf}
 use Rattle.rules.specs.Outcome.{toTree, rootfs, Outcome, refused, says, firstOf}
 use Rattle.rules.specs.Lookup.{routeTag, routeTree, routeRule, remapped}
@@ -17,22 +16,11 @@ use Rattle.rules.specs.Unmount.{badPath, reached, mountUnder, rootHeld, rootAt,
 use Rattle.rules.proofs.Ids.{wrapped-is-whole}
 use Rattle.tables.specs.View.{mappingFrom, headOf, slotAt, view}
 use Rattle.tables.specs.Rule.{laid}
-use Rattle.tables.specs.Call.{Told, toldBy, toldSmall, answeredBy}
 use Rattle.tables.specs.Answer.{tagIn}
 use Rattle.tables.specs.declared.slots.Tag.{Tag}
 use Rattle.tables.specs.declared.slots.Tag.the-variants.{Held, Empty}
-use Rattle.storage.proofs.Laid.{told-by, told-small}
 use Rattle.placing.proofs.Stands.{tag-of-is}
 use Rattle.pseudo_fs.proofs.Calls.{good-mapping}
-
--- ---- the layout rule's test, r
-
-pub small : (mem : List ℕ) (r : Bool) → r ≡ laid mem → (f : Instance → Outcome) → not r ≡ true → toldSmall ≡ answeredBy mem f
-small mem r e f t = sym (told-small mem f (sym e ∙ not-true r t))
-
--- a call that found the layout rule kept tells what its rule gives
-pub tells-by : (mem : List ℕ) (f : Instance → Outcome) (t : Told) (o : Outcome) → laid mem ≡ true → t ≡ toldBy o → f (view mem) ≡ o → t ≡ answeredBy mem f
-tells-by mem f t o e a b = a ∙ (ap toldBy (sym b) ∙ sym (told-by mem f e))
 
 -- ---- the tag of an index
 
@@ -80,19 +68,19 @@ module _ (i : Instance) (p : List ℕ) where
   root-bad b = rw b
 
   module _ (g : badPath p ≡ false) where
-    root-reached : (o : Option ℕ) → o ≡ walk (i .tree .nodes) rootNumber (components 0 p) → rootRule i p ≡ rootAt i (mountUnder i o)
-    unfolding rootRule firstOf reached
+    root-reached : (o : Option ℕ) → reached i p ≡ o → rootRule i p ≡ rootAt i (mountUnder i o)
+    unfolding rootRule firstOf
     root-reached o e = rw (g, e)
 
-    pub root-nowhere : none ≡ walk (i .tree .nodes) rootNumber (components 0 p) → rootRule i p ≡ says (rootfs none) i
+    pub root-nowhere : reached i p ≡ none → rootRule i p ≡ says (rootfs none) i
     unfolding rootAt
     root-nowhere e = root-reached none e
 
-    pub root-bare : (x : ℕ) → some x ≡ walk (i .tree .nodes) rootNumber (components 0 p) → none ≡ mountOf (i .tree) x → rootRule i p ≡ says (rootfs none) i
+    pub root-bare : (x : ℕ) → reached i p ≡ some x → none ≡ mountOf (i .tree) x → rootRule i p ≡ says (rootfs none) i
     unfolding rootAt
     root-bare x e m = root-reached (some x) e ∙ rw (sym m)
 
-    pub root-mounted : (x : ℕ) → some x ≡ walk (i .tree .nodes) rootNumber (components 0 p) → (m : Mount) → some m ≡ mountOf (i .tree) x
+    pub root-mounted : (x : ℕ) → reached i p ≡ some x → (m : Mount) → some m ≡ mountOf (i .tree) x
         → rootRule i p ≡ rootHeld i (m .index) (tagOf i (m .index))
     unfolding rootAt
     root-mounted x e m f = root-reached (some x) e ∙ rw (sym f)

@@ -1,12 +1,10 @@
 // What a host asks of the mount tables: routing, the root query, lookup across mounts, and ids by the mapping in force. Nothing is written.
 use inode::BackendNumber;
-use inode::Converted;
 use inode::NodeNumber;
 use inode::VfsInode;
 use pseudo_fs::Entry;
 use pseudo_fs::PathFault;
 use pseudo_fs::inner::Finding;
-use pseudo_fs::inner::Walked;
 use pseudo_fs::inner::find;
 use pseudo_fs::inner::pseudo_entry;
 use pseudo_fs::inner::walk;
@@ -16,11 +14,11 @@ use tables::mounts::MountOn;
 use tables::mounts::MountPoint;
 use tables::mounts::of_node;
 use tables::mounts::of_root;
+use tables::rows::Found;
 use tables::slots::Tag;
 use tables::slots::tag_of;
 ghost use mathlib.Core.Path.{_≡_};
 ghost use mathlib.Core.Bool.{true};
-ghost use Rattle.rules.specs.Numbers.{orZero, convert};
 ghost use Rattle.rules.specs.Instance.{Instance, tagOf};
 ghost use Rattle.rules.specs.Lookup.{routeTag, routeRule, lookupRule, remapped, remapRule};
 ghost use Rattle.rules.specs.Unmount.{rootHeld, rootRule};
@@ -125,11 +123,11 @@ pub fn get_rootfs(s: &[u8], path: &[u8]) -> Rootfs
         PathFault::Sound => {}
     }
     match walk(s, path) {
-        Walked::At(x) => match of_node(s, x) {
+        Found::Node(x) => match of_node(s, x) {
             MountOn::Point(m) => root_held(s, m.fs_idx),
             MountOn::Nothing => Rootfs::Nothing,
         },
-        Walked::Missing { .. } => Rootfs::Nothing,
+        Found::Nothing => Rootfs::Nothing,
     }
 }
 
@@ -158,26 +156,16 @@ pub fn remap_attr_id(s: &[u8], uid: u32, gid: u32, outward: bool) -> Remapped
     }
 }
 
-// The full number of a backend's number; 0 where the number is above 2^56 − 1, which no mount's is (R7, R8).
-fn full_number(index: u8, number: u64) -> VfsInode
-    ensures { λ r. ⌜ r .0 ≡ orZero (convert index number) ⌝ }
-{
-    match inode::convert_inode(index, BackendNumber(number)) {
-        Converted::Full(full) => full,
-        Converted::Inode => VfsInode(0),
-    }
-}
-
-// The root entry of a mount: its number converted from the root number, its ids mapped twice, its mode as the request brought it, block size 0 (R77, R108, R109).
+// The root entry of a mount: its full number from the root number, or 0 where that is above 2^56 − 1, which no mount's is, its ids mapped twice, its mode as the request brought it, block size 0 (R7, R77, R108, R109).
 fn root_entry(s: &[u8], m: MountPoint) -> Entry
     requires { ⌜ laid (now s) ≡ true ⌝ }
     ensures { λ r. ⌜ entryAnswer r ≡ rootAnswer (view (now (s .entry))) (mountOfPoint m) ⌝ }
 {
-    let inode = full_number(m.fs_idx, m.ino);
+    let full = inode::or_zero(inode::convert_inode(m.fs_idx, BackendNumber(m.ino)));
     let uid = remap(s, m.uid, true);
     let gid = remap(s, m.gid, true);
     Entry {
-        inode,
+        inode: full,
         mode: m.mode,
         uid: remap(s, uid, true),
         gid: remap(s, gid, true),

@@ -6,6 +6,7 @@ use denote.Ref.{now}
 use borrow.Author.Tests.{not-true, not-false}
 use Rattle.tables.specs.Rule.{laid}
 use Rattle.tables.proofs.Keeps.{laid-is}
+use Rattle.storage.proofs.Laid.{laid-by}
 use Rattle.listing.proofs.Answers.{lists-small, lists-nothing, lists-unknown, lists-laid}
 use borrow.Author.Needs.{needs}
 use Rattle.listing.proofs.readdir.Statement.{statement}
@@ -13,7 +14,7 @@ use Rattle.listing.proofs.readdir.Tie as tie
 
 -- behind the first test the layout rule holds
 on : (c : tie.Else1) → laid (now (c .before .before .before .before .args .s)) ≡ true
-on c = sym (c .before .is-laid .ensures) ∙ not-false _ (c .if1 .left)
+on c = laid-by _ _ (c .before .is-laid .ensures) (c .if1 .left)
 
 returns : tie.Need-returns
 returns c = lists-small _ _ _ _ _ (sym (c .before .is-laid .ensures) ∙ not-true _ (c .if1 .taken))

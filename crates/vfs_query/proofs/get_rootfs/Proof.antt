@@ -3,15 +3,14 @@ use mathlib.Core.Path.{_≡_, refl, sym, ap, _∙_}
 use mathlib.Core.Bool.{true, false}
 use denote.Ref.{now}
 use Rattle.rules.specs.Unmount.{badPath}
-use Rattle.pseudo_fs.specs.Walks.{walkedOf}
+use Rattle.pseudo_fs.proofs.Walks.{reaches, misses}
 use Rattle.pseudo_fs.proofs.Calls.{fault-bad}
-use Rattle.tables.specs.View.{view}
 use Rattle.tables.specs.Rule.{laid}
 use Rattle.tables.specs.Answer.{mountIn}
 use Rattle.tables.proofs.Keeps.{laid-is}
 use Rattle.vfs_query.specs.Told.{rootfsTold}
-use Rattle.storage.proofs.Laid.{laid-by}
-use Rattle.vfs_query.proofs.Rules.{small, tells-by, root-bad, root-nowhere, root-bare, root-mounted}
+use Rattle.storage.proofs.Laid.{tells-by, tells-small, laid-by}
+use Rattle.vfs_query.proofs.Rules.{root-bad, root-nowhere, root-bare, root-mounted}
 use borrow.Author.Needs.{needs}
 use Rattle.vfs_query.proofs.get_rootfs.Statement.{statement}
 use Rattle.vfs_query.proofs.get_rootfs.Tie as tie
@@ -21,7 +20,7 @@ laid-here c = laid-by _ _ (c .before .is-laid .ensures) (c .if1 .left)
 
 returns : tie.Need-returns
 unfolding rootfsTold
-returns c = small _ _ (c .before .is-laid .ensures) _ (c .if1 .taken)
+returns c = tells-small _ _ (c .before .is-laid .ensures) _ (c .if1 .taken)
 
 returns-2 : tie.Need-returns-2
 unfolding rootfsTold
@@ -47,26 +46,26 @@ root-held-requires : tie.Need-root-held-requires
 root-held-requires c κs = kept (c .before .before .before .before .before .before .before .before)
 
 returns-4 : tie.Need-returns-4
-unfolding walkedOf mountIn view
+unfolding mountIn
 returns-4 c =
     let o = c .before .before .before .before in
     let w = o .before .before .before .before in
     tells-by _ _ _ _ (kept (w .before)) (c .root-held .ensures)
-    (root-mounted _ _ (sound (w .before)) _ (sym (ap walkedOf (o .before .before .x .given .1)) ∙ w .walk .ensures .node) _ (sym (ap mountIn (c .before .before .m .given .1)) ∙ o .of-node .ensures))
+    (root-mounted _ _ (sound (w .before)) _ (reaches _ _ (w .walk .ensures) _ (o .before .before .x .given .1)) _ (sym (ap mountIn (c .before .before .m .given .1)) ∙ o .of-node .ensures))
 
 returns-5 : tie.Need-returns-5
-unfolding rootfsTold walkedOf mountIn view
+unfolding rootfsTold mountIn
 returns-5 c =
     let o = c .before .before in
     let w = o .before .before .before .before in
     tells-by _ _ _ _ (kept (w .before)) refl
-    (root-bare _ _ (sound (w .before)) _ (sym (ap walkedOf (o .before .before .x .given .1)) ∙ w .walk .ensures .node) (sym (ap mountIn (c .enum-told4 .given .1)) ∙ o .of-node .ensures))
+    (root-bare _ _ (sound (w .before)) _ (reaches _ _ (w .walk .ensures) _ (o .before .before .x .given .1)) (sym (ap mountIn (c .enum-told4 .given .1)) ∙ o .of-node .ensures))
 
 returns-6 : tie.Need-returns-6
-unfolding rootfsTold walkedOf view
+unfolding rootfsTold
 returns-6 c =
     let w = c .before .before in
-    tells-by _ _ _ _ (kept (w .before)) refl (root-nowhere _ _ (sound (w .before)) (sym (ap walkedOf (c .enum-told5 .given .1)) ∙ w .walk .ensures .node))
+    tells-by _ _ _ _ (kept (w .before)) refl (root-nowhere _ _ (sound (w .before)) (misses _ _ (w .walk .ensures) (c .enum-told5 .given .1)))
 
 pub get-rootfs-spec : {M : Type 1} → statement M
 get-rootfs-spec =

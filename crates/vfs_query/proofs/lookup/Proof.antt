@@ -5,9 +5,8 @@ use denote.Ref.{now}
 use Rattle.tables.specs.Rule.{laid}
 use Rattle.tables.specs.Answer.{mountIn}
 use Rattle.tables.proofs.Keeps.{laid-is}
-use Rattle.storage.proofs.Laid.{laid-by}
+use Rattle.storage.proofs.Laid.{tells-small, laid-by}
 use Rattle.vfs_query.specs.Told.{lookedTold}
-use Rattle.vfs_query.proofs.Rules.{small}
 use Rattle.vfs_query.proofs.Looks.{cross-noent, cross-inval, cross-mounted, cross-bare}
 use borrow.Author.Needs.{needs}
 use Rattle.vfs_query.proofs.lookup.Statement.{statement}
@@ -18,7 +17,7 @@ laid-here c = laid-by _ _ (c .before .is-laid .ensures) (c .if1 .left)
 
 returns : tie.Need-returns
 unfolding lookedTold
-returns c = small _ _ (c .before .is-laid .ensures) _ (c .if1 .taken)
+returns c = tells-small _ _ (c .before .is-laid .ensures) _ (c .if1 .taken)
 
 find-requires : tie.Need-find-requires
 find-requires c κs = laid-is _ (laid-here c)

@@ -5,8 +5,7 @@ use denote.Ref.{now}
 use Rattle.rules.specs.Lookup.{remapRule}
 use Rattle.tables.specs.Rule.{laid}
 use Rattle.vfs_query.specs.Told.{remappedTold}
-use Rattle.storage.proofs.Laid.{laid-by}
-use Rattle.vfs_query.proofs.Rules.{small, tells-by}
+use Rattle.storage.proofs.Laid.{tells-by, tells-small, laid-by}
 use borrow.Author.Needs.{needs}
 use Rattle.vfs_query.proofs.remap_attr_id.Statement.{statement}
 use Rattle.vfs_query.proofs.remap_attr_id.Tie as tie
@@ -16,7 +15,7 @@ laid-here c = laid-by _ _ (c .before .is-laid .ensures) (c .if1 .left)
 
 returns : tie.Need-returns
 unfolding remappedTold
-returns c = small _ _ (c .before .is-laid .ensures) _ (c .if1 .taken)
+returns c = tells-small _ _ (c .before .is-laid .ensures) _ (c .if1 .taken)
 
 remap-requires : tie.Need-remap-requires
 remap-requires c κs = laid-here c

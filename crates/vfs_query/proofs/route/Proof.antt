@@ -6,8 +6,8 @@ use Rattle.tables.specs.Rule.{laid}
 use Rattle.tables.specs.Answer.{mountIn}
 use Rattle.tables.proofs.Keeps.{laid-is}
 use Rattle.vfs_query.specs.Told.{routedTold}
-use Rattle.storage.proofs.Laid.{laid-by}
-use Rattle.vfs_query.proofs.Rules.{small, tells-by, by-index, by-number, by-root, by-no-root}
+use Rattle.storage.proofs.Laid.{tells-by, tells-small, laid-by}
+use Rattle.vfs_query.proofs.Rules.{by-index, by-number, by-root, by-no-root}
 use borrow.Author.Needs.{needs}
 use Rattle.vfs_query.proofs.route.Statement.{statement}
 use Rattle.vfs_query.proofs.route.Tie as tie
@@ -17,7 +17,7 @@ laid-here c = laid-by _ _ (c .before .is-laid .ensures) (c .if1 .left)
 
 returns : tie.Need-returns
 unfolding routedTold
-returns c = small _ _ (c .before .is-laid .ensures) _ (c .if1 .taken)
+returns c = tells-small _ _ (c .before .is-laid .ensures) _ (c .if1 .taken)
 
 route-tag-requires : tie.Need-route-tag-requires
 route-tag-requires c κs = laid-here (c .before .before .before .before)

@@ -14,7 +14,6 @@ use Rattle.le.specs.Mem.{Bytes}
 use Rattle.scan.specs.First.{cellIs}
 use Rattle.scan.specs.Key.{maskOf, wordOf}
 use Rattle.tables.specs.Layout.{tableAt, capacityOf}
-use Rattle.tables.specs.View.{nodesOf}
 use Rattle.tables.proofs.Alike.{skips, lands, further}
 use Rattle.tables.proofs.Find.{Sought, child-begins, child-here, child-on, child-none}
 use Rattle.pseudo_fs.proofs.Walks.{Going, begins, arrives, goes-up, goes-to, stops}
@@ -23,13 +22,13 @@ use Rattle.pseudo_fs.proofs.inner.walk.Statement.{statement}
 use Rattle.pseudo_fs.proofs.inner.walk.Tie as tie
 
 abbrev Inv-loop : tie.InvT-loop
-Inv-loop s path n node₀ at₀ start next key i₀ node at i = Going (nodesOf s) path node at₀ × Sought s node (between path start next) n i
+Inv-loop s path n node₀ at₀ start next key i₀ node at i = Going s path node at₀ × Sought s node (between path start next) n i
 
 abbrev μ-loop : tie.MeasureT-loop
 μ-loop s path n node₀ at₀ start next key i₀ node at i = n - i
 
 abbrev Inv-outer : tie.InvT-outer
-Inv-outer s path n node₀ at₀ node at = Going (nodesOf s) path node at
+Inv-outer s path n node₀ at₀ node at = Going s path node at
 
 abbrev μ-outer : tie.MeasureT-outer
 μ-outer s path n node₀ at₀ node at = length path - at

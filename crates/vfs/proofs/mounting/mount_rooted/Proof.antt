@@ -1,7 +1,7 @@
 -- `vfs::mounting::mount_rooted` meets its contract: each way through it by its law.
 use borrow.Author.Needs.{needs}
 use Rattle.tables.proofs.Keeps.{laid-is}
-use Rattle.vfs.proofs.UnmountWays.{reaches}
+use Rattle.pseudo_fs.proofs.Walks.{reaches}
 use Rattle.vfs.proofs.PlanWays.{found-leads, again-found, full-way, mounts-way}
 use Rattle.vfs.proofs.mounting.mount_rooted.Statement.{statement}
 use Rattle.vfs.proofs.mounting.mount_rooted.Tie as tie
@@ -43,7 +43,7 @@ same-length-2 c = search needs
 
 returns-2 : tie.Need-returns-2
 returns-2 c =
-    full-way _ _ _ _ _ (c .before .before .before .before .allocate .ensures) (found-leads _ _ (c .before .before .before .before .before .before .before .before .before .before .before .before .before .pre .0) _ (reaches _ _ _ (c .before .before .before .before .before .before .before .before .before .walk .ensures) _ (c .before .before .before .before .before .before .before .x .given .1)) .room) (c .enum-told2 .given .1)
+    full-way _ _ _ _ _ (c .before .before .before .before .allocate .ensures) (found-leads _ _ (c .before .before .before .before .before .before .before .before .before .before .before .before .before .pre .0) _ (reaches _ _ (c .before .before .before .before .before .before .before .before .before .walk .ensures) _ (c .before .before .before .before .before .before .before .x .given .1)) .room) (c .enum-told2 .given .1)
 
 same-length-3 : tie.Need-same-length-3
 same-length-3 c = search needs
@@ -52,7 +52,7 @@ returns-3 : tie.Need-returns-3
 returns-3 c =
     let p = c .before .before .before .before .before .before .before .before .before .before .before .before .before .before .before .before .before .before .pre in
     let g = c .before .before .before .before .before .before .before .before .before .allocate .ensures in
-    let e = reaches _ _ _ (c .before .before .before .before .before .before .before .before .before .before .before .before .before .before .walk .ensures) _ (c .before .before .before .before .before .before .before .before .before .before .before .before .x .given .1) in
+    let e = reaches _ _ (c .before .before .before .before .before .before .before .before .before .before .before .before .before .before .walk .ensures) _ (c .before .before .before .before .before .before .before .before .before .before .before .before .x .given .1) in
     mounts-way _ _ _ _ _ g (found-leads _ _ (p .0) _ e .room) (p .1 .1) _ (c .before .before .before .before .before .answer .given .1) (p .1 .0) _ _ (again-found _ _ _ _ g _ e) _ _ (c .before .before .mount-at .ensures)
 
 pub mount-rooted-spec : {M : Type 1} → statement M

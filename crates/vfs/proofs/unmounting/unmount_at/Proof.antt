@@ -21,7 +21,7 @@ unmount-at-spec =
     (tie.spec
     (λ c κs. search (laid-is, needs))
     (λ c. search needs)
-    (λ c κs. search (laid-is, needs))
+    (λ c κs. search needs)
     (λ c. search needs)
     (λ c. search needs)
     returns
