@@ -28,7 +28,7 @@ use Rattle.storage.proofs.Header.{spell-fits}
 use Rattle.storage.specs.Creation.{emptySlots, createMem}
 use Rattle.restore_parts.specs.Parts.{Loads, loadNode, loadNodes, hasBits, optionCells, setOptions, setState, stateMem}
 use Rattle.restore_parts.proofs.Records.{AllLoad, count-is, all-load}
-use Rattle.restore_parts.proofs.Loads.{loads, loads-all, loaded-capacity, loaded-count, next-laid}
+use Rattle.restore_parts.proofs.Loads.{loads, loads-all, loaded-capacity, loaded-count, next-keeps}
 use Rattle.persist.specs.Restoring.{restoreStateMem}
 use Rattle.persist.proofs.StateWays.{room}
 use Rattle.behind.specs.Behind.{LeavesRest}
@@ -46,7 +46,7 @@ module _ (rest : List ℕ) where
   load-front e mem k f =
       let m′ = setNext (e .number) mem in
       ap (appendNode (e .above) (e .called)) (next-front mem (laid-long mem k) (e .number))
-      ∙ append-front rest m′ (next-laid mem (laid-is mem k) (e .number) (omega (arith, f .top)) (f .low)) (e .above) (e .called) (f .short)
+      ∙ append-front rest m′ (laid-is m′ (next-keeps mem (laid-is mem k) (e .number) (omega (arith, f .top)) (f .low) k)) (e .above) (e .called) (f .short)
 
   loads-front : (es : List Entry) (mem : List ℕ) → laid mem ≡ true → AllLoad es → countOf mem + length es < capacityOf mem → LeavesRest (loadNodes es) mem rest
   unfolding loadNodes AllLoad

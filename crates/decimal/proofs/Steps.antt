@@ -4,11 +4,12 @@ use native.Mathlib.Omega.{arith}
 use mathlib.Core.Path.{_≡_, refl, sym, ap, _∙_}
 use mathlib.Core.Bool.{Bool, true, false, cond, _&&_, and-false}
 use mathlib.Core.List.{List, [], _∷_}
-use mathlib.Core.Option.{Option, none, some}
+use mathlib.Core.Option.{Option, none, some, Option·none-ne-some, Option·some-ne-none}
 use lib.Dec.{leb, ltb}
 use lib.ListN.{length}
 use borrow.Author.Tests.{le-leb, lt-leb, leb-true, leb-false, lt-ltb, le-ltb}
 use Rattle.rules.specs.Bytes.{same}
+use Rattle.rules.proofs.Tests.{and-both}
 use Rattle.rules.specs.Session.{isDigit, allDigits, spelt, number}
 use Rattle.decimal.specs.declared.Number.{Number}
 use Rattle.decimal.specs.declared.Number.the-variants.{Value, Bad}
@@ -34,24 +35,25 @@ unfolding readFrom numberTo same
 from-start max [] h = absurd (h refl)
 from-start max (b ∷ s) h = refl
 
--- the next digit, by the cases of its two tests
-next : (max n b : ℕ) (s : List ℕ) (d t : Bool) → isDigit b ≡ d → leb (n * 10 + (b - 48)) max ≡ t
-    → (v : ℕ) → cond (d && t) (some (n * 10 + (b - 48))) none ≡ some v → (v ≤ max) × (readFrom max n (b ∷ s) ≡ readFrom max v s)
-unfolding readFrom allDigits spelt
-next max n b s true true hd ht v e =
-    let same : n * 10 + (b - 48) ≡ v = cc in
-    (omega (arith, leb-true (n * 10 + (b - 48)) max ht), simp (hd, same))
-next max n b s true false hd ht v e = absurd (let z : _≡_ {A = ℕ} 0 1 = cc in let y : ⊥ = omega arith in y)
-next max n b s false t hd ht v e = absurd (let z : _≡_ {A = ℕ} 0 1 = cc in let y : ⊥ = omega arith in y)
+-- a value under a test says that the test passed, and which value it is
+pub some-by : (t : Bool) (n v : ℕ) → cond t (some n) none ≡ some v → (t ≡ true) × (n ≡ v)
+some-by true n v e = (refl, cc)
+some-by false n v e = absurd (Option·none-ne-some v e)
 
+-- the next digit
 pub next-value : (max n b v : ℕ) (s : List ℕ) → more max n b ≡ valueIn (Value v) → (v ≤ max) × (readFrom max n (b ∷ s) ≡ readFrom max v s)
-unfolding more valueIn
-next-value max n b v s e = next max n b s _ _ refl refl v e
+unfolding more valueIn readFrom allDigits spelt
+next-value max n b v s e =
+    let found = some-by (isDigit b && leb (n * 10 + (b - 48)) max) (n * 10 + (b - 48)) v e in
+    let same : n * 10 + (b - 48) ≡ v = found .1 in
+    let both = and-both (isDigit b) (leb (n * 10 + (b - 48)) max) (found .0) in
+    let hd : isDigit b ≡ true = both .0 in
+    (omega (arith, leb-true (n * 10 + (b - 48)) max (both .1)), simp (hd, same))
 
 stop : (max n b : ℕ) (s : List ℕ) (d t : Bool) → isDigit b ≡ d → leb (n * 10 + (b - 48)) max ≡ t
     → _≡_ {A = Option ℕ} (cond (d && t) (some (n * 10 + (b - 48))) none) none → readFrom max n (b ∷ s) ≡ none
 unfolding readFrom allDigits spelt
-stop max n b s true true hd ht e = absurd (let z : _≡_ {A = ℕ} 0 1 = cc in let y : ⊥ = omega arith in y)
+stop max n b s true true hd ht e = absurd (Option·some-ne-none _ e)
 stop max n b s true false hd ht e = simp (hd, lt-leb _ _ (let y : max < spelt (n * 10 + (b - 48)) s = omega (arith, leb-false (n * 10 + (b - 48)) max ht, spelt-le s (n * 10 + (b - 48))) in y), and-false)
 stop max n b s false t hd ht e = simp hd
 

@@ -17,6 +17,7 @@ use Rattle.vfs.specs.Mounting.{mountMem}
 use Rattle.vfs.specs.Unmounting.{unmountMem}
 use Rattle.decimal.proofs.Texts.{small, large}
 use Rattle.line_calls.specs.Answered.{smallText, lineText, lineMem}
+use Rattle.line.proofs.Replying.{question-text}
 use Rattle.line.specs.Claims.{QuestionStill, QuestionStillBytes, NoFormQuestion, OneLine, SmallStill, OneReply}
 
 -- ---- bytes that stand in no text but `?`: no digit, no space, no `r`
@@ -153,12 +154,7 @@ question-still-bytes mem line e =
     go false f = no-form-small (parsed line) f
 
 pub no-form-question : NoFormQuestion
-unfolding lineText answers smallText
-no-form-question mem line e = rw e (go (laid mem))
-  where
-    go : (t : Bool) → cond t (ascii "?") (ascii "?") ≡ ascii "?"
-    go true = refl
-    go false = refl
+no-form-question mem line e = rw e (question-text mem)
 
 -- ---- bytes against the layout rule
 

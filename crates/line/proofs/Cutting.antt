@@ -13,7 +13,7 @@ use Rattle.line.specs.Fields.{Ends, formed, twoAt, threeAt, fiveAt, Cuts
 use Rattle.path.specs.Steps.{between}
 use Rattle.path.proofs.Words.{first-part}
 use Rattle.line.proofs.Fields.{field-more, field-last}
-use Rattle.line.proofs.Formed.{either-none}
+use Rattle.line.proofs.Formed.{either}
 
 module _ (s : List ℕ) where
   too-long : 8192 < length s → parsed s ≡ none
@@ -26,15 +26,15 @@ module _ (s : List ℕ) where
 
 none-one : (v : List ℕ) → formed (v ∷ []) ≡ none
 unfolding formed lineOf
-none-one v = either-none (anyEmpty (v ∷ []))
+none-one v = either (anyEmpty (v ∷ [])) none
 
 none-four : (v a b c : List ℕ) → formed (v ∷ a ∷ b ∷ c ∷ []) ≡ none
 unfolding formed lineOf
-none-four v a b c = either-none (anyEmpty (v ∷ a ∷ b ∷ c ∷ []))
+none-four v a b c = either (anyEmpty (v ∷ a ∷ b ∷ c ∷ [])) none
 
 none-six : (v a b c d e : List ℕ) (ws : List (List ℕ)) → formed (v ∷ a ∷ b ∷ c ∷ d ∷ e ∷ ws) ≡ none
 unfolding formed lineOf
-none-six v a b c d e ws = either-none (anyEmpty (v ∷ a ∷ b ∷ c ∷ d ∷ e ∷ ws))
+none-six v a b c d e ws = either (anyEmpty (v ∷ a ∷ b ∷ c ∷ d ∷ e ∷ ws)) none
 
 pub long : (s : List ℕ) → 8192 < length s → Cuts s Other
 unfolding Cuts

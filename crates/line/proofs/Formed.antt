@@ -2,12 +2,15 @@
 use Prim.Native.Nat.{ℕ, _^_, _<_}
 use native.Mathlib.Omega.{arith}
 use mathlib.Core.Path.{_≡_, refl, sym, _∙_}
-use mathlib.Core.Bool.{Bool, true, false, cond, not, _&&_, or-true}
+use mathlib.Core.Bool.{Bool, true, false, cond, not, _&&_, or-true, false≢true}
 use mathlib.Core.List.{List, [], _∷_}
 use mathlib.Core.Option.{Option, none, some}
 use lib.Dec.{lit≤, ltb}
 use lib.ListN.{length}
+use borrow.Author.Tests.{not-true}
 use Rattle.rules.specs.Bytes.{same, ascii}
+use Rattle.rules.proofs.Tests.{and-both}
+use Rattle.decimal.proofs.Steps.{some-by}
 use Rattle.rules.specs.Session.{Line, mount, umount, walk, look, allDigits, spelt, number, anyEmpty, mountLine, lineOf}
 use Rattle.line.specs.declared.forms.Request.the-variants.{Numbers, Bad as BadRequest}
 use Rattle.line.specs.Fields.{formed, requestFrom}
@@ -28,22 +31,20 @@ filled (b ∷ p) h = refl
 verb-filled : (v w : List ℕ) → same v w ≡ true → 0 < length w → same v [] ≡ false
 unfolding same
 verb-filled [] [] e h = absurd (let z : ⊥ = omega arith in z)
-verb-filled [] (y ∷ ys) e h = sym e ∙ absurd (let z : _≡_ {A = ℕ} 0 1 = cc in let y : ⊥ = omega arith in y)
+verb-filled [] (y ∷ ys) e h = absurd (false≢true e)
 verb-filled (x ∷ xs) w e h = refl
 
 -- digits are not empty
-by-filled : (t d u : Bool) (a n : ℕ) → cond (not t && d && u) (some a) none ≡ some n → t ≡ false
-by-filled true d u a n e = absurd (let z : _≡_ {A = ℕ} 0 1 = cc in let y : ⊥ = omega arith in y)
-by-filled false d u a n e = refl
-
 number-filled : (bits : ℕ) (s : List ℕ) (n : ℕ) → number bits s ≡ some n → same s [] ≡ false
 unfolding number
-number-filled bits s n e = by-filled (same s []) (allDigits s) (ltb (spelt 0 s) (2 ^ bits)) (spelt 0 s) n e
+number-filled bits s n e =
+    let some-digits = and-both (not (same s [])) (allDigits s) (and-both (not (same s []) && allDigits s) (ltb (spelt 0 s) (2 ^ bits)) (some-by _ (spelt 0 s) n e .0) .0) in
+    not-true (same s []) (some-digits .0)
 
--- fields of no form, whether or not one is empty
-pub either-none : (t : Bool) → cond {A = Option Line} t none none ≡ none
-either-none true = refl
-either-none false = refl
+-- the same, whatever the test says
+pub either : {A : Type 0} (t : Bool) (x : A) → cond t x x ≡ x
+either true x = refl
+either false x = refl
 
 -- ---- two fields
 
@@ -62,7 +63,7 @@ module _ (v p : List ℕ) where
 
   pub two-other : same v (ascii "umount") ≡ false → same v (ascii "walk") ≡ false → formed (v ∷ p ∷ []) ≡ none
   unfolding formed lineOf
-  two-other e f = rw (e, f) (either-none (anyEmpty (v ∷ p ∷ [])))
+  two-other e f = rw (e, f) (either (anyEmpty (v ∷ p ∷ [])) none)
 
 -- ---- three fields
 
@@ -73,15 +74,11 @@ module _ (v x p : List ℕ) where
 
   pub three-other : same v (ascii "look") ≡ false → formed (v ∷ x ∷ p ∷ []) ≡ none
   unfolding formed lineOf
-  three-other e = rw e (either-none (anyEmpty (v ∷ x ∷ p ∷ [])))
+  three-other e = rw e (either (anyEmpty (v ∷ x ∷ p ∷ [])) none)
 
   pub three-bad : number 64 x ≡ none → formed (v ∷ x ∷ p ∷ []) ≡ none
   unfolding formed lineOf
-  three-bad e = rw e (go (same v (ascii "look")))
-    where
-      go : (t : Bool) → cond {A = Option Line} (anyEmpty (v ∷ x ∷ p ∷ [])) none (cond {A = Option Line} t none none) ≡ none
-      go true = either-none (anyEmpty (v ∷ x ∷ p ∷ []))
-      go false = either-none (anyEmpty (v ∷ x ∷ p ∷ []))
+  three-bad e = rw (e, either {A = Option Line} (same v (ascii "look")) none) (either (anyEmpty (v ∷ x ∷ p ∷ [])) none)
 
   pub three-look : (length p ≡ 0 → ⊥) → same v (ascii "look") ≡ true → (n : ℕ) → number 64 x ≡ some n → formed (v ∷ x ∷ p ∷ []) ≡ some (look n p)
   unfolding formed anyEmpty lineOf ascii
@@ -110,15 +107,11 @@ module _ (v p t r m : List ℕ) where
 
   pub five-other : same v (ascii "mount") ≡ false → formed (v ∷ p ∷ t ∷ r ∷ m ∷ []) ≡ none
   unfolding formed lineOf
-  five-other e = rw e (either-none (anyEmpty (v ∷ p ∷ t ∷ r ∷ m ∷ [])))
+  five-other e = rw e (either (anyEmpty (v ∷ p ∷ t ∷ r ∷ m ∷ [])) none)
 
   pub five-bad : requestFrom (number 32 t) (number 64 r) (number 64 m) ≡ BadRequest → formed (v ∷ p ∷ t ∷ r ∷ m ∷ []) ≡ none
   unfolding formed lineOf
-  five-bad e = rw (request-bad p (number 32 t) (number 64 r) (number 64 m) e) (go (same v (ascii "mount")))
-    where
-      go : (b : Bool) → cond {A = Option Line} (anyEmpty (v ∷ p ∷ t ∷ r ∷ m ∷ [])) none (cond {A = Option Line} b none none) ≡ none
-      go true = either-none (anyEmpty (v ∷ p ∷ t ∷ r ∷ m ∷ []))
-      go false = either-none (anyEmpty (v ∷ p ∷ t ∷ r ∷ m ∷ []))
+  five-bad e = rw (request-bad p (number 32 t) (number 64 r) (number 64 m) e, either {A = Option Line} (same v (ascii "mount")) none) (either (anyEmpty (v ∷ p ∷ t ∷ r ∷ m ∷ [])) none)
 
   pub five-mount : (length p ≡ 0 → ⊥) → same v (ascii "mount") ≡ true → (a b c : ℕ) → requestFrom (number 32 t) (number 64 r) (number 64 m) ≡ Numbers a b c
       → formed (v ∷ p ∷ t ∷ r ∷ m ∷ []) ≡ some (mount p a b c)

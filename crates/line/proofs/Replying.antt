@@ -1,7 +1,7 @@
 -- A line that is answered, by what its fields make of it. Assumes nothing.
 use Prim.Native.Nat.{ℕ}
 use mathlib.Core.Path.{_≡_, refl, sym, ap, _∙_, subst}
-use mathlib.Core.Bool.{Bool, true, false, cond, not}
+use mathlib.Core.Bool.{Bool, true, false, not}
 use mathlib.Core.List.{List, [], _∷_}
 use mathlib.Core.Option.{Option, none, some}
 use lib.Dec.{lit≤}
@@ -27,17 +27,13 @@ use Rattle.line_calls.specs.Answered.{smallText, lineText, lineMem, Answered}
 use Rattle.line.specs.Fields.{formed, requestFrom}
 use Rattle.line_text.proofs.Writes.{wrote-as}
 use Rattle.line.proofs.Verbs.{of-64}
-use Rattle.line.proofs.Formed.{two-empty, two-umount, two-walk, two-other, three-empty, three-other, three-bad, three-look, five-empty, five-other, five-bad, five-mount}
+use Rattle.line.proofs.Formed.{either, two-empty, two-umount, two-walk, two-other, three-empty, three-other, three-bad, three-look, five-empty, five-other, five-bad, five-mount}
 
 -- ---- lines that change nothing
 
-question-text : (mem : List ℕ) → ascii "?" ≡ lineText mem none
+pub question-text : (mem : List ℕ) → lineText mem none ≡ ascii "?"
 unfolding lineText answers smallText
-question-text mem = go (laid mem)
-  where
-    go : (t : Bool) → ascii "?" ≡ cond t (ascii "?") (ascii "?")
-    go true = refl
-    go false = refl
+question-text mem = either (laid mem) (ascii "?")
 
 -- a line that leaves the bytes and the instance
 module _ (mem was left : List ℕ) (at r : ℕ) where
@@ -46,7 +42,7 @@ module _ (mem was left : List ℕ) (at r : ℕ) where
 
   pub no-form : (l : Option Line) → l ≡ none → Wrote was at 1 (ascii "?") r left → Answered mem l was at r left mem
   unfolding lineMem answers
-  no-form l e w = rw e (still none refl refl (wrote-wider (lit≤ tt) (wrote-as (question-text mem) w)))
+  no-form l e w = rw e (still none refl refl (wrote-wider (lit≤ tt) (wrote-as (sym (question-text mem)) w)))
 
 walk-instance : (i : Instance) (p : List ℕ) → answers i (some (walk p)) .instance ≡ i
 unfolding answers says rule

@@ -1,21 +1,21 @@
 -- Laws of the words of a line, and of its numbers. Assumes nothing.
 use Prim.Native.Nat.{ℕ, _≤_}
 use native.Mathlib.Omega.{arith}
-use mathlib.Core.Path.{_≡_, refl, sym, ap, ap₂, _∙_}
-use mathlib.Core.Bool.{Bool, true, false, cond, not, _&&_}
+use mathlib.Core.Path.{_≡_, sym, ap, ap₂, _∙_}
+use mathlib.Core.Bool.{not, _&&_}
 use mathlib.Core.List.{List, []}
-use mathlib.Core.Option.{none, some}
 use lib.ListN.{length}
 use lib.Dec.{leb}
 use borrow.Author.Tests.{leb-true}
 use Rattle.rules.specs.Bytes.{same}
 use Rattle.rules.specs.Fields.{read}
+use Rattle.rules.proofs.Tests.{and-both}
 use Rattle.rules.proofs.Fields.{read-all}
 use Rattle.rules.specs.Session.{allDigits, spelt, number}
 use Rattle.decimal.specs.Read.{valueIn, numberTo}
 use Rattle.decimal.specs.declared.Number.{Number}
 use Rattle.decimal.specs.declared.Number.the-variants.{Value, Bad}
-use Rattle.decimal.proofs.Steps.{of-width}
+use Rattle.decimal.proofs.Steps.{some-by, of-width}
 use Rattle.line.specs.declared.forms.Request.the-variants.{Numbers, Bad as BadRequest}
 use Rattle.line.specs.Fields.{requestFrom}
 
@@ -28,23 +28,18 @@ all-bytes s w e = ap₂ same (read-all s) (ap (read w 0) e ∙ read-all w)
 -- ---- numbers
 
 module _ (r : Number) (s : List ℕ) where
-  pub of-32 : valueIn r ≡ numberTo 4294967295 s → number 32 s ≡ valueIn r
+  of-32 : valueIn r ≡ numberTo 4294967295 s → number 32 s ≡ valueIn r
   of-32 e = sym (e ∙ of-width 32 4294967295 (omega arith) s)
 
   pub of-64 : valueIn r ≡ numberTo 18446744073709551615 s → number 64 s ≡ valueIn r
   of-64 e = sym (e ∙ of-width 64 18446744073709551615 (omega arith) s)
 
-bound : (max n v : ℕ) (d t : Bool) → leb n max ≡ t → cond (d && t) (some n) none ≡ some v → v ≤ max
-bound max n v true true h e =
-    let f : n ≡ v = cc in
-    omega (arith, leb-true n max h)
-bound max n v true false h e = absurd (let z : _≡_ {A = ℕ} 0 1 = cc in let y : ⊥ = omega arith in y)
-bound max n v false t h e = absurd (let z : _≡_ {A = ℕ} 0 1 = cc in let y : ⊥ = omega arith in y)
-
 -- a number that was read is at most the limit
 pub at-most : (max v : ℕ) (s : List ℕ) (r : Number) → valueIn r ≡ numberTo max s → r ≡ Value v → v ≤ max
 unfolding valueIn numberTo
-at-most max v s r e f = bound max (spelt 0 s) v (not (same s []) && allDigits s) _ refl (sym e ∙ ap valueIn f)
+at-most max v s r e f =
+    let found = some-by ((not (same s []) && allDigits s) && leb (spelt 0 s) max) (spelt 0 s) v (sym e ∙ ap valueIn f) in
+    omega (arith, found .1, leb-true (spelt 0 s) max (and-both (not (same s []) && allDigits s) (leb (spelt 0 s) max) (found .0) .1))
 
 module _ (tag root largest : List ℕ) (p q o : Number) (ep : valueIn p ≡ numberTo 4294967295 tag) where
   pub no-tag : p ≡ Bad → BadRequest ≡ requestFrom (number 32 tag) (number 64 root) (number 64 largest)

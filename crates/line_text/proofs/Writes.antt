@@ -6,15 +6,7 @@ use Rattle.rules.specs.Bytes.{ascii}
 use Rattle.rules.specs.Session.{decimal, numbers, joined, textOf}
 use Rattle.decimal.specs.Wrote.{Wrote}
 use Rattle.decimal.proofs.Texts.{wrote-more}
-use Rattle.pseudo_fs.specs.Told.{pathWalkTold}
-use Rattle.pseudo_fs.specs.declared.PathWalk.{PathWalk}
-use Rattle.vfs_query.specs.Told.{lookedTold}
-use Rattle.vfs_query.specs.declared.Looked.{Looked}
-use Rattle.vfs.specs.Mounting.{mountedTold}
-use Rattle.vfs.specs.Unmounting.{unmountedTold}
-use Rattle.vfs.specs.declared.mounting.Mounted.{Mounted}
-use Rattle.vfs.specs.declared.unmounting.Unmounted.{Unmounted}
-use Rattle.line_text.specs.Texts.{valuesText, countText, backendText}
+use Rattle.line_text.specs.Texts.{backendText}
 
 -- the same text by another name
 pub wrote-as : {l m : List ℕ} {at a r : ℕ} {xs ys : List ℕ} → xs ≡ ys → Wrote l at a xs r m → Wrote l at a ys r m
@@ -48,17 +40,6 @@ pub backend : (l m n o p q : List ℕ) (at i j k f r t x : ℕ) → Wrote l at 1
     → Wrote l at 43 (backendText t x) r q
 backend l m n o p q at i j k f r t x a b c d e = wrote-as (backend-text t x) (wrote-more (wrote-more (wrote-more (wrote-more a b) c) d) e)
 
--- ---- by the answer, which is this one
-
-module _ (l m : List ℕ) (at r : ℕ) where
-  pub mounted : (a b : Mounted) → a ≡ b → Wrote l at 45 (countText (mountedTold b)) r m → Wrote l at 45 (countText (mountedTold a)) r m
-  mounted a b e w = rw e w
-
-  pub unmounted : (a b : Unmounted) → a ≡ b → Wrote l at 45 (valuesText 2 (unmountedTold b)) r m → Wrote l at 45 (valuesText 2 (unmountedTold a)) r m
-  unmounted a b e w = rw e w
-
-  pub walked : (a b : PathWalk) → a ≡ b → Wrote l at 24 (valuesText 1 (pathWalkTold b)) r m → Wrote l at 24 (valuesText 1 (pathWalkTold a)) r m
-  walked a b e w = rw e w
-
-  pub looked : (a b : Looked) → a ≡ b → Wrote l at 24 (valuesText 1 (lookedTold b)) r m → Wrote l at 24 (valuesText 1 (lookedTold a)) r m
-  looked a b e w = rw e w
+-- by the answer, which is this one
+pub by-answer : {A : Type 0} (text : A → List ℕ) (l m : List ℕ) (at k r : ℕ) (a b : A) → a ≡ b → Wrote l at k (text b) r m → Wrote l at k (text a) r m
+by-answer text l m at k r a b e w = rw e w

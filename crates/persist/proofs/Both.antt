@@ -11,7 +11,6 @@ use borrow.Author.Tests.{eqb-true}
 use Rattle.rules.specs.Numbers.{DONE, SMALL}
 use Rattle.rules.specs.Bytes.{Bytes}
 use Rattle.rules.specs.Instance.{Instance}
-use Rattle.rules.specs.Outcome.{Outcome}
 use Rattle.rules.specs.Saved.{stateOf, encode}
 use Rattle.rules.specs.Restore.{saved, restoreRule}
 use Rattle.rules.proofs.Restored.{save-then-restore, restore-then-save}
@@ -20,9 +19,9 @@ use Rattle.tables.specs.Rule.{laid}
 use Rattle.tables.specs.Call.{Told}
 use Rattle.storage.proofs.Laid.{told-small, told-by}
 use Rattle.restore_parts.specs.Parts.{stateMem}
-use Rattle.persist.specs.Restoring.{stateTold, restoreStateMem}
+use Rattle.persist.specs.Restoring.{stateTold, restoreStateMem, restoring, Restores}
 use Rattle.persist.specs.Saving.{Saves}
-use Rattle.persist.specs.Both.{Restores, ComesBack, SavedAgain, Unchanged}
+use Rattle.persist.specs.Both.{ComesBack, SavedAgain, Unchanged}
 use Rattle.persist.specs.declared.saving.Saved.{Saved}
 use Rattle.persist.specs.declared.saving.Saved.the-variants.{Wrote}
 use Rattle.persist.specs.declared.restoring.StateRestored.{StateRestored}
@@ -41,11 +40,8 @@ code-done NoRoom e = absurd (omega arith)
 code-done Small e = absurd (omega arith)
 
 module _ (mem b : List ℕ) (r : StateRestored) (after : List ℕ) (w : Restores mem b r after) where
-  abbrev F : Instance → Outcome
-  F = λ (i : Instance). restoreRule i b
-
   code-by : laid mem ≡ true → stateTold r .code ≡ restoreRule (view mem) b .code
-  code-by l = ap (λ (t : Told). t .code) (w .answer ∙ told-by mem F l)
+  code-by l = ap (λ (t : Told). t .code) (w .answer ∙ told-by mem (restoring b) l)
 
   -- bytes against the layout rule are never done
   done-laid : r ≡ Done → laid mem ≡ true
@@ -55,7 +51,7 @@ module _ (mem b : List ℕ) (r : StateRestored) (after : List ℕ) (w : Restores
       go : (l : Bool) → laid mem ≡ l → laid mem ≡ true
       go true p = p
       go false p =
-          let z : stateTold Done .code ≡ SMALL = ap (λ (x : StateRestored). stateTold x .code) (sym e) ∙ ap (λ (t : Told). t .code) (w .answer ∙ told-small mem F p) in
+          let z : stateTold Done .code ≡ SMALL = ap (λ (x : StateRestored). stateTold x .code) (sym e) ∙ ap (λ (t : Told). t .code) (w .answer ∙ told-small mem (restoring b) p) in
           absurd (omega arith)
 
   kept : (r ≡ Done → ⊥) → after ≡ mem

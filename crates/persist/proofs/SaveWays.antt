@@ -73,7 +73,7 @@ module _ (mem d : List ℕ) where
   size = encode-length (saved (view mem))
 
   module _ (l : laid mem ≡ true) where
-    pub saves-full : length d < length state → Saves mem d Small d
+    saves-full : length d < length state → Saves mem d Small d
     unfolding savedTold write saveRule firstOf
     saves-full h = by-rule l (refused SMALL (view mem)) (rw (lt-ltb (length d) (length state) h)) Small d refl refl
 

@@ -24,14 +24,14 @@ use Rattle.tables.specs.Table.{row}
 use Rattle.tables.specs.Layout.{capacityOf, countOf}
 use Rattle.tables.specs.View.{view}
 use Rattle.tables.specs.Rule.{laid}
-use Rattle.tables.specs.Call.{toldBy, Does}
+use Rattle.tables.specs.Call.{toldBy}
 use Rattle.tables.proofs.Keeps.{laid-long}
 use Rattle.tables.proofs.Places.{nodes-count}
 use Rattle.storage.proofs.Laid.{laid-by}
 use Rattle.storage.proofs.Calls.{does-small, does-nothing, does}
 use Rattle.saved.proofs.Accepted.{accepted-long}
 use Rattle.restore_parts.specs.Parts.{loadNodes, stateMem}
-use Rattle.persist.specs.Restoring.{stateTold, restoreStateMem}
+use Rattle.persist.specs.Restoring.{stateTold, restoreStateMem, restoring, Restores}
 use Rattle.persist.specs.declared.restoring.StateRestored.{StateRestored}
 use Rattle.persist.specs.declared.restoring.StateRestored.the-variants.{Done, NotFresh, BadSave, BadOpt, NoRoom, Small}
 use Rattle.restore_parts.proofs.Records.{count-is, next-low, next-top, all-load}
@@ -73,7 +73,7 @@ module _ (mem b : List ℕ) (k : laid mem ≡ true) (f : fresh (view mem) ≡ tr
     all : AllLoaded (s .nodes) mem
     all = loads-all (s .nodes) mem k (all-load b a) (omega (arith, room, count-is b))
 
-    pub view-restored : view (stateMem s mem) ≡ restoredTo s (view mem)
+    view-restored : view (stateMem s mem) ≡ restoredTo s (view mem)
     unfolding stateMem restoredTo
     view-restored =
         let w = fits b bytes a in
@@ -90,7 +90,7 @@ module _ (mem b : List ℕ) (k : laid mem ≡ true) (f : fresh (view mem) ≡ tr
           tree = record { next = 0; root = root t; nodes = nodes t ++ nodesFrom (s .nodes) };
         }))
 
-    pub keeps-restored : laid (stateMem s mem) ≡ true
+    keeps-restored : laid (stateMem s mem) ≡ true
     unfolding stateMem
     keeps-restored =
         let w = fits b bytes a in
@@ -110,30 +110,24 @@ pub bytes-by : (mem : List ℕ) (l : Bool) → l ≡ laid mem → not l ≡ fals
 bytes-by mem l le on = laid-long mem (laid-by mem l le on)
 
 module _ (mem b : List ℕ) where
-  abbrev F : Instance → Outcome
-  F = λ (i : Instance). restoreRule i b
-
-  abbrev Gives : StateRestored → List ℕ → Type 0
-  Gives r after = Does mem F (stateTold r) after (restoreStateMem b mem)
-
-  refusal : laid mem ≡ true → (r : StateRestored) (code : ℕ) → F (view mem) ≡ refused code (view mem) → (code ≡ DONE → ⊥) → stateTold r ≡ toldBy (refused code (view mem)) → Gives r mem
+  refusal : laid mem ≡ true → (r : StateRestored) (code : ℕ) → restoring b (view mem) ≡ refused code (view mem) → (code ≡ DONE → ⊥) → stateTold r ≡ toldBy (refused code (view mem)) → Restores mem b r mem
   unfolding restoreStateMem
   refusal e r code f n t =
       let z : eqb (restoreRule (view mem) b .code) DONE ≡ false = ap (λ (o : Outcome). eqb (o .code) DONE) f ∙ ne-eqb code DONE n in
-      does-nothing mem F (stateTold r) (restoreStateMem b mem) (refused code (view mem)) e f refl t (rw (e, z))
+      does-nothing mem (restoring b) (stateTold r) (restoreStateMem b mem) (refused code (view mem)) e f refl t (rw (e, z))
 
   module _ (l : Bool) (le : l ≡ laid mem) where
-    pub small : not l ≡ true → Gives Small mem
+    pub small : not l ≡ true → Restores mem b Small mem
     unfolding restoreStateMem stateTold
     small e =
         let f : laid mem ≡ false = sym le ∙ not-true l e in
-        does-small mem F (stateTold Small) (restoreStateMem b mem) f refl (rw f)
+        does-small mem (restoring b) (stateTold Small) (restoreStateMem b mem) f refl (rw f)
 
     module _ (on : not l ≡ false) (fr : Bool) (fe : fr ≡ fresh (view mem)) where
       abbrev k : laid mem ≡ true
       k = laid-by mem l le on
 
-      pub not-fresh : not fr ≡ true → Gives NotFresh mem
+      pub not-fresh : not fr ≡ true → Restores mem b NotFresh mem
       unfolding stateTold restoreRule firstOf
       not-fresh e = let z : fresh (view mem) ≡ false = sym fe ∙ not-true fr e in refusal k NotFresh NOTFRESH (rw z) (λ q. omega arith) refl
 
@@ -141,7 +135,7 @@ module _ (mem b : List ℕ) where
         new : fresh (view mem) ≡ true
         new = sym fe ∙ not-false fr is
 
-        pub bad-save : not a ≡ true → Gives BadSave mem
+        pub bad-save : not a ≡ true → Restores mem b BadSave mem
         unfolding stateTold restoreRule firstOf
         bad-save e = let z : accepted b ≡ false = sym ae ∙ not-true a e in refusal k BadSave BADSAVE (rw (new, z)) (λ q. omega arith) refl
 
@@ -149,7 +143,7 @@ module _ (mem b : List ℕ) where
           ok : accepted b ≡ true
           ok = accepted-by b a ae good
 
-          pub bad-opt : u ≡ true → Gives BadOpt mem
+          pub bad-opt : u ≡ true → Restores mem b BadOpt mem
           unfolding stateTold restoreRule firstOf
           bad-opt e = let z : unknown (view mem .fixed .known) (stateOf b .options) ≡ true = sym ue ∙ e in refusal k BadOpt BADOPT (rw (new, ok, z)) (λ q. omega arith) refl
 
@@ -157,7 +151,7 @@ module _ (mem b : List ℕ) where
             mask : unknown (view mem .fixed .known) (stateOf b .options) ≡ false
             mask = sym ue ∙ in-mask
 
-            pub no-room : m ≡ true → Gives NoRoom mem
+            pub no-room : m ≡ true → Restores mem b NoRoom mem
             unfolding stateTold restoreRule firstOf
             no-room e =
                 let z : ltb (view mem .fixed .capacity) (1 + length (stateOf b .nodes)) ≡ true = sym me ∙ e in
@@ -166,9 +160,9 @@ module _ (mem b : List ℕ) where
             pub fits-by : m ≡ false → countOf mem + recordsOf b < capacityOf mem
             fits-by e = room mem b k new ok mask (sym me ∙ e)
 
-            pub restores : m ≡ false → Bytes b → (after : List ℕ) → after ≡ stateMem (stateOf b) mem → Gives Done after
+            pub restores : m ≡ false → Bytes b → (after : List ℕ) → after ≡ stateMem (stateOf b) mem → Restores mem b Done after
             unfolding stateTold restoreRule firstOf restoreStateMem
             restores e bytes after p =
                 let fit : ltb (view mem .fixed .capacity) (1 + length (stateOf b .nodes)) ≡ false = sym me ∙ e in
-                does mem F (stateTold Done) after (restoreStateMem b mem) (says nothing (restoredTo (stateOf b) (view mem))) k (rw (new, ok, mask, fit)) refl (p ∙ sym (rw (k, new, ok, mask, fit)))
+                does mem (restoring b) (stateTold Done) after (restoreStateMem b mem) (says nothing (restoredTo (stateOf b) (view mem))) k (rw (new, ok, mask, fit)) refl (p ∙ sym (rw (k, new, ok, mask, fit)))
                 (ap view p ∙ view-restored mem b k new ok mask fit bytes) (ap laid p ∙ keeps-restored mem b k new ok mask fit bytes)

@@ -6,22 +6,17 @@ use Prim.Native.Nat.{ℕ, _≤_}
 use lib.ListN.{length, take, drop}
 use Rattle.rules.specs.Bytes.{Bytes}
 use Rattle.rules.specs.Instance.{Instance, counterOf, live}
-use Rattle.rules.specs.Restore.{fresh, restoreRule}
+use Rattle.rules.specs.Restore.{fresh}
 use Rattle.rules.specs.Driven.{Driven, Present}
 use Rattle.rules.specs.Restored.{bareTree}
 use Rattle.tables.specs.View.{view}
 use Rattle.tables.specs.Rule.{laid}
-use Rattle.tables.specs.Call.{Does}
 use Rattle.persist.specs.Saving.{Saves}
-use Rattle.persist.specs.Restoring.{stateTold, restoreStateMem}
+use Rattle.persist.specs.Restoring.{Restores}
 use Rattle.persist.specs.declared.saving.Saved.{Saved}
 use Rattle.persist.specs.declared.saving.Saved.the-variants.{Wrote}
 use Rattle.persist.specs.declared.restoring.StateRestored.{StateRestored}
 use Rattle.persist.specs.declared.restoring.StateRestored.the-variants.{Done}
-
--- the contract of a state restore: of the storage and the saved bytes, with the answer and the storage after
-abbrev pub Restores : List ℕ → List ℕ → StateRestored → List ℕ → Type 0
-Restores mem b r after = Does mem (λ (i : Instance). restoreRule i b) (stateTold r) after (restoreStateMem b mem)
 
 -- the restore is done, and the storage stands for the tree without its mounts, the next number, the counter and the options
 pub record Back (i : Instance) (r : StateRestored) (after : List ℕ) : Type 0 where

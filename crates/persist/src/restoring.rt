@@ -1,8 +1,5 @@
 // State restore: saved bytes that are accepted become the state of a fresh instance.
-ghost use Rattle.rules.specs.Instance.{Instance};
-ghost use Rattle.rules.specs.Restore.{restoreRule};
-ghost use Rattle.tables.specs.Call.{Does};
-ghost use Rattle.persist.specs.Restoring.{stateTold, restoreStateMem};
+ghost use Rattle.persist.specs.Restoring.{Restores};
 use restore_parts::has_unknown;
 use restore_parts::is_fresh;
 use restore_parts::is_too_many;
@@ -18,9 +15,9 @@ pub enum StateRestored {
     Small,
 }
 
-// NOTFRESH, BADSAVE, BADOPT, NOROOM, or the state of the bytes in place of the instance's own (R128 to R134).
+// SMALL, NOTFRESH, BADSAVE, BADOPT, NOROOM, or the state of the bytes in place of the instance's own (R19, R128 to R134).
 pub fn restore_from_bytes(s: &mut [u8], b: &[u8]) -> StateRestored
-    ensures { λ r. ⌜ Does (now (s .entry)) (λ (i : Instance). restoreRule i (now (b .entry))) (stateTold r) (now (s .exit)) (restoreStateMem (now (b .entry)) (now (s .entry))) ⌝ }
+    ensures { λ r. ⌜ Restores (now (s .entry)) (now (b .entry)) r (now (s .exit)) ⌝ }
 {
     if !storage::is_laid(s) {
         return StateRestored::Small;

@@ -12,13 +12,8 @@ pub enum Saved {
     Small,
 }
 
-// The options (R121).
-const OPTIONS: usize = 32;
-
-// The options and the trailer (R121, R123).
-const TAIL: usize = 56;
-
-// Saves the instance at the start of the lent bytes: SMALL where these are too few, else how many were written (R19, R119 to R127).
+// Saves the instance at the start of the lent bytes: SMALL where the storage is against the layout rule or these are too few, else how many were written
+// (R19, R119 to R127).
 pub fn save_to_bytes(s: &[u8], out: &mut [u8]) -> Saved
     ensures { λ r. ⌜ Saves (now (s .entry)) (now (out .entry)) r (now (out .exit)) ⌝ }
 {
@@ -26,7 +21,7 @@ pub fn save_to_bytes(s: &[u8], out: &mut [u8]) -> Saved
         return Saved::Small;
     }
     let end = records_size(s);
-    if out.len() < end + TAIL {
+    if out.len() < end + rules::TAIL {
         return Saved::Small;
     }
     let count = tables::header::count(s);
@@ -34,6 +29,13 @@ pub fn save_to_bytes(s: &[u8], out: &mut [u8]) -> Saved
     let counter = tables::header::counter(s);
     put_records(s, out);
     put_options(s, out, end);
-    put_trailer(out, end + OPTIONS, end as u32, count as u32, next, counter);
-    Saved::Wrote(end + TAIL)
+    put_trailer(
+        out,
+        end + rules::OPTIONS,
+        end as u32,
+        count as u32,
+        next,
+        counter,
+    );
+    Saved::Wrote(end + rules::TAIL)
 }

@@ -46,33 +46,23 @@ module _ (mem : List ℕ) (d : Laid mem) (x : ℕ) (top : x ≤ 2 ^ 56) where
   next-is : value (bytesOf 8 x ++ read mem (24 + length (bytesOf 8 x)) (8 - length (bytesOf 8 x))) ≡ x
   next-is = cell-back 8 x mem 24 (omega arith)
 
-  pub next-capacity : capacityOf after ≡ capacityOf mem
+  next-capacity : capacityOf after ≡ capacityOf mem
   unfolding over row get
   next-capacity = ap (λ (h : List (List ℕ)). field 1 h) next-head
 
-  pub next-count : countOf after ≡ countOf mem
+  next-count : countOf after ≡ countOf mem
   unfolding over row get
   next-count = ap (λ (h : List (List ℕ)). field 2 h) next-head
 
-  pub next-next : nextOf after ≡ x
+  next-next : nextOf after ≡ x
   unfolding over row get
   next-next = ap (λ (h : List (List ℕ)). field 3 h) next-head ∙ next-is
 
-  pub next-length : length after ≡ length mem
+  next-length : length after ≡ length mem
   unfolding setNext
   next-length = length-header 3 xs mem
 
-  pub next-laid : 2 ≤ x → Laid after
-  next-laid low = record {
-    some-node = omega (arith, next-capacity, d .some-node);
-    few-nodes = omega (arith, next-capacity, d .few-nodes);
-    long = omega (arith, next-capacity, next-length, d .long);
-    live = omega (arith, next-capacity, next-count, d .live);
-    low = omega (arith, next-next);
-    top = omega (arith, next-next);
-  }
-
-  pub next-view : view after ≡ withTree (record { next = x; root = view mem .tree .root; nodes = view mem .tree .nodes }) (view mem)
+  next-view : view after ≡ withTree (record { next = x; root = view mem .tree .root; nodes = view mem .tree .nodes }) (view mem)
   unfolding setNext view nodesOf over row
   next-view = view-header 3 xs mem next-fit (omega (arith, d .long)) ∙ rw next-is
 
@@ -101,22 +91,36 @@ pub record Loaded (e : Entry) (mem : List ℕ) : Type 0 where
   pub keeps : laid (loadNode e mem) ≡ true
   pub stands : view (loadNode e mem) ≡ withTree (record { next = e .number + 1; root = view mem .tree .root; nodes = view mem .tree .nodes ++ (noded e ∷ []) }) (view mem)
 
+-- its number is set, and the row may be appended
+pub record Ready (m′ : List ℕ) : Type 0 where
+  pub keeps : laid m′ ≡ true
+  pub room : countOf m′ + 1 < capacityOf m′
+  pub under : nextOf m′ < 2 ^ 56
+
+pub ready : (e : Entry) (mem : List ℕ) → laid mem ≡ true → Loads e → countOf mem + 1 < capacityOf mem → Ready (setNext (e .number) mem)
+ready e mem k f room =
+    let d = laid-is mem k in
+    let top : e .number ≤ 2 ^ 56 = omega (arith, f .top) in
+    record {
+      keeps = next-keeps mem d (e .number) top (f .low) k;
+      room = omega (arith, next-count mem d (e .number) top, next-capacity mem d (e .number) top);
+      under = omega (arith, next-next mem d (e .number) top, f .top);
+    }
+
 pub loads : (e : Entry) (mem : List ℕ) → laid mem ≡ true → Loads e → countOf mem + 1 < capacityOf mem → Loaded e mem
 unfolding loadNode
 loads e mem k f room =
     let d = laid-is mem k in
     let top : e .number ≤ 2 ^ 56 = omega (arith, f .top) in
     let m′ = setNext (e .number) mem in
-    let k′ : laid m′ ≡ true = next-keeps mem d (e .number) top (f .low) k in
+    let r : Ready m′ = ready e mem k f room in
     let x : nextOf m′ ≡ e .number = next-next mem d (e .number) top in
-    let more : countOf m′ + 1 < capacityOf m′ = omega (arith, next-count mem d (e .number) top, next-capacity mem d (e .number) top) in
-    let under : nextOf m′ < 2 ^ 56 = omega (arith, f .top) in
     let v = next-view mem d (e .number) top in
     record {
       long = length-append (e .above) (e .called) m′ ∙ next-length mem d (e .number) top;
-      keeps = keeps-append m′ k′ (e .above) (e .called) more under;
+      keeps = keeps-append m′ (r .keeps) (e .above) (e .called) (r .room) (r .under);
       stands =
-          view-append m′ (laid-is m′ k′) (e .above) (e .called) more under (f .above) (f .short)
+          view-append m′ (laid-is m′ (r .keeps)) (e .above) (e .called) (r .room) (r .under) (f .above) (f .short)
           ∙ (λ t. withTree (record { next = v t .tree .next + 1; root = v t .tree .root; nodes = v t .tree .nodes ++ (bare (x t) (e .above) (e .called) ∷ []) }) (v t));
     }
 

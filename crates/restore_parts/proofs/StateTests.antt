@@ -3,7 +3,7 @@ use mathlib.Core.Path.{_≡_, refl, sym, ap, _∙_}
 use mathlib.Core.Bool.{Bool, true, false, _||_, and-false}
 use mathlib.Core.Logic.{⊎-elim}
 use mathlib.Core.List.{List, [], _∷_}
-use Prim.Native.Nat.{ℕ, _+_, _-_, _^_, _≤_, _<_}
+use Prim.Native.Nat.{ℕ, _+_, _-_, _≤_, _<_}
 use native.Mathlib.Omega.{arith}
 use lib.ListN.{length, take, drop}
 use lib.Dec.{leb, ltb}
@@ -18,9 +18,9 @@ use Rattle.saved.specs.Options.{meant}
 use Rattle.saved.specs.declared.inner.SavedOptions.{SavedOptions}
 use Rattle.saved.proofs.Naming.{name-is}
 use Rattle.tables.specs.Table.{row}
-use Rattle.tables.specs.Layout.{capacityOf, countOf, nextOf as nextIn}
+use Rattle.tables.specs.Layout.{capacityOf, countOf}
 use Rattle.tables.specs.View.{nodesOf, view}
-use Rattle.tables.specs.Rule.{Laid}
+use Rattle.tables.specs.Rule.{laid}
 use Rattle.tables.specs.Write.{heldByte, setNext, appendNode}
 use Rattle.tables.specs.Answer.{mountIn}
 use Rattle.tables.specs.declared.mounts.MountPoint.{MountPoint}
@@ -30,7 +30,7 @@ use Rattle.tables.proofs.Writes.{put-next}
 use Rattle.tables.proofs.Places.{nodes-count}
 use Rattle.restore_parts.specs.Parts.{hasBits, Loads, loadNode, loadNodes, setState, stateMem}
 use Rattle.restore_parts.proofs.Records.{count-is}
-use Rattle.restore_parts.proofs.Loads.{next-capacity, next-count, next-next, next-laid}
+use Rattle.restore_parts.proofs.Loads.{Ready, ready}
 
 -- ---- the byte of `initialized`
 
@@ -90,20 +90,8 @@ module _ (mem b : List ℕ) (at x : ℕ) (m′ : List ℕ) (i : x ≡ nodeAt b a
   set-is : m′ ≡ setNext (nodeAt b at .number) mem
   set-is = p ∙ put-next mem x ∙ ap (λ (y : ℕ). setNext y mem) i
 
-  pub record Ready : Type 0 where
-    pub laid : Laid m′
-    pub room : countOf m′ + 1 < capacityOf m′
-    pub under : nextIn m′ < 2 ^ 56
-
-  pub ready : Laid mem → countOf mem + 1 < capacityOf mem → Loads (nodeAt b at) → Ready
-  ready d room f =
-      let top : nodeAt b at .number ≤ 2 ^ 56 = omega (arith, f .top) in
-      let y = nodeAt b at .number in
-      record {
-        laid = rw set-is (next-laid mem d y top (f .low));
-        room = rw set-is (omega (arith, next-count mem d y top, next-capacity mem d y top));
-        under = rw set-is (omega (arith, next-next mem d y top, f .top));
-      }
+  pub set-ready : laid mem ≡ true → countOf mem + 1 < capacityOf mem → Loads (nodeAt b at) → Ready m′
+  set-ready k room f = rw set-is (ready (nodeAt b at) mem k f room)
 
   pub record-put : (end above : ℕ) (after : List ℕ) → end ≡ behind b at → behind b at ≤ length b → above ≡ nodeAt b at .above
       → after ≡ appendNode above (take (end - (at + 18)) (drop (at + 18) b)) m′ → after ≡ loadNode (nodeAt b at) mem

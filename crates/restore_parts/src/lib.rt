@@ -53,13 +53,13 @@ pub fn is_too_many(s: &[u8], b: &[u8]) -> bool
 
 // The record at a place goes to the end of the table, with its own number (R134).
 fn load_record(s: &mut [u8], b: &[u8], at: usize)
-    requires { ⌜ Laid (now s) ⌝ }
+    requires { ⌜ laid (now s) ≡ true ⌝ }
     requires { ⌜ countOf (now s) + 1 < capacityOf (now s) ⌝ }
     requires { ⌜ behind (now b) at ≤ length (now b) ⌝ }
     requires { ⌜ Loads (nodeAt (now b) at) ⌝ }
     ensures { λ _. ⌜ now (s .exit) ≡ loadNode (nodeAt (now (b .entry)) at) (now (s .entry)) ⌝ }
 {
-    let start = at + 18;
+    let start = at + rules::RECORD;
     let end = saved::inner::record_end(b, at);
     let number = saved::inner::number_at(b, at);
     let above = saved::inner::parent_at(b, at);

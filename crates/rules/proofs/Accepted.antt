@@ -6,16 +6,17 @@ use Prim.Native.Nat.{ℕ, zero, suc, _+_, _-_, _≤_}
 use native.Mathlib.Nat.{zero-add, add-assoc}
 use native.Mathlib.Omega.{arith}
 use lib.ListN.{length}
-use lib.Dec.{leb, ltb, eqb}
+use lib.Dec.{eqb}
 use borrow.Author.Tests.{leb-true, eqb-true, ltb-true}
 use Rattle.rules.specs.Bytes.{Bytes}
 use Rattle.rules.specs.Fields.{read, get, fields}
-use Rattle.rules.specs.Saved.{Entry, nodeRow, optionsRow, trailerRow, nodeBytes, nodesBytes, optionsBytes, trailerBytes, encode, nodeAt, behind, nodesAt, endAt, optionsAt, optionsIn, trailerIn, offsetOf, countOf, nextOf, counterIn, stateOf, laidOut, valid, accepted}
+use Rattle.rules.specs.Saved.{Entry, nodeRow, optionsRow, trailerRow, nodeBytes, nodesBytes, optionsBytes, trailerBytes, encode, nodeAt, behind, nodesAt, endAt, optionsAt, optionsIn, trailerIn, offsetOf, countOf, nextOf, counterIn, stateOf, frame, laidOut, valid, accepted}
 use Rattle.rules.specs.RoundTrip.{EntriesFit, Fits}
 use Rattle.rules.proofs.Tests.{and-both, Holds, passed}
 use Rattle.rules.proofs.Fields.{fieldsAt, length-read, read-add, read-all, get-fits, total, fields-back}
 
-ends-on : (b : List ℕ) (k at : ℕ) → at ≤ endAt b k at
+-- the records from a place on end there or behind it
+pub ends-on : (b : List ℕ) (k at : ℕ) → at ≤ endAt b k at
 unfolding endAt
 ends-on b zero at = omega arith
 ends-on b (suc k) at = omega (arith, ends-on b k (behind b at))
@@ -70,9 +71,7 @@ module _ (b : List ℕ) (h : Bytes b) (a : accepted b ≡ true) where
   abbrev t : ℕ
   t = trailerIn b
 
-  laid : Holds
-      (leb 56 (length b) ∷ eqb (offsetOf b) E ∷ eqb (get 1 b (t + 17)) 1 ∷ eqb (get 6 b (t + 18)) 0 ∷ eqb (get 3 b (E + 29)) 0 ∷ ltb (get 1 b (E + 28)) 64
-      ∷ eqb (endAt b (countOf b) 0) E ∷ [])
+  laid : Holds (frame b ++ (eqb (endAt b (countOf b) 0) E ∷ []))
   unfolding laidOut
   laid = passed _ (clauses b a .0)
 

@@ -22,9 +22,7 @@ use Rattle.rules.specs.Driven.{Rises, Below, Named, Unique, Facts, Prese
 use Rattle.rules.specs.Restored.{GivesBack, SaveThenRestore, RestoreThenSave, NoLonger}
 use Rattle.rules.proofs.Tests.{known, or-neither, pass, passed}
 use Rattle.rules.proofs.Rows.{first-of}
-use Rattle.rules.proofs.Encoded.{state-read, is-accepted}
-use Rattle.rules.proofs.Accepted.{written}
-use Rattle.rules.proofs.RoundTrip.{longest, most-bytes}
+use Rattle.rules.proofs.RoundTrip.{there-and-back, no-other, longest, most-bytes}
 use Rattle.rules.proofs.Shape.{entries-from, entries-length, beside, beside-sym, rises-end}
 use Rattle.rules.proofs.Good.{Good, is-good}
 use Rattle.rules.proofs.Driven.{facts}
@@ -176,8 +174,9 @@ pub save-then-restore : SaveThenRestore
 unfolding restoreRule restoredTo saved
 save-then-restore i j d p fr mask room =
     let f = facts i d in
-    let back : stateOf (encode (saved i)) ≡ saved i = state-read (saved i) (saved-fits i f) in
-    let ok : accepted (encode (saved i)) ≡ true = is-accepted (saved i) (saved-fits i f) (saved-valid i f p) in
+    let both = there-and-back (saved i) (saved-fits i f) (saved-valid i f p) in
+    let ok : accepted (encode (saved i)) ≡ true = both .0 in
+    let back : stateOf (encode (saved i)) ≡ saved i = both .1 in
     let bits : unknown (j .fixed .known) (stateOf (encode (saved i)) .options) ≡ false = rw (back, mask) (f .within) in
     let size : ltb (j .fixed .capacity) (1 + length (stateOf (encode (saved i)) .nodes)) ≡ false =
     rw back (le-ltb (j .fixed .capacity) (1 + length (entriesFor (i .tree .nodes))) (omega (arith, entries-length (i .tree .nodes), room))) in
@@ -202,7 +201,7 @@ unfolding saved restoredTo
 resaved j b h a =
     let s = stateOf b in
     let e : entriesFor (nodesFrom (s .nodes)) ≡ s .nodes = entries-from (s .nodes) in
-    ap encode (λ t. record { nodes = e t; options = s .options; next = s .next; counter = s .counter }) ∙ written b h a
+    ap encode (λ t. record { nodes = e t; options = s .options; next = s .next; counter = s .counter }) ∙ sym (no-other b h a .bytes)
 
 -- the theorem: no other bytes are accepted for it
 pub restore-then-save : RestoreThenSave

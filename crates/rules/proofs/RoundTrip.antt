@@ -1,35 +1,23 @@
 -- Saved bytes give back the state, and no other bytes are accepted for it. Assumes nothing.
-use mathlib.Core.Path.{_≡_, refl, sym, ap, _∙_, subst}
-use mathlib.Core.Bool.{Bool, true, false, cond}
-use mathlib.Core.Option.{Option, some, none}
+use mathlib.Core.Path.{_≡_, refl, sym}
 use mathlib.Core.List.{List, [], _∷_}
 use Prim.Native.Nat.{ℕ, _*_, _≤_}
 use native.Mathlib.Omega.{arith}
 use lib.ListN.{length, length-append}
 use Rattle.rules.specs.Create.{newInstance}
-use Rattle.rules.specs.Saved.{Entry, State, nodeBytes, nodesBytes, encode, stateOf, valid, accepted, decode}
+use Rattle.rules.specs.Saved.{Entry, nodeBytes, nodesBytes}
 use Rattle.rules.specs.Restore.{saved, entriesFor}
-use Rattle.rules.specs.RoundTrip.{Fits, ThereAndBack, Only, NoOther, FreshLength, NamesTo, NamesOf, Longest}
+use Rattle.rules.specs.RoundTrip.{ThereAndBack, NoOther, FreshLength, NamesTo, NamesOf, Longest}
 use Rattle.rules.proofs.Encoded.{node-length, encode-length, state-read, is-accepted}
 use Rattle.rules.proofs.Accepted.{clauses, written, fits}
 
 -- the theorem: saved bytes give back the state
 pub there-and-back : ThereAndBack
-unfolding decode
-there-and-back s f v = rw (is-accepted s f v) (ap {B = Option State} some (state-read s f))
+there-and-back s f v = (is-accepted s f v, state-read s f)
 
 -- the theorem: no other bytes are accepted for a state
 pub no-other : NoOther
-unfolding decode
-no-other b s h = go (accepted b) refl
-  where
-    go : (t : Bool) → accepted b ≡ t → cond t (some (stateOf b)) none ≡ some s → Only b s
-    go true a e =
-        let same : stateOf b ≡ s = cc in
-        record { bytes = sym (written b h a) ∙ ap encode same; fits = subst Fits same (fits b h a); good = ap valid (sym same) ∙ clauses b a .1 }
-    go false a e =
-        let z : _≡_ {A = ℕ} 0 1 = cc in
-        absurd (omega arith)
+no-other b h a = record { bytes = sym (written b h a); fits = fits b h a; good = clauses b a .1 }
 
 -- ---- lengths
 

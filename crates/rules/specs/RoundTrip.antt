@@ -2,13 +2,12 @@
 use Prim.Native.Nat.{ℕ, _^_, _≤_, _<_}
 use mathlib.Core.Bool.{true}
 use mathlib.Core.List.{List, [], _∷_}
-use mathlib.Core.Option.{some}
 use mathlib.Core.Path.{_≡_}
 use lib.ListN.{length}
 use Rattle.rules.specs.Bytes.{Bytes}
 use Rattle.rules.specs.Instance.{Options}
 use Rattle.rules.specs.Create.{Creation, newInstance}
-use Rattle.rules.specs.Saved.{Entry, State, nodesBytes, encode, valid, decode}
+use Rattle.rules.specs.Saved.{Entry, State, nodesBytes, encode, stateOf, valid, accepted}
 use Rattle.rules.specs.Restore.{saved}
 
 -- ---- each field within its width
@@ -44,9 +43,9 @@ pub record Fits (s : State) : Type 0 where
 
 -- ---- the claims
 
--- what was written is read again (R135)
+-- what was written is accepted, and read again (R135)
 abbrev pub ThereAndBack : Type 0
-ThereAndBack = (s : State) → Fits s → valid s ≡ true → decode (encode s) ≡ some s
+ThereAndBack = (s : State) → Fits s → valid s ≡ true → (accepted (encode s) ≡ true) × (stateOf (encode s) ≡ s)
 
 -- the bytes are what is written for the state, and the state is a good one (R136)
 pub record Only (b : List ℕ) (s : State) : Type 0 where
@@ -56,7 +55,7 @@ pub record Only (b : List ℕ) (s : State) : Type 0 where
 
 -- no other bytes are accepted for a state (R136)
 abbrev pub NoOther : Type 0
-NoOther = (b : List ℕ) (s : State) → Bytes b → decode b ≡ some s → Only b s
+NoOther = (b : List ℕ) → Bytes b → accepted b ≡ true → Only b (stateOf b)
 
 -- a fresh state has 56 bytes (R124)
 abbrev pub FreshLength : Type 0

@@ -1,8 +1,7 @@
 -- The saved state, version 1: what it says, how it is written, and which bytes are accepted. Reading is total, and tests judge what was read.
 use Prim.Native.Nat.{ℕ, zero, suc, _+_, _-_}
-use mathlib.Core.Bool.{Bool, true, false, cond, not, _&&_, _||_}
+use mathlib.Core.Bool.{Bool, true, false, not, _&&_, _||_}
 use mathlib.Core.List.{List, [], _∷_, _++_}
-use mathlib.Core.Option.{Option, none, some}
 use lib.ListN.{length}
 use lib.Dec.{leb, ltb, eqb}
 use Rattle.rules.specs.Numbers.{rootNumber, topNumber}
@@ -18,7 +17,7 @@ pub record Entry : Type 0 where
   pub above : ℕ
   pub called : List ℕ
 
--- the nodes, root left out, ascending by number; mounts are not saved (R120, R127)
+-- the nodes, root left out, in table order; mounts are not saved (R126, R127)
 pub record State : Type 0 where
   pub nodes : List Entry
   pub options : Options
@@ -127,18 +126,20 @@ unfoldable pub every : List Bool → Bool
 every [] = true
 every (t ∷ ts) = t && every ts
 
--- not short (R129 a), the offset (b), the version (d), the zero bytes (e), the flags (f), the records fill the bytes exactly (c)
-unfoldable pub laidOut : List ℕ → Bool
-laidOut b =
-    every
-    (leb 56 (length b)
+-- not short (R129 a), the offset (b), the version (d), the zero bytes (e), the flags (f)
+abbrev pub frame : List ℕ → List Bool
+frame b =
+    leb 56 (length b)
     ∷ eqb (offsetOf b) (optionsIn b)
     ∷ eqb (get 1 b (trailerIn b + 17)) 1
     ∷ eqb (get 6 b (trailerIn b + 18)) 0
     ∷ eqb (get 3 b (optionsIn b + 29)) 0
     ∷ ltb (get 1 b (optionsIn b + 28)) 64
-    ∷ eqb (endAt b (countOf b) 0) (optionsIn b)
-    ∷ [])
+    ∷ []
+
+-- and the records fill the bytes exactly (R129 c)
+unfoldable pub laidOut : List ℕ → Bool
+laidOut b = every (frame b ++ (eqb (endAt b (countOf b) 0) (optionsIn b) ∷ []))
 
 -- a record is judged among those before it, the nearest first; the root stands before all (R129 g)
 unfoldable pub lastNumber : List Entry → ℕ
@@ -182,7 +183,3 @@ valid s = every (leb 2 (s .next) ∷ leb (s .next) topNumber ∷ goodNodes (s .n
 -- what BADSAVE refuses is what is not accepted (R129)
 unfoldable pub accepted : List ℕ → Bool
 accepted b = laidOut b && valid (stateOf b)
-
--- the state of bytes that are accepted (R135, R136)
-unfoldable pub decode : List ℕ → Option State
-decode b = cond (accepted b) (some (stateOf b)) none

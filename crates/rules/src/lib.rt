@@ -20,6 +20,15 @@ pub const MAX_PATH: usize = 4096;
 
 pub const MAX_LINE: usize = 8192;
 
+// The saved state: a record without its name, the options, the trailer, and these two (R120, R121, R123).
+pub const RECORD: usize = 18;
+
+pub const OPTIONS: usize = 32;
+
+pub const TRAILER: usize = 24;
+
+pub const TAIL: usize = OPTIONS + TRAILER;
+
 pub const DIR_MODE: u32 = 16895;
 
 pub const BLOCK_SIZE: u32 = 4096;

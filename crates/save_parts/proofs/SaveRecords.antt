@@ -13,18 +13,17 @@ use Rattle.rules.specs.Instance.{Options}
 use Rattle.rules.specs.Saved.{Entry, nodeBytes, nodesBytes, optionsBytes, trailerBytes}
 use Rattle.rules.specs.Restore.{entryFor, entriesFor}
 use Rattle.rules.proofs.Encoded.{node-length}
-use Rattle.le.specs.Mem.{get, write, put}
+use Rattle.le.specs.Mem.{write, put}
 use Rattle.le.proofs.Lens.{length-write, write-append, put-write, put-add}
 use Rattle.le.proofs.Writes.{write-part}
-use Rattle.tables.specs.Table.{row}
 use Rattle.tables.specs.Layout.{capacityOf, countOf}
-use Rattle.tables.specs.View.{optionsFrom, headOf, nodeAt, nodesOf}
+use Rattle.tables.specs.View.{nodeAt, nodesOf}
 use Rattle.tables.specs.Rule.{Laid}
 use Rattle.tables.proofs.Tab.{tab-next, tab-done}
 use Rattle.tables.proofs.Find.{left, none-looked}
 use Rattle.row_name.specs.Copied.{Copied}
 use Rattle.row_name.proofs.Names.{name-short}
-use Rattle.save_parts.specs.Parts.{Sizes, Puts, optionsBy}
+use Rattle.save_parts.specs.Parts.{Sizes}
 
 -- ---- the fields of each part, one by one
 
@@ -45,12 +44,6 @@ options-put mem at o =
     let e₆ : at + 29 + 1 ≡ at + 30 = omega arith in
     simp (field-put, e₁, e₂, e₃, e₄, e₅, put-add 1 2, e₆)
 
--- as the header has them, with their own mapping
-pub options-by : (mem d e : List ℕ) (at i o a b r f : ℕ) → i ≡ get 8 mem 40 → o ≡ get 8 mem 48 → a ≡ get 4 mem 68 → b ≡ get 4 mem 72 → r ≡ get 4 mem 76 → f ≡ get 1 mem 80
-    → e ≡ write d at (optionsBytes (optionsBy i o a b r f)) → e ≡ write d at (optionsBytes (optionsFrom (headOf mem)))
-unfolding row get
-options-by mem d e at i o a b r f e₁ e₂ e₃ e₄ e₅ e₆ w = rw (e₁, e₂, e₃, e₄, e₅, e₆) at w
-
 pub trailer-put : (mem : List ℕ) (at offset count next counter : ℕ)
     → put 4 (put 2 (put 1 (put 1 (put 8 (put 4 (put 4 mem at offset) (at + 4) count) (at + 8) next) (at + 16) counter) (at + 17) 1) (at + 18) 0) (at + 20) 0
     ≡ write mem at (trailerBytes offset count next counter)
@@ -70,7 +63,7 @@ module _ (n : Entry) (d : List ℕ) where
   record-put = simp (append-assoc, field-put)
 
   pub record-puts : (x y len m : ℕ) (e₁ e₂ e₃ e₄ : List ℕ) → x ≡ n .number → y ≡ n .above → len ≡ length (n .called)
-      → e₁ ≡ put 8 d 0 x → e₂ ≡ put 8 e₁ 8 y → e₃ ≡ put 2 e₂ 16 len → Copied (n .called) e₃ 18 m e₄ → Puts (nodeBytes n) d (18 + m) e₄
+      → e₁ ≡ put 8 d 0 x → e₂ ≡ put 8 e₁ 8 y → e₃ ≡ put 2 e₂ 16 len → Copied (n .called) e₃ 18 m e₄ → Copied (nodeBytes n) d 0 (18 + m) e₄
   record-puts x y len m e₁ e₂ e₃ e₄ a b l p q r w = record {
     count = ap (λ (k : ℕ). 18 + k) (w .count) ∙ sym (node-length n);
     bytes = w .bytes ∙ rw (r, q, p, a, b, l) record-put;
@@ -175,7 +168,7 @@ module _ (mem : List ℕ) (c : ℕ) (d₀ d : List ℕ) (at i : ℕ) (p : Puttin
     putting-room = omega (arith, rest-length, p .count, p .fits, p .long, later-size mem c i h)
 
     -- the record of row i is put there
-    pub putting-on : (n : ℕ) (ys : List ℕ) → Puts (nodeBytes (entryFor (node mem i))) rest n ys → Putting mem c d₀ (putMid at (length d - at) d ys) (at + n) (i + 1)
+    pub putting-on : (n : ℕ) (ys : List ℕ) → Copied (nodeBytes (entryFor (node mem i))) rest 0 n ys → Putting mem c d₀ (putMid at (length d - at) d ys) (at + n) (i + 1)
     putting-on n ys w =
         let r : List ℕ = nodeBytes (entryFor (node mem i)) in
         let now : putMid at (length d - at) d ys ≡ write d at r =

@@ -1,2 +1,2 @@
--- What the parts of a save answer and put.
+-- What the parts of a save answer.
 pub mod Parts

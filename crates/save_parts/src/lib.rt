@@ -8,19 +8,16 @@ ghost use Rattle.rules.specs.Restore.{entryFor, entriesFor};
 ghost use Rattle.tables.specs.Layout.{capacityOf, countOf};
 ghost use Rattle.tables.specs.View.{optionsFrom, headOf, nodeAt, nodesOf};
 ghost use Rattle.tables.specs.Rule.{Laid};
-ghost use Rattle.save_parts.specs.Parts.{Sizes, Puts, optionsBy};
-use le::fields::get_u8;
-use le::fields::get_u32;
-use le::fields::get_u64;
+ghost use Rattle.row_name.specs.Copied.{Copied};
+ghost use Rattle.storage.specs.Answers.{optionsIn};
+ghost use Rattle.save_parts.specs.Parts.{Sizes};
 use le::fields::put_u8;
 use le::fields::put_u16;
 use le::fields::put_u32;
 use le::fields::put_u64;
 use row_name::copy_name;
 use row_name::name_len;
-
-// A record without its name: number, parent, length of the name (R120).
-const RECORD: usize = 18;
+use storage::VfsOptions;
 
 // How many bytes the node records take (R120).
 pub fn records_size(s: &[u8]) -> usize
@@ -31,7 +28,7 @@ pub fn records_size(s: &[u8]) -> usize
     let mut size = 0;
     let mut i = 0;
     while i < c {
-        size = size + RECORD + name_len(s, i);
+        size = size + rules::RECORD + name_len(s, i);
         i += 1;
     }
     size
@@ -42,12 +39,12 @@ fn put_record(s: &[u8], i: usize, out: &mut [u8]) -> usize
     requires { ⌜ Laid (now s) ⌝ }
     requires { ⌜ i < countOf (now s) ⌝ }
     requires { ⌜ 18 + length (nodeAt (capacityOf (now s)) (now s) i .called) ≤ length (now out) ⌝ }
-    ensures { λ r. ⌜ Puts (nodeBytes (entryFor (nodeAt (capacityOf (now (s .entry))) (now (s .entry)) i))) (now (out .entry)) r (now (out .exit)) ⌝ }
+    ensures { λ r. ⌜ Copied (nodeBytes (entryFor (nodeAt (capacityOf (now (s .entry))) (now (s .entry)) i))) (now (out .entry)) 0 r (now (out .exit)) ⌝ }
 {
     put_u64(out, 0, tables::rows::number(s, i));
     put_u64(out, 8, tables::rows::parent(s, i));
     put_u16(out, 16, name_len(s, i) as u16);
-    RECORD + copy_name(s, i, out, RECORD)
+    rules::RECORD + copy_name(s, i, out, rules::RECORD)
 }
 
 // Puts the records of all rows, in table order, each into the rest that is unwritten (R120, R126).
@@ -67,25 +64,16 @@ pub fn put_records(s: &[u8], out: &mut [u8])
 }
 
 // Puts the fields of options at a place, and their zeros (R121).
-fn put_fields(
-    out: &mut [u8],
-    at: usize,
-    in_opts: u64,
-    out_opts: u64,
-    internal: u32,
-    external: u32,
-    range: u32,
-    flags: u8,
-)
+fn put_fields(out: &mut [u8], at: usize, o: VfsOptions)
     requires { ⌜ at + 32 ≤ length (now out) ⌝ }
-    ensures { λ _. ⌜ now (out .exit) ≡ write (now (out .entry)) at (optionsBytes (optionsBy «in_opts» «out_opts» internal external range flags)) ⌝ }
+    ensures { λ _. ⌜ now (out .exit) ≡ write (now (out .entry)) at (optionsBytes (optionsIn o)) ⌝ }
 {
-    put_u64(out, at, in_opts);
-    put_u64(out, at + 8, out_opts);
-    put_u32(out, at + 16, internal);
-    put_u32(out, at + 20, external);
-    put_u32(out, at + 24, range);
-    put_u8(out, at + 28, flags);
+    put_u64(out, at, o.in_opts);
+    put_u64(out, at + 8, o.out_opts);
+    put_u32(out, at + 16, o.mapping.internal);
+    put_u32(out, at + 20, o.mapping.external);
+    put_u32(out, at + 24, o.mapping.range);
+    put_u8(out, at + 28, o.flags);
     put_u8(out, at + 29, 0);
     put_u16(out, at + 30, 0);
 }
@@ -96,13 +84,8 @@ pub fn put_options(s: &[u8], out: &mut [u8], at: usize)
     requires { ⌜ at + 32 ≤ length (now out) ⌝ }
     ensures { λ _. ⌜ now (out .exit) ≡ write (now (out .entry)) at (optionsBytes (optionsFrom (headOf (now (s .entry))))) ⌝ }
 {
-    let in_opts = get_u64(s, 40);
-    let out_opts = get_u64(s, 48);
-    let internal = get_u32(s, 68);
-    let external = get_u32(s, 72);
-    let range = get_u32(s, 76);
-    let flags = get_u8(s, 80);
-    put_fields(out, at, in_opts, out_opts, internal, external, range, flags);
+    let o = storage::inner::options_in(s);
+    put_fields(out, at, o);
 }
 
 // Puts the trailer at a place (R123).

@@ -2,7 +2,7 @@
 use mathlib.Core.Path.{_≡_, sym, ap}
 use mathlib.Core.Bool.{true, false, not, and-true}
 use mathlib.Core.List.{List}
-use Prim.Native.Nat.{ℕ, zero, suc, _+_, _-_, _≤_, _<_}
+use Prim.Native.Nat.{ℕ, suc, _+_, _-_, _≤_, _<_}
 use native.Mathlib.Omega.{arith}
 use lib.ListN.{length, take, drop}
 use lib.Dec.{eqb}
@@ -14,6 +14,7 @@ use Rattle.rules.specs.Fields.{get}
 use Rattle.rules.specs.Saved.{Entry, nodeAt, behind, nodesAt, endAt, every, goodName}
 use Rattle.rules.proofs.Tests.{fails}
 use Rattle.rules.proofs.Fields.{read-slice}
+use Rattle.rules.proofs.Accepted.{ends-on}
 use Rattle.saved.specs.Scan.{sound, allSound, soundTo}
 
 module _ (p : List ℕ) where
@@ -64,11 +65,6 @@ module _ (next last : ℕ) (n : Entry) where
   sound-name l h p e = rw (lt-ltb last (n .number) l, lt-ltb (n .number) next h, and-true, e)
 
 -- ---- the records from a place on, of which i of `count` are passed
-
-ends-on : (b : List ℕ) (k at : ℕ) → at ≤ endAt b k at
-unfolding endAt
-ends-on b zero at = omega arith
-ends-on b (suc k) at = omega (arith, ends-on b k (behind b at))
 
 module _ (b : List ℕ) (next to count at i last : ℕ) where
   pub rest-short : i < count → to < behind b at → soundTo b next to (count - i) at last ≡ false

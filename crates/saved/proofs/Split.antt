@@ -2,12 +2,10 @@
 use mathlib.Core.Path.{_≡_, refl, sym, _∙_}
 use mathlib.Core.Bool.{Bool, true, false, not, _&&_, and-true, and-false, and-assoc}
 use mathlib.Core.List.{List, [], _∷_, _++_}
-use Prim.Native.Nat.{ℕ, _+_}
-use lib.ListN.{length}
+use Prim.Native.Nat.{ℕ}
 use lib.Dec.{leb, ltb, eqb}
 use Rattle.rules.specs.Numbers.{topNumber}
-use Rattle.rules.specs.Fields.{get}
-use Rattle.rules.specs.Saved.{Entry, nodesAt, endAt, optionsIn, trailerIn, offsetOf, countOf, nextOf, stateOf, every, laidOut, lastNumber, present, used, goodName, goodNode, goodNodes, valid, accepted}
+use Rattle.rules.specs.Saved.{Entry, nodesAt, endAt, optionsIn, countOf, nextOf, stateOf, every, frame, laidOut, lastNumber, present, used, goodName, goodNode, goodNodes, valid, accepted}
 use Rattle.saved.specs.Scan.{framed, sound, allSound, soundTo, placed, allPlaced}
 
 every-append : (xs ys : List Bool) → every (xs ++ ys) ≡ (every xs && every ys)
@@ -34,7 +32,7 @@ node-split next before n =
     (present (n .above) before ∷ not (used (n .above) (n .called) before) ∷ [])
 
 -- the law: all pass the one group and all pass the other
-pub nodes-split : (next : ℕ) (before ns : List Entry) → goodNodes next before ns ≡ (allSound next (lastNumber before) ns && allPlaced before ns)
+nodes-split : (next : ℕ) (before ns : List Entry) → goodNodes next before ns ≡ (allSound next (lastNumber before) ns && allPlaced before ns)
 unfolding goodNodes allSound allPlaced lastNumber
 nodes-split next before [] = refl
 nodes-split next before (n ∷ ns) =
@@ -51,16 +49,6 @@ shuffle true true false S P = refl
 shuffle true true true S P = refl
 
 module _ (b : List ℕ) where
-  abbrev frame : List Bool
-  frame =
-      leb 56 (length b)
-      ∷ eqb (offsetOf b) (optionsIn b)
-      ∷ eqb (get 1 b (trailerIn b + 17)) 1
-      ∷ eqb (get 6 b (trailerIn b + 18)) 0
-      ∷ eqb (get 3 b (optionsIn b + 29)) 0
-      ∷ ltb (get 1 b (optionsIn b + 28)) 64
-      ∷ []
-
   abbrev bounds : List Bool
   bounds = leb 2 (nextOf b) ∷ leb (nextOf b) topNumber ∷ []
 
@@ -70,17 +58,17 @@ module _ (b : List ℕ) where
   abbrev records : List Entry
   records = nodesAt b (countOf b) 0
 
-  laid-split : laidOut b ≡ (every frame && filled)
+  laid-split : laidOut b ≡ (every (frame b) && filled)
   unfolding laidOut
-  laid-split = every-append frame (filled ∷ []) ∙ rw (every-one filled)
+  laid-split = every-append (frame b) (filled ∷ []) ∙ rw (every-one filled)
 
   valid-split : valid (stateOf b) ≡ (every bounds && (allSound (nextOf b) 1 records && allPlaced [] records))
   unfolding valid stateOf lastNumber
   valid-split = every-append bounds (goodNodes (nextOf b) [] records ∷ []) ∙ rw (every-one (goodNodes (nextOf b) [] records), nodes-split (nextOf b) [] records)
 
-  framed-split : framed b ≡ (every frame && every bounds)
+  framed-split : framed b ≡ (every (frame b) && every bounds)
   unfolding framed
-  framed-split = every-append frame bounds
+  framed-split = every-append (frame b) bounds
 
   sound-split : soundTo b (nextOf b) (optionsIn b) (countOf b) 0 1 ≡ (filled && allSound (nextOf b) 1 records)
   unfolding soundTo
@@ -90,7 +78,7 @@ module _ (b : List ℕ) where
   unfolding accepted
   accepted-split =
       rw (laid-split, valid-split, framed-split, sound-split)
-      (shuffle (every frame) filled (every bounds) (allSound (nextOf b) 1 records) (allPlaced [] records))
+      (shuffle (every (frame b)) filled (every bounds) (allSound (nextOf b) 1 records) (allPlaced [] records))
 
   -- where a part fails, and where the first two hold
   pub not-framed : framed b ≡ false → accepted b ≡ false

@@ -102,7 +102,7 @@ module _ (before : List Entry) (n : Entry) where
   unfolding placed
   is-used h = fails 1 _ (ap not h)
 
-  pub if-present : used (n .above) (n .called) before ≡ false → present (n .above) before ≡ placed before n
+  if-present : used (n .above) (n .called) before ≡ false → present (n .above) before ≡ placed before n
   unfolding placed every
   if-present h = rw (h, and-true)
 

@@ -1,14 +1,12 @@
 -- The records of saved bytes as a walk meets them, and the clauses of `accepted` in two groups: those that one record and the
 -- number before it decide, and those of pairs.
-use Prim.Native.Nat.{ℕ, zero, suc, _+_}
+use Prim.Native.Nat.{ℕ, zero, suc}
 use mathlib.Core.Bool.{Bool, true, not, _&&_}
-use mathlib.Core.List.{List, [], _∷_}
-use lib.ListN.{length}
+use mathlib.Core.List.{List, [], _∷_, _++_}
 use lib.Dec.{leb, ltb, eqb}
 use Rattle.rules.specs.Numbers.{topNumber}
 use Rattle.rules.specs.Bytes.{same}
-use Rattle.rules.specs.Fields.{get}
-use Rattle.rules.specs.Saved.{Entry, nodeAt, behind, nodesAt, endAt, optionsIn, trailerIn, offsetOf, nextOf, every, present, used, goodName}
+use Rattle.rules.specs.Saved.{Entry, nodeAt, behind, nodesAt, endAt, nextOf, every, frame, present, used, goodName}
 
 -- where record i starts
 unfoldable pub startOf : List ℕ → ℕ → ℕ
@@ -22,17 +20,7 @@ earlier b (suc i) = nodeAt b (startOf b i) ∷ earlier b i
 
 -- of the length and the last 56 bytes (R129 a, b, d, e, f, h)
 unfoldable pub framed : List ℕ → Bool
-framed b =
-    every
-    (leb 56 (length b)
-    ∷ eqb (offsetOf b) (optionsIn b)
-    ∷ eqb (get 1 b (trailerIn b + 17)) 1
-    ∷ eqb (get 6 b (trailerIn b + 18)) 0
-    ∷ eqb (get 3 b (optionsIn b + 29)) 0
-    ∷ ltb (get 1 b (optionsIn b + 28)) 64
-    ∷ leb 2 (nextOf b)
-    ∷ leb (nextOf b) topNumber
-    ∷ [])
+framed b = every (frame b ++ (leb 2 (nextOf b) ∷ leb (nextOf b) topNumber ∷ []))
 
 -- of one record, behind one with the number `last` (R129 g, h, j)
 unfoldable pub sound : ℕ → ℕ → Entry → Bool

@@ -1,4 +1,4 @@
-// What saved bytes say, field by field, for a state that is accepted (R119 to R123).
+// What saved bytes say, field by field, whether or not they are accepted (R119 to R123).
 ghost use mathlib.Core.Path.{_≡_};
 ghost use Prim.Native.Nat.{_+_, _≤_};
 ghost use lib.ListN.{length};
@@ -21,7 +21,7 @@ pub fn count_of(b: &[u8]) -> usize
     requires { ⌜ 24 ≤ length (now b) ⌝ }
     ensures { λ r. ⌜ r ≡ countOf (now (b .entry)) ⌝ }
 {
-    le::fields::get_u32(b, b.len() - 24 + 4) as usize
+    le::fields::get_u32(b, b.len() - rules::TRAILER + 4) as usize
 }
 
 // The next number (R123).
@@ -29,7 +29,7 @@ pub fn next_of(b: &[u8]) -> u64
     requires { ⌜ 24 ≤ length (now b) ⌝ }
     ensures { λ r. ⌜ r ≡ nextOf (now (b .entry)) ⌝ }
 {
-    le::fields::get_u64(b, b.len() - 24 + 8)
+    le::fields::get_u64(b, b.len() - rules::TRAILER + 8)
 }
 
 // The counter of the indexes (R123).
@@ -37,7 +37,7 @@ pub fn counter_of(b: &[u8]) -> u8
     requires { ⌜ 24 ≤ length (now b) ⌝ }
     ensures { λ r. ⌜ r ≡ counterIn (now (b .entry)) ⌝ }
 {
-    le::fields::get_u8(b, b.len() - 24 + 16)
+    le::fields::get_u8(b, b.len() - rules::TRAILER + 16)
 }
 
 // The options (R121).
@@ -45,7 +45,7 @@ pub fn options_of(b: &[u8]) -> SavedOptions
     requires { ⌜ 56 ≤ length (now b) ⌝ }
     ensures { λ r. ⌜ meant r ≡ optionsAt (now (b .entry)) (optionsIn (now (b .entry))) ⌝ }
 {
-    let o = b.len() - 56;
+    let o = b.len() - rules::TAIL;
     SavedOptions {
         in_opts: le::fields::get_u64(b, o),
         out_opts: le::fields::get_u64(b, o + 8),
@@ -85,5 +85,5 @@ pub fn record_end(b: &[u8], at: usize) -> usize
     requires { ⌜ behind (now b) at ≤ length (now b) ⌝ }
     ensures { λ r. ⌜ r ≡ behind (now (b .entry)) at ⌝ }
 {
-    at + 18 + name_len(b, at)
+    at + rules::RECORD + name_len(b, at)
 }

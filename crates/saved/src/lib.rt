@@ -15,11 +15,11 @@ fn is_framed(b: &[u8]) -> bool
     ensures { λ r. ⌜ r ≡ framed (now (b .entry)) ⌝ }
 {
     let n = b.len();
-    if n < 56 {
+    if n < rules::TAIL {
         return false;
     }
-    let o = n - 56;
-    let t = n - 24;
+    let o = n - rules::TAIL;
+    let t = n - rules::TRAILER;
     if le::fields::get_u32(b, t) as usize != o {
         return false;
     }
@@ -30,7 +30,7 @@ fn is_framed(b: &[u8]) -> bool
         return false;
     }
     let next = inner::next_of(b);
-    if next < 2 {
+    if next < rules::FIRST_NODE {
         return false;
     }
     next <= rules::NUMBERS
@@ -43,7 +43,7 @@ fn is_good_name(name: &[u8]) -> bool
     if name.len() < 1 {
         return false;
     }
-    if 255 < name.len() {
+    if rules::MAX_NAME < name.len() {
         return false;
     }
     if path::names::has_byte(name, b'/') {
@@ -70,7 +70,7 @@ fn is_sound(b: &[u8], at: usize, last: u64, next: u64) -> bool
     if next <= number {
         return false;
     }
-    let start = at + 18;
+    let start = at + rules::RECORD;
     let end = inner::record_end(b, at);
     is_good_name(&b[start..end])
 }
@@ -80,22 +80,22 @@ fn are_sound(b: &[u8], to: usize, count: usize, next: u64) -> bool
     requires { ⌜ to ≤ length (now b) ⌝ }
     ensures { λ r. ⌜ r ≡ soundTo (now (b .entry)) next to count 0 1 ⌝ }
 {
-    let mut last: u64 = 1;
+    let mut last = rules::ROOT_ID;
     let mut at = 0;
     let mut i = 0;
     while i < count {
-        if to - at < 18 {
+        if to - at < rules::RECORD {
             return false;
         }
         let len = inner::name_len(b, at);
-        if to - at - 18 < len {
+        if to - at - rules::RECORD < len {
             return false;
         }
         if !is_sound(b, at, last, next) {
             return false;
         }
         last = inner::number_at(b, at);
-        at = at + 18 + len;
+        at = at + rules::RECORD + len;
         i += 1;
     }
     at == to
@@ -114,7 +114,7 @@ fn is_twin(b: &[u8], p: usize, q: usize) -> bool
     if inner::name_len(b, p) != len {
         return false;
     }
-    le::runs::same_at(b, p + 18, b, q + 18, len)
+    le::runs::same_at(b, p + rules::RECORD, b, q + rules::RECORD, len)
 }
 
 // Whether the parent of the record at a place, before which i stand, is there, and no twin, by a scan of the bytes (R129).
@@ -124,7 +124,7 @@ fn is_placed_by_scan(b: &[u8], at: usize, i: usize) -> bool
     ensures { λ r. ⌜ r ≡ placed (earlier (now (b .entry)) i) (nodeAt (now (b .entry)) at) ⌝ }
 {
     let parent = inner::parent_at(b, at);
-    let mut found = parent == 1;
+    let mut found = parent == rules::ROOT_ID;
     let mut p = 0;
     let mut j = 0;
     while j < i {
@@ -161,7 +161,7 @@ fn is_listed(numbers: &[u64; 1023], i: usize, number: u64) -> bool
             return true;
         }
     }
-    number == 1
+    number == rules::ROOT_ID
 }
 
 // Whether one of the i records before has the parent and the name of the record at a place: only those with its key are read (R129).
@@ -184,7 +184,8 @@ fn is_used(b: &[u8], at: usize, i: usize, starts: &[usize; 1023], keys: &[u64; 1
     false
 }
 
-// Whether the parent of the record at a place, before which i stand, is there, and no twin (R129).
+// Whether the parent of the record at a place, before which i stand, is there, and no twin: by the columns, which hold where each of the first k records
+// starts, its number and its key, or by a scan of the bytes where i is above k (R129).
 fn is_placed(
     b: &[u8],
     at: usize,
@@ -269,7 +270,7 @@ pub fn is_accepted(b: &[u8]) -> bool
         return false;
     }
     let count = inner::count_of(b);
-    if !are_sound(b, b.len() - 56, count, inner::next_of(b)) {
+    if !are_sound(b, b.len() - rules::TAIL, count, inner::next_of(b)) {
         return false;
     }
     are_placed(b, count)

@@ -9,7 +9,7 @@ use Rattle.le.specs.Mem.{get}
 use Rattle.rules.specs.Outcome.{settings}
 use Rattle.rules.specs.Calls.{rule}
 use Rattle.tables.specs.Table.{row}
-use Rattle.tables.specs.View.{view}
+use Rattle.tables.specs.View.{optionsFrom, headOf, view}
 use Rattle.tables.specs.Rule.{laid}
 use Rattle.tables.specs.Write.{setRemoval}
 use Rattle.tables.specs.Call.{tells, answeredBy, Does}
@@ -36,12 +36,14 @@ module _ (mem : List ℕ) where
   unfolding optionsTold
   options-small e = sym (told-small mem optionsCall e)
 
-  pub options-are : laid mem ≡ true → (o : VfsOptions) → o .«in_opts» ≡ get 8 mem 40 → o .«out_opts» ≡ get 8 mem 48 → o .mapping .internal ≡ get 4 mem 68
-      → o .mapping .external ≡ get 4 mem 72 → o .mapping .range ≡ get 4 mem 76 → o .flags ≡ get 1 mem 80 → optionsTold (OptionsAre o) ≡ answeredBy mem optionsCall
-  unfolding optionsTold rule view row get
-  options-are e o a b c d f g =
-      let same : optionsIn o ≡ view mem .options = λ t. record { inOpts = a t; outOpts = b t; mapping = record { internal = c t; external = d t; range = f t }; flags = g t } in
-      (λ t. tells (settings (same t))) ∙ sym (told-by mem optionsCall e)
+  pub options-by : (o : VfsOptions) → o .«in_opts» ≡ get 8 mem 40 → o .«out_opts» ≡ get 8 mem 48 → o .mapping .internal ≡ get 4 mem 68 → o .mapping .external ≡ get 4 mem 72
+      → o .mapping .range ≡ get 4 mem 76 → o .flags ≡ get 1 mem 80 → optionsIn o ≡ optionsFrom (headOf mem)
+  unfolding row get
+  options-by o a b c d f g = λ t. record { inOpts = a t; outOpts = b t; mapping = record { internal = c t; external = d t; range = f t }; flags = g t }
+
+  pub options-are : laid mem ≡ true → (o : VfsOptions) → optionsIn o ≡ optionsFrom (headOf mem) → optionsTold (OptionsAre o) ≡ answeredBy mem optionsCall
+  unfolding optionsTold rule view
+  options-are e o same = (λ t. tells (settings (same t))) ∙ sym (told-by mem optionsCall e)
 
   pub removal-small : laid mem ≡ false → Does mem removeCall (removalTold RemovalSmall) mem (cond (laid mem) (setRemoval mem) mem)
   unfolding removalTold

@@ -1,7 +1,12 @@
-// The test of option bits, for creation and for a state restore: nothing here is for a host.
+// The test of option bits, for creation and for a state restore, and the options of the header, for a save: nothing here is for a host.
+use crate::VfsOptions;
 ghost use mathlib.Core.Path.{_≡_};
 ghost use mathlib.Core.Bool.{_||_};
+ghost use Prim.Native.Nat.{_≤_};
+ghost use lib.ListN.{length};
 ghost use Rattle.rules.specs.Create.{outside};
+ghost use Rattle.tables.specs.View.{optionsFrom, headOf};
+ghost use Rattle.storage.specs.Answers.{optionsIn};
 
 // Whether a bit of either word is outside the mask (R28).
 pub fn is_unknown(known: u64, in_opts: u64, out_opts: u64) -> bool
@@ -11,4 +16,22 @@ pub fn is_unknown(known: u64, in_opts: u64, out_opts: u64) -> bool
         return true;
     }
     out_opts & known != out_opts
+}
+
+// The options of the header, with their own mapping (R27, R34).
+pub fn options_in(s: &[u8]) -> VfsOptions
+    requires { ⌜ 8192 ≤ length (now s) ⌝ }
+    ensures { λ r. ⌜ optionsIn r ≡ optionsFrom (headOf (now (s .entry))) ⌝ }
+{
+    let mapping = id_map::IdMapping {
+        internal: le::fields::get_u32(s, 68),
+        external: le::fields::get_u32(s, 72),
+        range: le::fields::get_u32(s, 76),
+    };
+    VfsOptions {
+        in_opts: le::fields::get_u64(s, 40),
+        out_opts: le::fields::get_u64(s, 48),
+        mapping,
+        flags: le::fields::get_u8(s, 80),
+    }
 }

@@ -259,15 +259,6 @@ pub fn options(s: &[u8]) -> OptionsOf
     if !is_laid(s) {
         return OptionsOf::Small;
     }
-    let mapping = id_map::IdMapping {
-        internal: le::fields::get_u32(s, 68),
-        external: le::fields::get_u32(s, 72),
-        range: le::fields::get_u32(s, 76),
-    };
-    OptionsOf::Options(VfsOptions {
-        in_opts: le::fields::get_u64(s, 40),
-        out_opts: le::fields::get_u64(s, 48),
-        mapping,
-        flags: le::fields::get_u8(s, 80),
-    })
+    let o = inner::options_in(s);
+    OptionsOf::Options(o)
 }

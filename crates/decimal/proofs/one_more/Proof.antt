@@ -11,24 +11,15 @@ returns c = more-low _ _ _ (c .if1 .taken)
 returns-2 : tie.Need-returns-2
 returns-2 c = more-high _ _ _ (c .if2 .taken)
 
-cast-d : tie.Need-cast-d
-cast-d c = search needs
-
 returns-3 : tie.Need-returns-3
 returns-3 c = more-big _ _ _ (omega arith)
 
 returns-4 : tie.Need-returns-4
 returns-4 c = more-big _ _ _ (omega arith)
 
-mul-t7 : tie.Need-mul-t7
-mul-t7 c = search needs
-
-add-t8 : tie.Need-add-t8
-add-t8 c = search needs
-
 returns-5 : tie.Need-returns-5
 returns-5 c = more-good _ _ _ (omega arith) (omega arith) (omega arith)
 
 pub one-more-spec : {M : Type 1} → statement M
 one-more-spec =
-    tie.close (tie.spec returns returns-2 cast-d returns-3 returns-4 mul-t7 add-t8 returns-5)
+    tie.close (tie.spec returns returns-2 (λ c. search needs) returns-3 returns-4 (λ c. search needs) (λ c. search needs) returns-5)

@@ -24,30 +24,12 @@ returns c = sym (from-none _ _ (c .if1 .taken))
 loop-holds : tie.Need-loop-holds Inv-loop μ-loop
 loop-holds c = (omega arith, omega arith, from-start _ _ (c .if1 .left))
 
-shared-slice-read-one-more : tie.Need-shared-slice-read-one-more Inv-loop μ-loop
-shared-slice-read-one-more c = search needs
-
-one-more-requires : tie.Need-one-more-requires Inv-loop μ-loop
-one-more-requires c κs = search needs
-
-enum-known-v : tie.Need-enum-known-v Inv-loop μ-loop
-enum-known-v c = search needs
-
-enum-told : tie.Need-enum-told Inv-loop μ-loop
-enum-told c = search needs
-
 returns-2 : tie.Need-returns-2 Inv-loop μ-loop
 returns-2 c =
     let p = c .before .before in
     let l = p .before .before .before in
     let e : p .one-more .result ≡ Bad = c .enum-told .given .1 in
     sym (l .loop .inv .2 ∙ ap (readFrom _ _) (drop-cons _ _ 0 (p .before .before .loop-test .taken)) ∙ next-bad _ _ _ _ (sym (p .one-more .ensures) ∙ ap valueIn e))
-
-add-i : tie.Need-add-i Inv-loop μ-loop
-add-i c = search needs
-
-loop-less : tie.Need-loop-less Inv-loop μ-loop
-loop-less c = search needs
 
 loop-again : tie.Need-loop-again Inv-loop μ-loop
 loop-again c =
@@ -70,12 +52,12 @@ read-spec =
     μ-loop
     returns
     loop-holds
-    shared-slice-read-one-more
-    one-more-requires
-    enum-known-v
-    enum-told
+    (λ c. search needs)
+    (λ c κs. search needs)
+    (λ c. search needs)
+    (λ c. search needs)
     returns-2
-    add-i
-    loop-less
+    (λ c. search needs)
+    (λ c. search needs)
     loop-again
     returns-3)

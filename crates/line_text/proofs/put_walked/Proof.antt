@@ -2,80 +2,45 @@
 use borrow.Author.Needs.{needs}
 use Rattle.rules.specs.Session.{values, shown}
 use Rattle.pseudo_fs.specs.Told.{pathWalkTold}
+use Rattle.pseudo_fs.specs.declared.PathWalk.{PathWalk}
 use Rattle.line_text.specs.Texts.{valuesText}
-use Rattle.line_text.proofs.Writes.{walked}
+use Rattle.line_text.proofs.Writes.{by-answer}
 use Rattle.line_text.proofs.put_walked.Statement.{statement}
 use Rattle.line_text.proofs.put_walked.Tie as tie
 
-enum-known-answer : tie.Need-enum-known-answer
-enum-known-answer c = search needs
-
-put-two-requires : tie.Need-put-two-requires
-put-two-requires c κs = search needs
-
-enum-told : tie.Need-enum-told
-enum-told c = search needs
-
-put-two-requires-2 : tie.Need-put-two-requires-2
-put-two-requires-2 c κs = search needs
-
-enum-told-2 : tie.Need-enum-told-2
-enum-told-2 c = search needs
-
-put-two-requires-3 : tie.Need-put-two-requires-3
-put-two-requires-3 c κs = search needs
-
-enum-told-3 : tie.Need-enum-told-3
-enum-told-3 c = search needs
-
-put-two-requires-4 : tie.Need-put-two-requires-4
-put-two-requires-4 c κs = search needs
-
-same-length : tie.Need-same-length
-same-length c = search needs
-
 returns : tie.Need-returns
 unfolding valuesText pathWalkTold values shown
-returns c = search (walked, needs)
-
-same-length-2 : tie.Need-same-length-2
-same-length-2 c = search needs
+returns c = search (by-answer (λ (a : PathWalk). valuesText 1 (pathWalkTold a)), needs)
 
 returns-2 : tie.Need-returns-2
 unfolding valuesText pathWalkTold values shown
-returns-2 c = search (walked, needs)
-
-same-length-3 : tie.Need-same-length-3
-same-length-3 c = search needs
+returns-2 c = search (by-answer (λ (a : PathWalk). valuesText 1 (pathWalkTold a)), needs)
 
 returns-3 : tie.Need-returns-3
 unfolding valuesText pathWalkTold values shown
-returns-3 c = search (walked, needs)
-
-same-length-4 : tie.Need-same-length-4
-same-length-4 c = search needs
+returns-3 c = search (by-answer (λ (a : PathWalk). valuesText 1 (pathWalkTold a)), needs)
 
 returns-4 : tie.Need-returns-4
 unfolding valuesText pathWalkTold values shown
-returns-4 c = search (walked, needs)
+returns-4 c = search (by-answer (λ (a : PathWalk). valuesText 1 (pathWalkTold a)), needs)
 
 pub put-walked-spec : {M : Type 1} → statement M
 put-walked-spec =
     tie.close
     (tie.spec
-    enum-known-answer
-    put-two-requires
-    enum-told
-    put-two-requires-2
-    enum-told-2
-    put-two-requires-3
-    enum-told-3
-    put-two-requires-4
-    same-length
+    (λ c. search needs)
+    (λ c κs. search needs)
+    (λ c. search needs)
+    (λ c κs. search needs)
+    (λ c. search needs)
+    (λ c κs. search needs)
+    (λ c. search needs)
+    (λ c κs. search needs)
+    (λ c. search needs)
     returns
-    same-length-2
+    (λ c. search needs)
     returns-2
-    same-length-3
+    (λ c. search needs)
     returns-3
-    same-length-4
+    (λ c. search needs)
     returns-4)

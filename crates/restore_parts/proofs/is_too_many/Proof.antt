@@ -4,14 +4,8 @@ use Rattle.restore_parts.proofs.StateTests.{many-by}
 use Rattle.restore_parts.proofs.is_too_many.Statement.{statement}
 use Rattle.restore_parts.proofs.is_too_many.Tie as tie
 
-capacity-requires : tie.Need-capacity-requires
-capacity-requires c κs = search needs
-
-count-of-requires : tie.Need-count-of-requires
-count-of-requires c κs = search needs
-
 returns : tie.Need-returns
 returns c = many-by _ _ _ _ (c .before .capacity .ensures) (c .count-of .ensures)
 
 pub is-too-many-spec : {M : Type 1} → statement M
-is-too-many-spec = tie.close (tie.spec capacity-requires count-of-requires returns)
+is-too-many-spec = tie.close (tie.spec (λ c κs. search needs) (λ c κs. search needs) returns)

@@ -2,7 +2,6 @@
 use borrow.Author.Needs.{needs}
 use Prim.Native.Nat.{_-_}
 use native.Mathlib.Omega.{arith}
-use Rattle.tables.proofs.Keeps.{laid-is}
 use Rattle.saved.proofs.Accepted.{accepted-long, accepted-within}
 use Rattle.restore_parts.proofs.Records.{record-loads}
 use Rattle.restore_parts.proofs.Loading.{Loading, begins, loaded, goes-on}
@@ -26,7 +25,7 @@ load-record-requires c κs =
     let w = c .before .before .loop .inv in
     let p = c .before .before .before .before .before .before .pre in
     let n = c .before .before .before .count-of .ensures in
-    (laid-is _ (w .keeps), (omega (arith, w .live, w .capacity, p .1 .1), (accepted-within _ (p .1 .0) _ _ (w .here) (omega arith), record-loads _ (p .1 .0) _ _ (w .here) (omega arith))))
+    (w .keeps, (omega (arith, w .live, w .capacity, p .1 .1), (accepted-within _ (p .1 .0) _ _ (w .here) (omega arith), record-loads _ (p .1 .0) _ _ (w .here) (omega arith))))
 
 record-end-requires : tie.Need-record-end-requires Inv-loop μ-loop
 record-end-requires c κs =
@@ -34,12 +33,6 @@ record-end-requires c κs =
     let p = c .before .before .before .before .before .before .before .before .before .pre in
     let n = c .before .before .before .before .before .before .count-of .ensures in
     accepted-within _ (p .1 .0) _ _ (w .here) (omega arith)
-
-add-i : tie.Need-add-i Inv-loop μ-loop
-add-i c = search needs
-
-loop-less : tie.Need-loop-less Inv-loop μ-loop
-loop-less c = search needs
 
 loop-again : tie.Need-loop-again Inv-loop μ-loop
 loop-again c =
@@ -62,8 +55,8 @@ load-records-spec =
     loop-holds
     load-record-requires
     record-end-requires
-    add-i
-    loop-less
+    (λ c. search needs)
+    (λ c. search needs)
     loop-again
     same-length
     returns)

@@ -16,14 +16,8 @@ counter-of-requires c κs = omega (arith, accepted-long _ (c .before .before .be
 options-of-requires : tie.Need-options-of-requires
 options-of-requires c κs = accepted-long _ (c .before .before .before .before .pre .1 .0)
 
-load-records-requires : tie.Need-load-records-requires
-load-records-requires c κs = search needs
-
 put-state-requires : tie.Need-put-state-requires
 put-state-requires c κs = omega (arith, laid-long _ (c .before .before .before .before .before .before .before .before .before .before .pre .0))
-
-same-length : tie.Need-same-length
-same-length c = search needs
 
 returns : tie.Need-returns
 returns c = saved-put _ _ _ _ _ _ _ (c .before .before .before .before .before .before .before .before .before .before .next-of .ensures) (c .before .before .before .before .before .before .before .before .before .counter-of .ensures) (c .before .before .before .before .before .before .before .before .options-of .ensures) (c .before .before .before .before .before .before .load-records .ensures) (c .before .before .put-state .ensures)
@@ -35,7 +29,7 @@ put-saved-spec =
     next-of-requires
     counter-of-requires
     options-of-requires
-    load-records-requires
+    (λ c κs. search needs)
     put-state-requires
-    same-length
+    (λ c. search needs)
     returns)

@@ -6,24 +6,6 @@ use Rattle.restore_parts.proofs.StateHead.{state-put}
 use Rattle.restore_parts.proofs.put_state.Statement.{statement}
 use Rattle.restore_parts.proofs.put_state.Tie as tie
 
-has-bits-requires : tie.Need-has-bits-requires
-has-bits-requires c κs = search needs
-
-put-u64-requires : tie.Need-put-u64-requires
-put-u64-requires c κs = search needs
-
-put-options-requires : tie.Need-put-options-requires
-put-options-requires c κs = search needs
-
-put-u8-requires : tie.Need-put-u8-requires
-put-u8-requires c κs = search needs
-
-put-u8-requires-2 : tie.Need-put-u8-requires-2
-put-u8-requires-2 c κs = search needs
-
-same-length : tie.Need-same-length
-same-length c = search needs
-
 returns : tie.Need-returns
 returns c =
     let u₃ = c .before .before .before .before .before .before in
@@ -36,10 +18,10 @@ pub put-state-spec : {M : Type 1} → statement M
 put-state-spec =
     tie.close
     (tie.spec
-    has-bits-requires
-    put-u64-requires
-    put-options-requires
-    put-u8-requires
-    put-u8-requires-2
-    same-length
+    (λ c κs. search needs)
+    (λ c κs. search needs)
+    (λ c κs. search needs)
+    (λ c κs. search needs)
+    (λ c κs. search needs)
+    (λ c. search needs)
     returns)

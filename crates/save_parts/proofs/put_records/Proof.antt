@@ -21,9 +21,6 @@ sub-put-record c = putting-within _ _ _ _ _ _ (c .before .loop .inv)
 part-put-record-start : tie.Need-part-put-record-start Inv-loop μ-loop
 part-put-record-start c = let h = putting-within _ _ _ _ _ _ (c .before .loop .inv) in search needs
 
-part-put-record-end : tie.Need-part-put-record-end Inv-loop μ-loop
-part-put-record-end c = search needs
-
 put-record-requires : tie.Need-put-record-requires Inv-loop μ-loop
 put-record-requires c κs = (search needs, (search needs, putting-room _ _ _ _ _ _ (c .before .before .loop .inv) (c .before .loop-test .taken)))
 
@@ -51,7 +48,7 @@ put-records-spec =
     loop-holds
     sub-put-record
     part-put-record-start
-    part-put-record-end
+    (λ c. search needs)
     put-record-requires
     add-at
     (λ c. search needs)

@@ -19,9 +19,6 @@ loop-holds c = sized-start _ _ (c .before .before .pre) (c .count .ensures)
 add-size : tie.Need-add-size Inv-loop μ-loop
 add-size c = let h = sized-small _ _ _ _ (c .before .loop .inv) in omega arith
 
-name-len-requires : tie.Need-name-len-requires Inv-loop μ-loop
-name-len-requires c κs = search needs
-
 add-size-2 : tie.Need-add-size-2 Inv-loop μ-loop
 add-size-2 c = let h = sized-small _ _ _ _ (c .before .before .loop .inv) in let k = name-short _ _ _ _ (c .name-len .ensures) in omega arith
 
@@ -40,7 +37,7 @@ records-size-spec =
     (λ c κs. search needs)
     loop-holds
     add-size
-    name-len-requires
+    (λ c κs. search needs)
     add-size-2
     (λ c. search needs)
     (λ c. search needs)

@@ -8,9 +8,6 @@ use Rattle.decimal.proofs.inner.put_u8.Tie as tie
 digits-requires : tie.Need-digits-requires
 digits-requires c κs = omega (arith, length-byte (c .before .before .args .n) (omega arith))
 
-same-length : tie.Need-same-length
-same-length c = search needs
-
 returns : tie.Need-returns
 returns c = record {
   end = c .before .before .digits .ensures .0;
@@ -19,4 +16,4 @@ returns c = record {
 }
 
 pub put-u8-spec : {M : Type 1} → statement M
-put-u8-spec = tie.close (tie.spec digits-requires same-length returns)
+put-u8-spec = tie.close (tie.spec digits-requires (λ c. search needs) returns)

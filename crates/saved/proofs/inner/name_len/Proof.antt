@@ -3,8 +3,5 @@ use borrow.Author.Needs.{needs}
 use Rattle.saved.proofs.inner.name_len.Statement.{statement}
 use Rattle.saved.proofs.inner.name_len.Tie as tie
 
-returns : tie.Need-returns
-returns c = search needs
-
 pub name-len-spec : {M : Type 1} → statement M
-name-len-spec = tie.close (tie.spec (λ c. search needs) (λ c κs. search needs) (λ c. search needs) returns)
+name-len-spec = tie.close (tie.spec (λ c. search needs) (λ c κs. search needs) (λ c. search needs) (λ c. search needs))

@@ -3,8 +3,5 @@ use borrow.Author.Needs.{needs}
 use Rattle.saved.proofs.inner.record_end.Statement.{statement}
 use Rattle.saved.proofs.inner.record_end.Tie as tie
 
-returns : tie.Need-returns
-returns c = search needs
-
 pub record-end-spec : {M : Type 1} → statement M
-record-end-spec = tie.close (tie.spec (λ c. search needs) (λ c κs. search needs) (λ c. search needs) returns)
+record-end-spec = tie.close (tie.spec (λ c. search needs) (λ c κs. search needs) (λ c. search needs) (λ c. search needs))
