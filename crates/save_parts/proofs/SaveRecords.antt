@@ -31,7 +31,7 @@ use Rattle.save_parts.specs.Parts.{Sizes}
 field-put : (w v : ℕ) (mem bs : List ℕ) (at : ℕ) → write mem at (bytesOf w v ++ bs) ≡ write (put w mem at v) (at + w) bs
 field-put w v mem bs at = sym (put-write w mem at v bs)
 
-pub options-put : (mem : List ℕ) (at : ℕ) (o : Options)
+options-put : (mem : List ℕ) (at : ℕ) (o : Options)
     → put 2 (put 1 (put 1 (put 4 (put 4 (put 4 (put 8 (put 8 mem at (o .inOpts)) (at + 8) (o .outOpts)) (at + 16) (o .mapping .internal)) (at + 20) (o .mapping .external)) (at + 24) (o .mapping .range)) (at + 28) (o .flags)) (at + 29) 0) (at + 30) 0
     ≡ write mem at (optionsBytes o)
 unfolding optionsBytes fields write
@@ -43,6 +43,11 @@ options-put mem at o =
     let e₅ : at + 28 + 1 ≡ at + 29 = omega arith in
     let e₆ : at + 29 + 1 ≡ at + 30 = omega arith in
     simp (field-put, e₁, e₂, e₃, e₄, e₅, put-add 1 2, e₆)
+
+pub options-puts : (mem : List ℕ) (at : ℕ) (o : Options) (e₁ e₂ e₃ e₄ e₅ e₆ e₇ e₈ : List ℕ) → e₁ ≡ put 8 mem at (o .inOpts) → e₂ ≡ put 8 e₁ (at + 8) (o .outOpts)
+    → e₃ ≡ put 4 e₂ (at + 16) (o .mapping .internal) → e₄ ≡ put 4 e₃ (at + 20) (o .mapping .external) → e₅ ≡ put 4 e₄ (at + 24) (o .mapping .range)
+    → e₆ ≡ put 1 e₅ (at + 28) (o .flags) → e₇ ≡ put 1 e₆ (at + 29) 0 → e₈ ≡ put 2 e₇ (at + 30) 0 → e₈ ≡ write mem at (optionsBytes o)
+options-puts mem at o e₁ e₂ e₃ e₄ e₅ e₆ e₇ e₈ p₁ p₂ p₃ p₄ p₅ p₆ p₇ p₈ = p₈ ∙ rw (p₇, p₆, p₅, p₄, p₃, p₂, p₁) (options-put mem at o)
 
 pub trailer-put : (mem : List ℕ) (at offset count next counter : ℕ)
     → put 4 (put 2 (put 1 (put 1 (put 8 (put 4 (put 4 mem at offset) (at + 4) count) (at + 8) next) (at + 16) counter) (at + 17) 1) (at + 18) 0) (at + 20) 0

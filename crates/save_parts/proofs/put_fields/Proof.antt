@@ -1,7 +1,6 @@
 -- The fields of the options, one behind the other. Assumes nothing.
-use mathlib.Core.Path.{_∙_}
 use Rattle.storage.specs.Answers.{optionsIn}
-use Rattle.save_parts.proofs.SaveRecords.{options-put}
+use Rattle.save_parts.proofs.SaveRecords.{options-puts}
 use borrow.Author.Needs.{needs}
 use Rattle.save_parts.proofs.put_fields.Statement.{statement}
 use Rattle.save_parts.proofs.put_fields.Tie as tie
@@ -15,8 +14,8 @@ returns c =
     let u₃ = u₄ .before .before .before .before in
     let u₂ = u₃ .before .before .before .before in
     let u₁ = u₂ .before .before .before .before in
-    let a = u₁ .before .before .before .args in
-    c .before .before .put-u16 .ensures ∙ (rw (u₇ .put-u82 .ensures, u₆ .put-u8 .ensures, u₅ .put-u323 .ensures, u₄ .put-u322 .ensures, u₃ .put-u32 .ensures, u₂ .put-u642 .ensures, u₁ .put-u64 .ensures) (options-put (a .out .now) (a .at) (optionsIn (a .o))))
+    options-puts _ _ (optionsIn (u₁ .before .before .before .args .o)) _ _ _ _ _ _ _ _ (u₁ .put-u64 .ensures) (u₂ .put-u642 .ensures) (u₃ .put-u32 .ensures) (u₄ .put-u322 .ensures)
+    (u₅ .put-u323 .ensures) (u₆ .put-u8 .ensures) (u₇ .put-u82 .ensures) (c .before .before .put-u16 .ensures)
 
 pub put-fields-spec : {M : Type 1} → statement M
 put-fields-spec =
