@@ -59,8 +59,5 @@ module _ (mem path : List ℕ) (f : Instance → Outcome) (exact : List ℕ) (s 
 pub passed : (mem path : List ℕ) (l : Bool) → l ≡ laidIn mem → not l ≡ false → (long : Bool) → long ≡ tooLong path → long ≡ false → (u : Bool) → u ≡ wellFormed path → not u ≡ false → Passed mem path
 passed mem path l le on long lo short u ue good = record { laid = sym le ∙ not-false l on; fits = sym lo ∙ short; formed = sym ue ∙ not-false u good }
 
-pub short-by : (path : List ℕ) (long : Bool) → long ≡ tooLong path → long ≡ false → tooLong path ≡ false
-short-by path long lo e = sym lo ∙ e
-
 pub slash-by : (path : List ℕ) (r : Bool) → r ≡ rooted path → not r ≡ false → rooted path ≡ true
 slash-by path r re e = sym re ∙ not-false r e

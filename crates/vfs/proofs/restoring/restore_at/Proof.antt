@@ -5,7 +5,7 @@ use Rattle.vfs.proofs.restoring.restore_at.Statement.{statement}
 use Rattle.vfs.proofs.restoring.restore_at.Tie as tie
 
 returns : tie.Need-returns
-returns c = search (large-restored, needs)
+returns c = large-restored _ _ _ _ (c .before .before .before .before .pre .0) (c .if1 .taken)
 
 finish-requires : tie.Need-finish-requires
 finish-requires c κs = search needs
@@ -14,7 +14,7 @@ same-length : tie.Need-same-length
 same-length c = search needs
 
 returns-2 : tie.Need-returns-2
-returns-2 c = search (placed-restored, needs)
+returns-2 c = placed-restored _ _ _ _ (c .before .before .before .before .if1 .left) _ _ (c .before .before .finish .ensures)
 
 pub restore-at-spec : {M : Type 1} → statement M
 restore-at-spec = tie.close (tie.spec returns finish-requires same-length returns-2)

@@ -1,7 +1,7 @@
 -- `vfs::restoring::restore_mount` meets its contract: each way through it by its law.
+use denote.Ref.{now}
 use borrow.Author.Needs.{needs}
-use Rattle.storage.proofs.Laid.{laid-by}
-use Rattle.vfs.proofs.FirstRows.{small, too-long, bad-bytes, passed, short-by}
+use Rattle.vfs.proofs.FirstRows.{Passed, small, too-long, bad-bytes, passed}
 use Rattle.vfs.proofs.RestoreCalls.{restore-begins, index-by, bad-index, large-back, no-slash-back, slash-back}
 use Rattle.vfs.proofs.restoring.restore_mount.Statement.{statement}
 use Rattle.vfs.proofs.restoring.restore_mount.Tie as tie
@@ -33,17 +33,21 @@ same-length-3 c = search needs
 returns-3 : tie.Need-returns-3
 returns-3 c = bad-bytes _ _ _ _ _ _ _ (restore-begins _ _ _ _) _ (c .before .before .before .before .before .is-laid .ensures) (c .before .before .before .before .if1 .left) _ (c .before .before .before .is-too-long .ensures) (c .before .before .if2 .left) _ (c .before .is-utf8 .ensures) (c .if3 .taken)
 
+-- behind the first three tests
+pass : (c : tie.Else3) → Passed (c .before .before .before .before .before .before .before .before .before .args .s .now) (now (c .before .before .before .before .before .before .before .before .before .args .path))
+pass c = passed _ _ _ (c .before .before .before .before .before .is-laid .ensures) (c .before .before .before .before .if1 .left) _ (c .before .before .before .is-too-long .ensures) (c .before .before .if2 .left) _ (c .before .is-utf8 .ensures) (c .if3 .left)
+
 same-length-4 : tie.Need-same-length-4
 same-length-4 c = search needs
 
 returns-4 : tie.Need-returns-4
-returns-4 c = search (bad-index, passed, needs)
+returns-4 c = bad-index _ _ _ _ (pass (c .before)) (c .if4 .taken)
 
 same-length-5 : tie.Need-same-length-5
 same-length-5 c = search needs
 
 returns-5 : tie.Need-returns-5
-returns-5 c = search (large-back, passed, needs)
+returns-5 c = large-back _ _ _ _ (pass (c .before .before .before)) (c .before .before .if4 .left) (c .if5 .taken)
 
 is-rooted-requires : tie.Need-is-rooted-requires
 is-rooted-requires c κs = search needs
@@ -52,16 +56,18 @@ same-length-6 : tie.Need-same-length-6
 same-length-6 c = search needs
 
 returns-6 : tie.Need-returns-6
-returns-6 c = search (no-slash-back, passed, needs)
+returns-6 c = no-slash-back _ _ _ _ (pass (c .before .before .before .before .before)) (c .before .before .before .before .if4 .left) (c .before .before .if5 .left) _ (c .before .is-rooted .ensures) (c .if6 .taken)
 
 restore-rooted-requires : tie.Need-restore-rooted-requires
-restore-rooted-requires c κs = (search (laid-by, needs), (search (short-by, needs), search (index-by, needs)))
+restore-rooted-requires c κs =
+    let p = pass (c .before .before .before .before .before .before) in
+    (p .laid, (p .fits, index-by _ (c .before .before .before .before .before .if4 .left)))
 
 same-length-7 : tie.Need-same-length-7
 same-length-7 c = search needs
 
 returns-7 : tie.Need-returns-7
-returns-7 c = search (slash-back, passed, needs)
+returns-7 c = slash-back _ _ _ _ (pass (c .before .before .before .before .before .before .before .before .before)) (c .before .before .before .before .before .before .before .before .if4 .left) (c .before .before .before .before .before .before .if5 .left) _ (c .before .before .before .before .before .is-rooted .ensures) (c .before .before .before .before .if6 .left) _ _ (c .before .before .restore-rooted .ensures)
 
 pub restore-mount-spec : {M : Type 1} → statement M
 restore-mount-spec =
