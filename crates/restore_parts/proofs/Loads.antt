@@ -11,7 +11,8 @@ use Rattle.rules.specs.Instance.{Instance, withTree}
 use Rattle.rules.specs.Saved.{Entry}
 use Rattle.rules.specs.Restore.{nodesFrom}
 use Rattle.rules.proofs.Fields.{length-bytesOf}
-use Rattle.tables.specs.Table.{row, over, Fit}
+use Rattle.tables.specs.Table.{row}
+use Rattle.tables.proofs.Table.{over, Fit}
 use Rattle.tables.specs.Layout.{header, capacityOf, countOf, nextOf}
 use Rattle.tables.specs.View.{field, headOf, nodesOf, view}
 use Rattle.tables.specs.Rule.{laidBy, laid, Laid}
@@ -62,13 +63,11 @@ module _ (mem : List ℕ) (d : Laid mem) (x : ℕ) (top : x ≤ 2 ^ 56) where
   unfolding setNext
   next-length = length-header 3 xs mem
 
-  pub next-laid : 2 ≤ x → Laid after
-  next-laid low = record {
-    some-node = omega (arith, next-capacity, d .some-node);
+  pub next-laid : Laid after
+  next-laid = record {
     few-nodes = omega (arith, next-capacity, d .few-nodes);
     long = omega (arith, next-capacity, next-length, d .long);
     live = omega (arith, next-capacity, next-count, d .live);
-    low = omega (arith, next-next);
     top = omega (arith, next-next);
   }
 

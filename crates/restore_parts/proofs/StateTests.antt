@@ -21,7 +21,7 @@ use Rattle.tables.specs.Table.{row}
 use Rattle.tables.specs.Layout.{capacityOf, countOf, nextOf as nextIn}
 use Rattle.tables.specs.View.{nodesOf, view}
 use Rattle.tables.specs.Rule.{Laid}
-use Rattle.tables.specs.Write.{heldByte, setNext, appendNode}
+use Rattle.tables.specs.Write.{yesByte, setNext, appendNode}
 use Rattle.tables.specs.Answer.{mountIn}
 use Rattle.tables.specs.declared.mounts.MountPoint.{MountPoint}
 use Rattle.tables.specs.declared.mounts.MountOn.{MountOn}
@@ -34,10 +34,10 @@ use Rattle.restore_parts.proofs.Loads.{next-capacity, next-count, next-
 
 -- ---- the byte of `initialized`
 
-pub no-bits : (bits : ℕ) → bits ≡ 0 → 0 ≡ heldByte (hasBits bits)
+pub no-bits : (bits : ℕ) → bits ≡ 0 → 0 ≡ yesByte (hasBits bits)
 no-bits bits e = rw (eq-eqb bits 0 e)
 
-pub some-bits : (bits : ℕ) → (bits ≡ 0 → ⊥) → 1 ≡ heldByte (hasBits bits)
+pub some-bits : (bits : ℕ) → (bits ≡ 0 → ⊥) → 1 ≡ yesByte (hasBits bits)
 some-bits bits h = rw (ne-eqb bits 0 h)
 
 -- ---- fresh
@@ -100,7 +100,7 @@ module _ (mem b : List ℕ) (at x : ℕ) (m′ : List ℕ) (i : x ≡ nodeAt b a
       let top : nodeAt b at .number ≤ 2 ^ 56 = omega (arith, f .top) in
       let y = nodeAt b at .number in
       record {
-        laid = rw set-is (next-laid mem d y top (f .low));
+        laid = rw set-is (next-laid mem d y top);
         room = rw set-is (omega (arith, next-count mem d y top, next-capacity mem d y top));
         under = rw set-is (omega (arith, next-next mem d y top, f .top));
       }
