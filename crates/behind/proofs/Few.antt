@@ -13,7 +13,8 @@ use Rattle.rules.specs.Tree.{Node, nodeIn}
 use Rattle.rules.specs.Instance.{Tree, mountIn, mountOf, grown}
 use Rattle.rules.proofs.Fields.{get-fits}
 use Rattle.tables.specs.Table.{row, tab}
-use Rattle.tables.specs.Layout.{capacityOf, countOf, mountCellAt}
+use Rattle.tables.specs.Layout.{capacityOf, countOf}
+use Rattle.tables.proofs.Cells.{mountCellAt}
 use Rattle.tables.specs.View.{mountFrom, nodeFrom, nodeAt, view}
 use Rattle.tables.proofs.Find.{nodes-of}
 use Rattle.placing.specs.Place.{InSlots}
@@ -30,6 +31,7 @@ pub record TreeIn (t : Tree) : Type 0 where
 -- ---- in the bytes
 
 from-in : (word uid gid mode : ℕ) → word < 2 ^ 64 → InSlots (mountFrom word uid gid mode)
+unfolding mountFrom
 from-in word uid gid mode h = go (eqb (word / 2 ^ 56) 0)
   where
     go : (b : Bool) → InSlots (cond b none (some (record { index = word / 2 ^ 56; root = word % 2 ^ 56; uid = uid; gid = gid; mode = mode })))

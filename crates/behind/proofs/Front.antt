@@ -14,11 +14,12 @@ use Rattle.le.proofs.Writes.{write-before}
 use Rattle.rules.specs.Numbers.{storageFor}
 use Rattle.rules.specs.Tree.{Mount}
 use Rattle.rules.proofs.Fields.{length-read, length-bytesOf}
-use Rattle.tables.specs.Table.{Col, off, row, putRow, closeUp, Beneath, Fit}
+use Rattle.tables.specs.Table.{Col, off, row, putRow, closeUp}
+use Rattle.tables.proofs.Table.{Beneath, Fit}
 use Rattle.tables.specs.Layout.{header, slotTable, nodeTable, capacityOf, countOf, nextOf}
 use Rattle.tables.specs.View.{field, slotFrom, nodeFrom, instanceFrom, headOf, slotAt, nodeAt, slotsOf, nodesFrom, nodesOf, view}
 use Rattle.tables.specs.Rule.{laid, laidBy, Laid}
-use Rattle.tables.specs.Write.{fromPlace, putHeader, setCount, setNext, heldByte, setSlot, rowMountCells, setRowMount, nodeCells, appendNode, removeRow}
+use Rattle.tables.specs.Write.{fromPlace, putHeader, setCount, setNext, yesByte, setSlot, rowMountCells, setRowMount, nodeCells, appendNode, removeRow}
 use Rattle.tables.proofs.Tab.{tab-same}
 use Rattle.tables.proofs.Table.{cell-end, length-putRow, length-closeUp, row-low}
 use Rattle.tables.proofs.Spells.{cells-fit, mount-fit}
@@ -88,7 +89,7 @@ module _ (rest : List ℕ) where
     pub slot-front : (k : ℕ) (held : Bool) (tag : ℕ) → k < 256 → LeavesRest (setSlot k held tag) mem rest
     unfolding setSlot
     slot-front k held tag h =
-        put-front 256 slotTable (bytesOf 1 (heldByte held) ∷ bytesOf 4 tag ∷ []) mem k h (omega arith) (omega (arith, length-bytesOf 1 (heldByte held), length-bytesOf 4 tag))
+        put-front 256 slotTable (bytesOf 1 (yesByte held) ∷ bytesOf 4 tag ∷ []) mem k h (omega arith) (omega (arith, length-bytesOf 1 (yesByte held), length-bytesOf 4 tag))
 
     head-front : headOf (mem ++ rest) ≡ headOf mem
     head-front = row-front 1 header mem 0 (omega arith) (omega arith)

@@ -14,7 +14,7 @@ use Rattle.tables.specs.Layout.{capacityOf, countOf, nextOf}
 use Rattle.tables.specs.View.{flag, headOf, nodesOf, view}
 use Rattle.tables.specs.Rule.{laid, Laid}
 use Rattle.tables.specs.Write.{setSlot, mountCells, setRootMount, setRowMount, removeRow, appendNode}
-use Rattle.tables.specs.Answer.{placeIn, atPlace, mountMem, removeMem}
+use Rattle.tables.specs.Answer.{placeIn, atPlace, nodeMountMem, removeMem}
 use Rattle.tables.proofs.Spells.{root-fit}
 use Rattle.tables.proofs.Places.{row-below}
 use Rattle.tables.proofs.Keeps.{laid-is, laid-long, keeps-mount, keeps-append}
@@ -35,9 +35,9 @@ module _ (rest : List ℕ) where
     unfolding view
     nodes-front = ap (λ (i : Instance). i .tree .nodes) (view-front rest mem d)
 
-    mount-front : (m : Option Mount) (x : ℕ) → LeavesRest (λ (s : List ℕ). mountMem (nodesOf s) m x s) mem rest
-    unfolding mountMem setRootMount
-    mount-front m x = ap (λ (ns : List Node). mountMem ns m x (mem ++ rest)) nodes-front ∙ go (eqb x rootNumber) (placeIn (nodesOf mem) x) refl
+    mount-front : (m : Option Mount) (x : ℕ) → LeavesRest (λ (s : List ℕ). nodeMountMem (nodesOf s) m x s) mem rest
+    unfolding nodeMountMem setRootMount
+    mount-front m x = ap (λ (ns : List Node). nodeMountMem ns m x (mem ++ rest)) nodes-front ∙ go (eqb x rootNumber) (placeIn (nodesOf mem) x) refl
       where
         go : (b : Bool) (o : Option ℕ) → placeIn (nodesOf mem) x ≡ o
             → cond b (setRootMount m (mem ++ rest)) (atPlace o (λ (i : ℕ). setRowMount m i (mem ++ rest)) (mem ++ rest)) ≡ cond b (setRootMount m mem) (atPlace o (λ (i : ℕ). setRowMount m i mem) mem) ++ rest
@@ -75,8 +75,8 @@ module _ (rest : List ℕ) where
         let old : Option Mount = mountOf (view mem .tree) x in
         let m₁ = freedMem old mem in
         let k₁ : laid m₁ ≡ true = keeps-freed mem e old h in
-        let m₂ = mountMem (nodesOf m₁) (some m) x m₁ in
-        let put : List ℕ → List ℕ = λ (f : List ℕ). setSlot (m .index) true tag (mountMem (nodesOf f) (some m) x f) in
+        let m₂ = nodeMountMem (nodesOf m₁) (some m) x m₁ in
+        let put : List ℕ → List ℕ = λ (f : List ℕ). setSlot (m .index) true tag (nodeMountMem (nodesOf f) (some m) x f) in
         ap (λ (i : Instance). put (freedMem (mountOf (i .tree) x) (mem ++ rest))) (view-front rest mem (laid-is mem e))
         ∙ ap put (freed-front mem e old h)
         ∙ ap (setSlot (m .index) true tag) (mount-front m₁ k₁ (some m) x)
@@ -85,7 +85,7 @@ module _ (rest : List ℕ) where
     pub take-off-front : (m : Mount) (x : ℕ) → m .index < 256 → LeavesRest (takeOffMem m x) mem rest
     unfolding takeOffMem
     take-off-front m x k =
-        let m₁ = mountMem (nodesOf mem) none x mem in
+        let m₁ = nodeMountMem (nodesOf mem) none x mem in
         let k₁ : laid m₁ ≡ true = keeps-mount mem e none x in
         let m₂ = outMem x m₁ in
         ap (λ (s : List ℕ). setSlot (m .index) false 0 (outMem x s)) (mount-front mem e none x)

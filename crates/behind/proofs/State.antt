@@ -16,11 +16,11 @@ use Rattle.rules.specs.Create.{Creation, newInstance, unknown}
 use Rattle.rules.specs.Saved.{Entry, State, stateOf, accepted}
 use Rattle.rules.specs.Restore.{fresh, restoredTo, restoreRule}
 use Rattle.rules.proofs.Fields.{length-bytesOf}
-use Rattle.tables.specs.Table.{Fit}
+use Rattle.tables.proofs.Table.{Fit}
 use Rattle.tables.specs.Layout.{header, capacityOf, countOf}
 use Rattle.tables.specs.View.{view}
 use Rattle.tables.specs.Rule.{laid}
-use Rattle.tables.specs.Write.{fromPlace, putHeader, setNext, heldByte, appendNode}
+use Rattle.tables.specs.Write.{fromPlace, putHeader, setNext, yesByte, appendNode}
 use Rattle.tables.proofs.Table.{length-putRow}
 use Rattle.tables.proofs.Keeps.{laid-is, laid-long}
 use Rattle.storage.specs.Header.{spell, headerOf}
@@ -65,14 +65,14 @@ module _ (rest : List ℕ) where
   state-front : (next counter : ℕ) (o : Options) (mem : List ℕ) → 8192 ≤ length mem → LeavesRest (setState next counter o) mem rest
   unfolding setState setOptions setNext putHeader
   state-front next counter o mem l =
-      let cells : List (List ℕ) = bytesOf 1 counter ∷ [] ∷ bytesOf 1 (heldByte (hasBits (o .inOpts))) ∷ [] in
+      let cells : List (List ℕ) = bytesOf 1 counter ∷ [] ∷ bytesOf 1 (yesByte (hasBits (o .inOpts))) ∷ [] in
       let m₁ = setNext next mem in
       let s₁ : length m₁ ≡ length mem = length-putRow header (fromPlace 3 (bytesOf 8 next ∷ [])) mem 0 in
       let m₂ = setOptions o m₁ in
       let s₂ : length m₂ ≡ length m₁ = length-putRow header (fromPlace 5 (optionCells o)) m₁ 0 in
       ap (λ (m : List ℕ). putHeader 14 cells (setOptions o m)) (next-front mem l next)
       ∙ ap (putHeader 14 cells) (header-front rest m₁ (omega arith) 5 (optionCells o) (options-fit o))
-      ∙ header-front rest m₂ (omega arith) 14 cells (omega (arith, length-bytesOf 1 counter, length-bytesOf 1 (heldByte (hasBits (o .inOpts)))))
+      ∙ header-front rest m₂ (omega arith) 14 cells (omega (arith, length-bytesOf 1 counter, length-bytesOf 1 (yesByte (hasBits (o .inOpts)))))
 
   -- ---- state restore
 

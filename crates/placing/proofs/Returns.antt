@@ -2,10 +2,10 @@
 use mathlib.Core.Path.{_≡_, refl, sym, ap, _∙_, subst}
 use mathlib.Core.Bool.{Bool, true, false, cond, not}
 use mathlib.Core.List.{List, [], _∷_}
-use mathlib.Core.Option.{Option, none, some}
+use mathlib.Core.Option.{Option, none, some, Option·none-ne-some}
 use Prim.Native.Nat.{ℕ, _<_}
 use lib.Dec.{eqb}
-use borrow.Author.Tests.{not-true, not-false, eq-eqb, ne-eqb}
+use borrow.Author.Tests.{not-true, not-false}
 use Rattle.rules.specs.Numbers.{rootNumber}
 use Rattle.rules.specs.Tree.{Mount, Node, mountAt, withMount}
 use Rattle.rules.specs.Instance.{Tree, Instance, tagIn as tagInSlot, tagOf, mountOf, setMount}
@@ -14,7 +14,7 @@ use Rattle.rules.proofs.Held.{freed-tree}
 use Rattle.tables.specs.View.{flag, headOf, slotAt, nodesOf, view}
 use Rattle.tables.specs.Rule.{laid}
 use Rattle.tables.specs.Write.{setSlot, removeRow}
-use Rattle.tables.specs.Answer.{tagIn, rowIn, mountIn, placeIn, rowFor, RowOf, mountMem, removeMem}
+use Rattle.tables.specs.Answer.{tagIn, rowIn, mountIn, placeIn, rowFor, RowOf, atPlace, nodeMountMem, removeMem}
 use Rattle.tables.specs.declared.slots.Tag.{Tag}
 use Rattle.tables.specs.declared.slots.Tag.the-variants.{Empty}
 use Rattle.tables.specs.declared.mounts.MountPoint.{MountPoint}
@@ -25,7 +25,6 @@ use Rattle.placing.specs.Place.{freedMem, placeMem, outMem, takeOffMem, 
 use Rattle.tables.specs.Layout.{countOf}
 use Rattle.tables.specs.declared.rows.Row.{Row}
 use Rattle.tables.specs.declared.rows.Row.the-variants.{At, Nothing as RowNothing}
-use Rattle.tables.proofs.ByPlace.{row-else}
 use Rattle.tables.proofs.Places.{row-below, view-mount}
 use Rattle.tables.proofs.Keeps.{laid-is, keeps-mount}
 use Rattle.placing.proofs.Stands.{tag-of-is, view-freed, keeps-freed}
@@ -42,7 +41,7 @@ frees-none mem old e = subst (λ (o : MountOn). Frees mem o Empty mem) (sym e) (
 
 pub places : (mem m₁ m₂ after : List ℕ) (x : ℕ) (m : Mount) (t : ℕ) (old : MountOn) (r : Tags) → laid mem ≡ true → m .index < 256
     → mountIn old ≡ mountOf (view mem .tree) x → Frees mem old (r .replaced) m₁ → tagIn (r .displaced) ≡ tagInSlot (slotAt m₁ (m .index))
-    → m₂ ≡ mountMem (nodesOf m₁) (some m) x m₁ → after ≡ setSlot (m .index) true t m₂ → Places mem m t x r after
+    → m₂ ≡ nodeMountMem (nodesOf m₁) (some m) x m₁ → after ≡ setSlot (m .index) true t m₂ → Places mem m t x r after
 unfolding placeMem
 places mem m₁ m₂ after x m t old r l h o f d e g =
     let a : m₁ ≡ freedMem (mountOf (view mem .tree) x) mem = f .bytes ∙ ap (λ (z : Option Mount). freedMem z mem) o in
@@ -50,7 +49,7 @@ places mem m₁ m₂ after x m t old r l h o f d e g =
     record {
       replaced = f .tag ∙ ap (λ (z : Option Mount). tagAt z (view mem)) o;
       displaced = tag-of-is m₁ (m .index) (tagIn (r .displaced)) h d ∙ ap (λ (i : Instance). tagOf i (m .index)) (ap view a ∙ view-freed mem l (mountOf (view mem .tree) x) w);
-      bytes = g ∙ ap (setSlot (m .index) true t) (e ∙ ap (λ (z : List ℕ). mountMem (nodesOf z) (some m) x z) a);
+      bytes = g ∙ ap (setSlot (m .index) true t) (e ∙ ap (λ (z : List ℕ). nodeMountMem (nodesOf z) (some m) x z) a);
       within = w;
     }
 
@@ -59,12 +58,17 @@ places mem m₁ m₂ after x m t old r l h o f d e g =
 pub laid-freed : (mem m₁ : List ℕ) (old : MountOn) (r : Tag) → laid mem ≡ true → Frees mem old r m₁ → laid m₁ ≡ true
 laid-freed mem m₁ old r e f = ap laid (f .bytes) ∙ keeps-freed mem e (mountIn old) (f .within)
 
-pub laid-mounted : (mem m₁ : List ℕ) (m : Option Mount) (x : ℕ) → laid mem ≡ true → m₁ ≡ mountMem (nodesOf mem) m x mem → laid m₁ ≡ true
+pub laid-mounted : (mem m₁ : List ℕ) (m : Option Mount) (x : ℕ) → laid mem ≡ true → m₁ ≡ nodeMountMem (nodesOf mem) m x mem → laid m₁ ≡ true
 laid-mounted mem m₁ m x e f = ap laid f ∙ keeps-mount mem e m x
 
-pub row-of : (mem : List ℕ) (x : ℕ) (w : Row) (i : ℕ) → RowOf mem x w → (x ≡ rootNumber → ⊥) → w ≡ At i → i < countOf mem
-unfolding rowIn
-row-of mem x w i e n f = row-below mem x i (sym (e ∙ row-else mem x n) ∙ ap rowIn f)
+-- a row that a node has is below the count
+pub row-of : (mem : List ℕ) (x : ℕ) (w : Row) (i : ℕ) → RowOf mem x w → w ≡ At i → i < countOf mem
+unfolding rowIn rowFor
+row-of mem x w i e f = go (eqb x rootNumber) (sym e ∙ ap rowIn f)
+  where
+    go : (b : Bool) → cond b none (placeIn (nodesOf mem) x) ≡ some i → i < countOf mem
+    go true q = absurd (Option·none-ne-some i q)
+    go false q = row-below mem x i q
 
 -- ---- the row of a node on the way
 
@@ -91,7 +95,7 @@ row-freed mem m₁ old r e f x w p =
     let v : view m₁ .tree ≡ view mem .tree = (λ i. (ap view (f .bytes) ∙ view-freed mem e (mountIn old) (f .within)) i .tree) ∙ freed-tree (mountIn old) (view mem) in
     p ∙ sym (ap (λ (t : Tree). rowFor (t .nodes) x) v)
 
-pub row-mounted : (mem m₁ : List ℕ) (x : ℕ) → laid mem ≡ true → m₁ ≡ mountMem (nodesOf mem) none x mem → (w : Row) → RowOf mem x w → RowOf m₁ x w
+pub row-mounted : (mem m₁ : List ℕ) (x : ℕ) → laid mem ≡ true → m₁ ≡ nodeMountMem (nodesOf mem) none x mem → (w : Row) → RowOf mem x w → RowOf m₁ x w
 unfolding view rowFor
 row-mounted mem m₁ x e f w p =
     let v : nodesOf m₁ ≡ setMount (view mem .tree) x none .nodes = λ i. (ap view f ∙ view-mount mem (laid-is mem e) x none tt) i .tree .nodes in
@@ -104,23 +108,24 @@ module _ (x : ℕ) (mem : List ℕ) (r : Bool) (set : r ≡ flag 15 (headOf mem)
   unfolding outMem
   stays-unset e = rw (sym set ∙ not-true r e)
 
-  pub stays-root : not r ≡ false → x ≡ rootNumber → mem ≡ outMem x mem
-  unfolding outMem
-  stays-root e q = rw (sym set ∙ not-false r e, eq-eqb x rootNumber q)
+  -- what goes is the row that the node has: the root has none
+  out-by : not r ≡ false → (w : Row) → RowOf mem x w → outMem x mem ≡ atPlace (rowIn w) (λ (i : ℕ). removeRow i mem) mem
+  unfolding outMem removeMem rowFor
+  out-by e w p = rw (sym set ∙ not-false r e, p) (go (eqb x rootNumber))
+    where
+      go : (b : Bool) → cond (not b) (atPlace (placeIn (nodesOf mem) x) (λ (i : ℕ). removeRow i mem) mem) mem ≡ atPlace (cond b none (placeIn (nodesOf mem) x)) (λ (i : ℕ). removeRow i mem) mem
+      go true = refl
+      go false = refl
 
-  out-removes : not r ≡ false → (x ≡ rootNumber → ⊥) → outMem x mem ≡ removeMem (nodesOf mem) x mem
-  unfolding outMem
-  out-removes e q = rw (sym set ∙ not-false r e, ne-eqb x rootNumber q)
+  pub goes : not r ≡ false → (w : Row) (i : ℕ) (after : List ℕ) → RowOf mem x w → w ≡ At i → after ≡ removeRow i mem → after ≡ outMem x mem
+  unfolding rowIn
+  goes e w i after p f a = a ∙ sym (out-by e w p ∙ rw f)
 
-  pub goes : not r ≡ false → (x ≡ rootNumber → ⊥) → (w : Row) (i : ℕ) (after : List ℕ) → RowOf mem x w → w ≡ At i → after ≡ removeRow i mem → after ≡ outMem x mem
-  unfolding removeMem rowIn
-  goes e q w i after p f a = a ∙ sym (out-removes e q ∙ rw (sym (p ∙ row-else mem x q) ∙ ap rowIn f))
+  pub nothing-goes : not r ≡ false → (w : Row) → RowOf mem x w → w ≡ RowNothing → mem ≡ outMem x mem
+  unfolding rowIn
+  nothing-goes e w p f = sym (out-by e w p ∙ rw f)
 
-  pub nothing-goes : not r ≡ false → (x ≡ rootNumber → ⊥) → (w : Row) → RowOf mem x w → w ≡ RowNothing → mem ≡ outMem x mem
-  unfolding removeMem rowIn
-  nothing-goes e q w p f = sym (out-removes e q ∙ rw (sym (p ∙ row-else mem x q) ∙ ap rowIn f))
-
-pub takes-off : (mem m₁ m₂ after : List ℕ) (x : ℕ) (m : Mount) (r : Tag) → m .index < 256 → tagIn r ≡ tagInSlot (slotAt mem (m .index)) → m₁ ≡ mountMem (nodesOf mem) none x mem
+pub takes-off : (mem m₁ m₂ after : List ℕ) (x : ℕ) (m : Mount) (r : Tag) → m .index < 256 → tagIn r ≡ tagInSlot (slotAt mem (m .index)) → m₁ ≡ nodeMountMem (nodesOf mem) none x mem
     → m₂ ≡ outMem x m₁ → after ≡ setSlot (m .index) false 0 m₂ → TakesOff mem m x r after
 unfolding takeOffMem
 takes-off mem m₁ m₂ after x m r h t a b c = record {

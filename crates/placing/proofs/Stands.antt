@@ -15,7 +15,7 @@ use Rattle.rules.specs.Unmount.{taken}
 use Rattle.tables.specs.View.{flag, headOf, slotAt, slotsOf, nodesOf, view}
 use Rattle.tables.specs.Rule.{laid}
 use Rattle.tables.specs.Write.{MountFits}
-use Rattle.tables.specs.Answer.{mountMem, removeMem}
+use Rattle.tables.specs.Answer.{nodeMountMem, removeMem}
 use Rattle.tables.proofs.Tab.{tab-at}
 use Rattle.tables.proofs.Refine.{view-slot}
 use Rattle.tables.proofs.Places.{view-mount, view-gone}
@@ -50,7 +50,7 @@ module _ (mem : List ℕ) (e : laid mem ≡ true) where
     m₁ = freedMem old mem
 
     abbrev m₂ : List ℕ
-    m₂ = mountMem (nodesOf m₁) (some (mountOn k r)) x m₁
+    m₂ = nodeMountMem (nodesOf m₁) (some (mountOn k r)) x m₁
 
     keeps₁ : laid m₁ ≡ true
     keeps₁ = keeps-freed old h
@@ -90,7 +90,7 @@ module _ (x : ℕ) (mem : List ℕ) (e : laid mem ≡ true) where
 
 module _ (x : ℕ) (m : Mount) (mem : List ℕ) (e : laid mem ≡ true) (h : m .index < 256) where
   abbrev c₁ : List ℕ
-  c₁ = mountMem (nodesOf mem) none x mem
+  c₁ = nodeMountMem (nodesOf mem) none x mem
 
   cleared : laid c₁ ≡ true
   cleared = keeps-mount mem e none x

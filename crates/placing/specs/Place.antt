@@ -11,7 +11,7 @@ use Rattle.rules.specs.Instance.{mountOf, tagOf}
 use Rattle.rules.specs.Mount.{tagAt, freed}
 use Rattle.tables.specs.View.{flag, headOf, nodesOf, view}
 use Rattle.tables.specs.Write.{setSlot}
-use Rattle.tables.specs.Answer.{tagIn, mountIn, mountMem, removeMem}
+use Rattle.tables.specs.Answer.{tagIn, mountIn, nodeMountMem, removeMem}
 use Rattle.tables.specs.declared.slots.Tag.{Tag}
 use Rattle.placing.specs.declared.Tags.{Tags}
 use Rattle.tables.specs.declared.mounts.MountOn.{MountOn}
@@ -25,7 +25,7 @@ freedMem (some m) mem = setSlot (m .index) false 0 mem
 unfoldable pub placeMem : Mount → ℕ → ℕ → List ℕ → List ℕ
 placeMem m tag x mem =
     let f = freedMem (mountOf (view mem .tree) x) mem in
-    setSlot (m .index) true tag (mountMem (nodesOf f) (some m) x f)
+    setSlot (m .index) true tag (nodeMountMem (nodesOf f) (some m) x f)
 
 -- with removal set, the node is taken out of the table unless it is the root (R100)
 unfoldable pub outMem : ℕ → List ℕ → List ℕ
@@ -33,7 +33,7 @@ outMem x mem = cond (flag 15 (headOf mem) && not (eqb x rootNumber)) (removeMem 
 
 -- the mount is taken off its node, and its index freed (R98)
 unfoldable pub takeOffMem : Mount → ℕ → List ℕ → List ℕ
-takeOffMem m x mem = setSlot (m .index) false 0 (outMem x (mountMem (nodesOf mem) none x mem))
+takeOffMem m x mem = setSlot (m .index) false 0 (outMem x (nodeMountMem (nodesOf mem) none x mem))
 
 -- a mount's index is one of the 256
 abbrev pub InSlots : Option Mount → Type 0

@@ -2,7 +2,7 @@
 // condition of each function.
 ghost use mathlib.Core.Path.{_≡_};
 ghost use mathlib.Core.Bool.{true};
-ghost use Prim.Native.Nat.{_<_, _≤_, _^_};
+ghost use Prim.Native.Nat.{_<_, _^_};
 ghost use Rattle.tables.specs.Rule.{laid};
 ghost use Rattle.tables.specs.Answer.{mountOfPoint, RowOf};
 ghost use Rattle.placing.specs.Place.{outMem, Frees, Places, TakesOff};
@@ -37,7 +37,6 @@ fn free_old(s: &mut [u8], old: MountOn) -> Tag
 pub fn place(s: &mut [u8], x: u64, m: MountPoint, tag: u32) -> Tags
     requires { ⌜ laid (now s) ≡ true ⌝ }
     requires { ⌜ m .ino < 2 ^ 56 ⌝ }
-    requires { ⌜ 1 ≤ m .«fs_idx» ⌝ }
     ensures { λ r. ⌜ Places (now (s .entry)) (mountOfPoint m) tag x r (now (s .exit)) ⌝ }
 {
     let here = tables::mounts::under_parent(s, x);
@@ -53,16 +52,13 @@ pub fn place(s: &mut [u8], x: u64, m: MountPoint, tag: u32) -> Tags
     }
 }
 
-// With removal set, the node, in that row, is taken out of the table unless it is the root (R100).
+// With removal set, the node, in that row, is taken out of the table; the root has no row (R100).
 fn take_out(s: &mut [u8], x: u64, row: Row)
     requires { ⌜ laid (now s) ≡ true ⌝ }
     requires { ⌜ RowOf (now s) x row ⌝ }
     ensures { λ _. ⌜ now (s .exit) ≡ outMem x (now (s .entry)) ⌝ }
 {
     if !tables::header::removes(s) {
-        return;
-    }
-    if x == rules::ROOT_ID {
         return;
     }
     match row {

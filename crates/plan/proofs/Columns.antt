@@ -32,9 +32,9 @@ use Rattle.plan.proofs.Nodes.{node-second}
 -- ---- whether planned node j is the child of a name
 
 module _ (path : List ℕ) (t : Columns) (j here : ℕ) (p : List ℕ) where
-  pub is-else : (getD (t .made) j 0 ≡ here → ⊥) → false ≡ isChild here p (plannedAt path 0 t j)
+  pub is-else : (getD (t .parents) j 0 ≡ here → ⊥) → false ≡ isChild here p (plannedAt path 0 t j)
   unfolding isChild plannedAt
-  is-else h = rw (ne-eqb (getD (t .made) j 0) here h)
+  is-else h = rw (ne-eqb (getD (t .parents) j 0) here h)
 
   module _ (l : ℕ) (e : l ≡ getD (t .lens) j 0) (h : getD (t .starts) j 0 + getD (t .lens) j 0 ≤ length path) where
     pub is-longer : (l ≡ length p → ⊥) → false ≡ isChild here p (plannedAt path 0 t j)
@@ -44,12 +44,12 @@ module _ (path : List ℕ) (t : Columns) (j here : ℕ) (p : List ℕ) where
         let q : same (part path (getD (t .starts) j 0) (getD (t .lens) j 0)) p ≡ false = same-length (part path (getD (t .starts) j 0) (getD (t .lens) j 0)) p (λ f. d (e ∙ (sym k ∙ f))) in
         rw (q, and-false)
 
-    pub is-named : getD (t .made) j 0 ≡ here → l ≡ length p → (a : ℕ) → a ≡ getD (t .starts) j 0 → {r : Bool} → r ≡ same (read path a l) (read p 0 l) → r ≡ isChild here p (plannedAt path 0 t j)
+    pub is-named : getD (t .parents) j 0 ≡ here → l ≡ length p → (a : ℕ) → a ≡ getD (t .starts) j 0 → {r : Bool} → r ≡ same (read path a l) (read p 0 l) → r ≡ isChild here p (plannedAt path 0 t j)
     unfolding isChild plannedAt
     is-named m k a s q =
         let all : read p 0 l ≡ p = rw k (read-all p) in
         let there : read path a l ≡ part path (getD (t .starts) j 0) (getD (t .lens) j 0) = rw (s, e) (read-slice path (getD (t .starts) j 0) (getD (t .lens) j 0) h) in
-        q ∙ rw (all, there, eq-eqb (getD (t .made) j 0) here m)
+        q ∙ rw (all, there, eq-eqb (getD (t .parents) j 0) here m)
 
 -- ---- the search: what is left to find is what was to find
 
@@ -119,7 +119,7 @@ module _ (mem path : List ℕ) (t : Columns) (count x : ℕ) (d : x ≡ rootNumb
     unfolding plannedFrom
     up-before h = sym (up-second ∙ ap aboveOf (at-before path (nextOf mem) t x 0 count (omega arith)))
 
-    pub up-planned : (y : ℕ) → y ≡ nextOf mem → y ≤ x → x - y < count → getD (t .made) (x - y) 0 ≡ parentIn all x
+    pub up-planned : (y : ℕ) → y ≡ nextOf mem → y ≤ x → x - y < count → getD (t .parents) (x - y) 0 ≡ parentIn all x
     unfolding plannedFrom plannedAt
     up-planned y q h l = rw q (sym (up-second ∙ ap aboveOf (at-planned path (nextOf mem) t x 0 count (omega arith) (omega arith))))
 
@@ -133,19 +133,19 @@ pub planned-length : (path : List ℕ) (next : ℕ) (t : Columns) (count : ℕ) 
 unfolding plannedFrom
 planned-length path next t count = length-tab (plannedAt path next t) 0 count
 
-module _ (path : List ℕ) (next : ℕ) (made starts lens : List ℕ) (c above start len : ℕ) where
+module _ (path : List ℕ) (next : ℕ) (parents starts lens : List ℕ) (c above start len : ℕ) where
   abbrev stored : Columns
-  stored = noted (columns made starts lens) c above start len
+  stored = noted (columns parents starts lens) c above start len
 
-  stored-below : (j : ℕ) → j < c → plannedAt path next stored j ≡ plannedAt path next (columns made starts lens) j
+  stored-below : (j : ℕ) → j < c → plannedAt path next stored j ≡ plannedAt path next (columns parents starts lens) j
   unfolding plannedAt
   stored-below j h =
       let d : j ≡ c → ⊥ = λ e. omega arith in
-      rw (getD-set-other made c j above 0 d, getD-set-other starts c j start 0 d, getD-set-other lens c j len 0 d)
+      rw (getD-set-other parents c j above 0 d, getD-set-other starts c j start 0 d, getD-set-other lens c j len 0 d)
 
-  pub planned-stored : c < length made → c < length starts → c < length lens
-      → plannedFrom path next stored 0 (c + 1) ≡ plannedFrom path next (columns made starts lens) 0 c ++ (bare (next + c) above (part path start len) ∷ [])
+  pub planned-stored : c < length parents → c < length starts → c < length lens
+      → plannedFrom path next stored 0 (c + 1) ≡ plannedFrom path next (columns parents starts lens) 0 c ++ (bare (next + c) above (part path start len) ∷ [])
   unfolding plannedFrom plannedAt
   planned-stored h k m =
-      tab-append (plannedAt path next (columns made starts lens)) (plannedAt path next stored) c (λ j q. stored-below j q)
-      ∙ rw (getD-set-same made c above 0 h, getD-set-same starts c start 0 k, getD-set-same lens c len 0 m)
+      tab-append (plannedAt path next (columns parents starts lens)) (plannedAt path next stored) c (λ j q. stored-below j q)
+      ∙ rw (getD-set-same parents c above 0 h, getD-set-same starts c start 0 k, getD-set-same lens c len 0 m)

@@ -110,19 +110,19 @@ module _ (mem path : List ℕ) where
             record { answer = lacks mem path d (omega (arith, ap (λ (q : Made). length (q .nodes)) after)); named = λ k h. absurd (omega arith) }
 
   -- one node more
-  module _ (made starts lens : List ℕ) (count node at : ℕ) (g : Going mem path (columns made starts lens) count node at) (start len on : ℕ) (s : Goes path at (name start (part path start len)) start len on) where
-    pub goes-new : none ≡ childIn (nodesOf mem ++ plannedFrom path (nextOf mem) (columns made starts lens) 0 count) node (part path start (on - start))
-        → count < roomOf mem → roomOf mem ≤ 1024 → (x : ℕ) → x ≡ nextOf mem + count → Going mem path (noted (columns made starts lens) count node start len) (count + 1) x on
+  module _ (parents starts lens : List ℕ) (count node at : ℕ) (g : Going mem path (columns parents starts lens) count node at) (start len on : ℕ) (s : Goes path at (name start (part path start len)) start len on) where
+    pub goes-new : none ≡ childIn (nodesOf mem ++ plannedFrom path (nextOf mem) (columns parents starts lens) 0 count) node (part path start (on - start))
+        → count < roomOf mem → roomOf mem ≤ 1024 → (x : ℕ) → x ≡ nextOf mem + count → Going mem path (noted (columns parents starts lens) count node start len) (count + 1) x on
     unfolding makes
     goes-new e l r x q =
         record {
           few = omega arith;
-          sized = record { made = length-set made count node ∙ g .sized .made; starts = length-set starts count start ∙ g .sized .starts; lens = length-set lens count len ∙ g .sized .lens };
+          sized = record { parents = length-set parents count node ∙ g .sized .parents; starts = length-set starts count start ∙ g .sized .starts; lens = length-set lens count len ∙ g .sized .lens };
           named = λ k h. names k (ℕ-discrete k count) h;
           short = rest-short (name start (part path start len)) (components on (drop on path)) (rw (s .parts) at (g .short));
           rest =
-              rw (q, planned-stored path (nextOf mem) made starts lens count node start len (omega (arith, g .sized .made)) (omega (arith, g .sized .starts)) (omega (arith, g .sized .lens)))
-              (sym (ap (λ (m : Made). makes (nodesOf mem) (nextOf mem) m (components on (drop on path))) (makes-it (columns made starts lens) count node at g start len on s e)) ∙ after (columns made starts lens) count node at g start len on s e);
+              rw (q, planned-stored path (nextOf mem) parents starts lens count node start len (omega (arith, g .sized .parents)) (omega (arith, g .sized .starts)) (omega (arith, g .sized .lens)))
+              (sym (ap (λ (m : Made). makes (nodesOf mem) (nextOf mem) m (components on (drop on path))) (makes-it (columns parents starts lens) count node at g start len on s e)) ∙ after (columns parents starts lens) count node at g start len on s e);
         }
       where
         names : (k : ℕ) → Dec (k ≡ count) → k < count + 1 → getD (set starts count start) k 0 + getD (set lens count len) k 0 ≤ length path

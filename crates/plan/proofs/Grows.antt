@@ -10,13 +10,14 @@ use Rattle.rules.specs.Tree.{Node}
 use Rattle.rules.specs.Instance.{Instance, withTree, grown}
 use Rattle.path.specs.Steps.{part}
 use Rattle.le.specs.Mem.{get}
-use Rattle.tables.specs.Table.{row, over}
+use Rattle.tables.specs.Table.{row}
+use Rattle.tables.proofs.Table.{over}
 use Rattle.tables.specs.Layout.{capacityOf, countOf, nextOf}
 use Rattle.tables.specs.View.{field, view}
 use Rattle.tables.specs.Rule.{Laid, laid}
 use Rattle.tables.specs.Write.{appendNode}
 use Rattle.tables.proofs.Tab.{tab-next, tab-done}
-use Rattle.tables.proofs.Spells.{whole}
+use Rattle.tables.proofs.Spells.{cell-back}
 use Rattle.tables.proofs.Refine.{head-append, view-append}
 use Rattle.tables.proofs.Keeps.{laid-is, length-append, keeps-append}
 use Rattle.plan.specs.Plan.{Columns, plannedAt, plannedFrom}
@@ -35,19 +36,17 @@ module _ (mem : List ℕ) (d : Laid mem) (above : ℕ) (p : List ℕ) where
 
   pub append-count : countOf after ≡ countOf mem + 1
   unfolding over row get
-  append-count = ap (λ (h : List (List ℕ)). field 2 h) (head-append mem d above p) ∙ whole 8 (countOf mem + 1) mem _ (omega (arith, d .live, d .few-nodes))
+  append-count = ap (λ (h : List (List ℕ)). field 2 h) (head-append mem d above p) ∙ cell-back 8 (countOf mem + 1) mem 16 (omega (arith, d .live, d .few-nodes))
 
   pub append-next : nextOf after ≡ nextOf mem + 1
   unfolding over row get
-  append-next = ap (λ (h : List (List ℕ)). field 3 h) (head-append mem d above p) ∙ whole 8 (nextOf mem + 1) mem _ (omega (arith, d .top))
+  append-next = ap (λ (h : List (List ℕ)). field 3 h) (head-append mem d above p) ∙ cell-back 8 (nextOf mem + 1) mem 24 (omega (arith, d .top))
 
   append-laid : countOf mem + 1 < capacityOf mem → nextOf mem < 2 ^ 56 → Laid after
   append-laid room top = record {
-    some-node = omega (arith, append-capacity, d .some-node);
     few-nodes = omega (arith, append-capacity, d .few-nodes);
     long = omega (arith, append-capacity, length-append above p mem, d .long);
     live = omega (arith, append-capacity, append-count);
-    low = omega (arith, append-next, d .low);
     top = omega (arith, append-next);
   }
 
@@ -96,10 +95,10 @@ module _ (s₀ path : List ℕ) (t : Columns) (count : ℕ) where
     done h = rw (tab-done (plannedAt path (nextOf s₀) t) j count h) at (w .rest)
 
     pub goes-on : (r : List ℕ) → j < count → countOf s₀ + count < capacityOf s₀ → nextOf s₀ + count ≤ 2 ^ 56
-        → r ≡ appendNode (getD (t .made) j 0) (part path (getD (t .starts) j 0) (getD (t .lens) j 0)) s → Writing s₀ path t count r (j + 1)
+        → r ≡ appendNode (getD (t .parents) j 0) (part path (getD (t .starts) j 0) (getD (t .lens) j 0)) s → Writing s₀ path t count r (j + 1)
     unfolding appendAll plannedFrom plannedAt
     goes-on r h c x e =
-        let a = getD (t .made) j 0 in
+        let a = getD (t .parents) j 0 in
         let p = part path (getD (t .starts) j 0) (getD (t .lens) j 0) in
         rw e
         (record {

@@ -2,7 +2,7 @@
 use mathlib.Core.Path.{_≡_, refl}
 use mathlib.Core.Bool.{Bool, true, false, cond}
 use mathlib.Core.List.{List, [], _∷_, _++_}
-use mathlib.Core.Option.{Option, none, some}
+use mathlib.Core.Option.{Option, none, some, Option·none-ne-some, Option·some-ne-none}
 use Prim.Native.Nat.{ℕ, _+_, _≤_}
 use native.Mathlib.Omega.{arith}
 use lib.ListN.{length, length-append}
@@ -18,7 +18,7 @@ use Rattle.rules.proofs.Tests.{or-neither}
 module _ (here : ℕ) (p : List ℕ) where
   pub child-first : (xs ys : List Node) {x : ℕ} → childIn xs here p ≡ some x → childIn (xs ++ ys) here p ≡ some x
   unfolding childIn
-  child-first [] ys e = let z : _≡_ {A = ℕ} 0 1 = cc in absurd (omega arith)
+  child-first [] ys e = absurd (Option·none-ne-some _ e)
   child-first (n ∷ xs) ys {x} e = go (isChild here p n) (child-first xs ys) e
     where
       go : (t : Bool) → (childIn xs here p ≡ some x → childIn (xs ++ ys) here p ≡ some x) → cond t (some (n .number)) (childIn xs here p) ≡ some x → cond t (some (n .number)) (childIn (xs ++ ys) here p) ≡ some x
@@ -31,7 +31,7 @@ module _ (here : ℕ) (p : List ℕ) where
   child-second (n ∷ xs) ys e = go (isChild here p n) (child-second xs ys) e
     where
       go : (t : Bool) → (childIn xs here p ≡ none → childIn (xs ++ ys) here p ≡ childIn ys here p) → cond t (some (n .number)) (childIn xs here p) ≡ none → cond t (some (n .number)) (childIn (xs ++ ys) here p) ≡ childIn ys here p
-      go true ih e = let z : _≡_ {A = ℕ} 0 1 = cc in absurd (omega arith)
+      go true ih e = absurd (Option·some-ne-none _ e)
       go false ih e = ih e
 
 module _ (x : ℕ) where
@@ -41,7 +41,7 @@ module _ (x : ℕ) where
   node-second (m ∷ xs) ys e = go (eqb (m .number) x) (node-second xs ys) e
     where
       go : (t : Bool) → (nodeIn xs x ≡ none → nodeIn (xs ++ ys) x ≡ nodeIn ys x) → cond t (some m) (nodeIn xs x) ≡ none → cond t (some m) (nodeIn (xs ++ ys) x) ≡ nodeIn ys x
-      go true ih e = let z : _≡_ {A = ℕ} 0 1 = cc in absurd (omega arith)
+      go true ih e = absurd (Option·some-ne-none _ e)
       go false ih e = ih e
 
 -- ---- a mount walk only adds nodes

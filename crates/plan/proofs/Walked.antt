@@ -2,7 +2,7 @@
 use mathlib.Core.Path.{_≡_, refl, sym, ap, _∙_, subst}
 use mathlib.Core.Bool.{Bool, true, false, cond, not}
 use mathlib.Core.List.{List, [], _∷_, append-nil}
-use mathlib.Core.Option.{Option, none, some}
+use mathlib.Core.Option.{Option, none, some, Option·none-ne-some, Option·some-ne-none}
 use Prim.Native.Nat.{ℕ, _+_, _^_, _≤_, _<_}
 use native.Mathlib.Omega.{arith}
 use lib.ListN.{length}
@@ -43,7 +43,7 @@ module _ (mem path : List ℕ) (t : Columns) where
     where
       go : (b : Bool) → noRoom (view mem) path ≡ b → _≡_ {A = Option Made} (some (record { nodes = plannedFrom path (nextOf mem) t 0 count; here = node })) (cond b none (some (planned (view mem .tree) path)))
           → Fitted mem path t node count
-      go true e f = let z : _≡_ {A = ℕ} 0 1 = cc in absurd (omega arith)
+      go true e f = absurd (Option·some-ne-none _ f)
       go false e f =
           let same : _≡_ {A = Made} (record { nodes = plannedFrom path (nextOf mem) t 0 count; here = node }) (planned (view mem .tree) path) = cc in
           let size : length (planned (view mem .tree) path .nodes) ≡ count = sym (ap (λ (m : Made). length (m .nodes)) same) ∙ planned-length path (nextOf mem) t count in
@@ -63,7 +63,7 @@ module _ (mem path : List ℕ) (t : Columns) where
     where
       go : (b : Bool) → none ≡ cond b none (some (planned (view mem .tree) path)) → b ≡ true
       go true f = refl
-      go false f = let z : _≡_ {A = ℕ} 0 1 = cc in absurd (omega arith)
+      go false f = absurd (Option·none-ne-some _ f)
 
   -- of an answer of the code, known by its variant
   pub fitted : {r : Planned} {node count : ℕ} → Plans mem path t r → r ≡ Fits node count → Fitted mem path t node count
@@ -95,7 +95,7 @@ module _ (live : List Node) (next : ℕ) where
     where
       go : (o : Option ℕ) → ((y : ℕ) → walk live y ps ≡ some x → makes live next (record { nodes = []; here = y }) ps ≡ record { nodes = []; here = x }) → onward o (λ (y : ℕ). walk live y ps) ≡ some x
           → makes live next (orMake next (record { nodes = []; here = here }) p o) ps ≡ record { nodes = []; here = x }
-      go none ih f = let z : _≡_ {A = ℕ} 0 1 = cc in absurd (omega arith)
+      go none ih f = absurd (Option·none-ne-some _ f)
       go (some y) ih f = ih y f
 
 -- then the mount walk makes nothing, and ends at the same node (R48)

@@ -17,23 +17,23 @@ use Rattle.plan.specs.declared.Planned.the-variants.{Fits, NoRoom}
 
 -- of each planned node: its parent's number, where its name starts in the path, and how long that is
 pub record Columns : Type 0 where
-  pub made : List ℕ
+  pub parents : List ℕ
   pub starts : List ℕ
   pub lens : List ℕ
 
 -- of three lists
 abbrev pub columns : List ℕ → List ℕ → List ℕ → Columns
-columns a b c = record { made = a; starts = b; lens = c }
+columns a b c = record { parents = a; starts = b; lens = c }
 
 -- each column has 1024 cells, the most nodes that a table can have (R9)
 pub record Sized (t : Columns) : Type 0 where
-  pub made : length (t .made) ≡ 1024
+  pub parents : length (t .parents) ≡ 1024
   pub starts : length (t .starts) ≡ 1024
   pub lens : length (t .lens) ≡ 1024
 
 -- planned node j: its number is the next number and j more (R49)
 unfoldable pub plannedAt : List ℕ → ℕ → Columns → ℕ → Node
-plannedAt path next t j = bare (next + j) (getD (t .made) j 0) (part path (getD (t .starts) j 0) (getD (t .lens) j 0))
+plannedAt path next t j = bare (next + j) (getD (t .parents) j 0) (part path (getD (t .starts) j 0) (getD (t .lens) j 0))
 
 -- k planned nodes from the j-th on
 unfoldable pub plannedFrom : List ℕ → ℕ → Columns → ℕ → ℕ → List Node
@@ -41,7 +41,7 @@ plannedFrom path next t j k = tab (plannedAt path next t) j k
 
 -- one planned node more, behind c others
 abbrev pub noted : Columns → ℕ → ℕ → ℕ → ℕ → Columns
-noted t c above start len = columns (set (t .made) c above) (set (t .starts) c start) (set (t .lens) c len)
+noted t c above start len = columns (set (t .parents) c above) (set (t .starts) c start) (set (t .lens) c len)
 
 -- and its number (R49)
 pub record Notes (mem : List ℕ) (t : Columns) (c above start len r : ℕ) (after : Columns) : Type 0 where

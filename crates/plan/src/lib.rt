@@ -1,5 +1,6 @@
 // The mount walk in two steps: the plan, which only reads the storage, and its application. The nodes to make stand in columns that the caller lends: the parent's
-// number, where the name starts in the path, and how long it is. Each function has the layout rule or places within a slice as its condition.
+// number, where the name starts in the path, and how long it is. Each function has as its condition a place within a slice, the layout rule, or what its caller has
+// just found or tested.
 use path::components::Component;
 use tables::rows::Found;
 use tables::rows::Row;
@@ -23,22 +24,22 @@ pub enum Planned {
     NoRoom,
 }
 
-// A number of a column: as an answer it is known to have 64 bits.
-fn word(x: u64) -> u64
+// A parent's number in its column: as an answer it is known to have 64 bits.
+fn parent_in(x: u64) -> u64
     ensures { λ r. ⌜ r ≡ x ⌝ }
 {
     x
 }
 
-// A place of a column.
-fn place(x: u16) -> usize
+// Where a name starts in the path, as its column has it.
+fn start_of(x: u16) -> usize
     ensures { λ r. ⌜ r ≡ x ⌝ }
 {
     x as usize
 }
 
-// A length of a column.
-fn size(x: u8) -> usize
+// How long a name is, as its column has it: at most 255 bytes.
+fn length_of(x: u8) -> usize
     ensures { λ r. ⌜ (r ≡ x) × (r < 256) ⌝ }
 {
     x as usize
@@ -60,7 +61,7 @@ pub fn room(s: &[u8]) -> usize
 // Whether planned node j is the child of that name (R45).
 fn planned_is(
     path: &[u8],
-    made: &[u64; 1024],
+    parents: &[u64; 1024],
     starts: &[u16; 1024],
     lens: &[u8; 1024],
     j: usize,
@@ -69,22 +70,22 @@ fn planned_is(
 ) -> bool
     requires { ⌜ j < 1024 ⌝ }
     requires { ⌜ getD (now starts) j 0 + getD (now lens) j 0 ≤ length (now path) ⌝ }
-    ensures { λ r. ⌜ r ≡ isChild here (now (name .entry)) (plannedAt (now (path .entry)) 0 (columns (now (made .entry)) (now (starts .entry)) (now (lens .entry))) j) ⌝ }
+    ensures { λ r. ⌜ r ≡ isChild here (now (name .entry)) (plannedAt (now (path .entry)) 0 (columns (now (parents .entry)) (now (starts .entry)) (now (lens .entry))) j) ⌝ }
 {
-    if made[j] != here {
+    if parents[j] != here {
         return false;
     }
-    let len = size(lens[j]);
+    let len = length_of(lens[j]);
     if len != name.len() {
         return false;
     }
-    le::runs::same_at(path, place(starts[j]), name, 0, len)
+    le::runs::same_at(path, start_of(starts[j]), name, 0, len)
 }
 
 // The first planned child of that name (R45).
 fn find_planned(
     path: &[u8],
-    made: &[u64; 1024],
+    parents: &[u64; 1024],
     starts: &[u16; 1024],
     lens: &[u8; 1024],
     count: usize,
@@ -93,12 +94,12 @@ fn find_planned(
     name: &[u8],
 ) -> Found
     requires { ⌜ (count ≤ 1024) × (next + count < 2 ^ 64) ⌝ }
-    requires { ⌜ Within (now path) (columns (now made) (now starts) (now lens)) count ⌝ }
-    ensures { λ r. ⌜ foundIn r ≡ childIn (plannedFrom (now (path .entry)) next (columns (now (made .entry)) (now (starts .entry)) (now (lens .entry))) 0 count) here (now (name .entry)) ⌝ }
+    requires { ⌜ Within (now path) (columns (now parents) (now starts) (now lens)) count ⌝ }
+    ensures { λ r. ⌜ foundIn r ≡ childIn (plannedFrom (now (path .entry)) next (columns (now (parents .entry)) (now (starts .entry)) (now (lens .entry))) 0 count) here (now (name .entry)) ⌝ }
 {
     let mut j: usize = 0;
     while j < count {
-        if planned_is(path, made, starts, lens, j, here, name) {
+        if planned_is(path, parents, starts, lens, j, here, name) {
             return Found::Node(next + j as u64);
         }
         j += 1;
@@ -110,7 +111,7 @@ fn find_planned(
 fn find(
     s: &[u8],
     path: &[u8],
-    made: &[u64; 1024],
+    parents: &[u64; 1024],
     starts: &[u16; 1024],
     lens: &[u8; 1024],
     count: usize,
@@ -119,23 +120,23 @@ fn find(
 ) -> Found
     requires { ⌜ Laid (now s) ⌝ }
     requires { ⌜ count ≤ 1024 ⌝ }
-    requires { ⌜ Within (now path) (columns (now made) (now starts) (now lens)) count ⌝ }
-    ensures { λ r. ⌜ foundIn r ≡ childIn (nodesOf (now (s .entry)) ++ plannedFrom (now (path .entry)) (nextOf (now (s .entry))) (columns (now (made .entry)) (now (starts .entry)) (now (lens .entry))) 0 count) here (now (name .entry)) ⌝ }
+    requires { ⌜ Within (now path) (columns (now parents) (now starts) (now lens)) count ⌝ }
+    ensures { λ r. ⌜ foundIn r ≡ childIn (nodesOf (now (s .entry)) ++ plannedFrom (now (path .entry)) (nextOf (now (s .entry))) (columns (now (parents .entry)) (now (starts .entry)) (now (lens .entry))) 0 count) here (now (name .entry)) ⌝ }
 {
     match tables::rows::find_child(s, here, name) {
         Found::Node(x) => Found::Node(x),
         Found::Nothing => {
             let next = tables::header::next(s);
-            find_planned(path, made, starts, lens, count, next, here, name)
+            find_planned(path, parents, starts, lens, count, next, here, name)
         }
     }
 }
 
 // The parent's number of a node, live or planned, whatever the planned nodes' names are (R39, R54).
-fn up(s: &[u8], made: &[u64; 1024], count: usize, x: u64) -> u64
+fn up(s: &[u8], parents: &[u64; 1024], count: usize, x: u64) -> u64
     requires { ⌜ Laid (now s) ⌝ }
     requires { ⌜ count ≤ 1024 ⌝ }
-    ensures { λ r. ⌜ ((path starts lens : List ℕ) → r ≡ parentIn (nodesOf (now (s .entry)) ++ plannedFrom path (nextOf (now (s .entry))) (columns (now (made .entry)) starts lens) 0 count) x) ⌝ }
+    ensures { λ r. ⌜ ((path starts lens : List ℕ) → r ≡ parentIn (nodesOf (now (s .entry)) ++ plannedFrom path (nextOf (now (s .entry))) (columns (now (parents .entry)) starts lens) 0 count) x) ⌝ }
 {
     if x == rules::ROOT_ID {
         return rules::ROOT_ID;
@@ -149,7 +150,7 @@ fn up(s: &[u8], made: &[u64; 1024], count: usize, x: u64) -> u64
         return rules::ROOT_ID;
     }
     if x - next < count as u64 {
-        return word(made[(x - next) as usize]);
+        return parent_in(parents[(x - next) as usize]);
     }
     rules::ROOT_ID
 }
@@ -157,7 +158,7 @@ fn up(s: &[u8], made: &[u64; 1024], count: usize, x: u64) -> u64
 // One node more is planned, behind count others: its cells are written, and it answers its number (R49).
 fn note(
     s: &[u8],
-    made: &mut [u64; 1024],
+    parents: &mut [u64; 1024],
     starts: &mut [u16; 1024],
     lens: &mut [u8; 1024],
     count: usize,
@@ -167,9 +168,9 @@ fn note(
 ) -> u64
     requires { ⌜ Laid (now s) ⌝ }
     requires { ⌜ (count < 1024) × (start < 65536) × (len < 256) ⌝ }
-    ensures { λ r. ⌜ Notes (now (s .entry)) (columns (now (made .entry)) (now (starts .entry)) (now (lens .entry))) count above start len r (columns (now (made .exit)) (now (starts .exit)) (now (lens .exit))) ⌝ }
+    ensures { λ r. ⌜ Notes (now (s .entry)) (columns (now (parents .entry)) (now (starts .entry)) (now (lens .entry))) count above start len r (columns (now (parents .exit)) (now (starts .exit)) (now (lens .exit))) ⌝ }
 {
-    made[count] = above;
+    parents[count] = above;
     starts[count] = start as u16;
     lens[count] = len as u8;
     tables::header::next(s) + count as u64
@@ -179,14 +180,14 @@ fn note(
 pub fn plan_mount(
     s: &[u8],
     path: &[u8],
-    made: &mut [u64; 1024],
+    parents: &mut [u64; 1024],
     starts: &mut [u16; 1024],
     lens: &mut [u8; 1024],
 ) -> Planned
     requires { ⌜ Laid (now s) ⌝ }
     requires { ⌜ tooLong (now path) ≡ false ⌝ }
-    requires { ⌜ Sized (columns (now made) (now starts) (now lens)) ⌝ }
-    ensures { λ r. ⌜ Plans (now (s .entry)) (now (path .entry)) (columns (now (made .exit)) (now (starts .exit)) (now (lens .exit))) r ⌝ }
+    requires { ⌜ Sized (columns (now parents) (now starts) (now lens)) ⌝ }
+    ensures { λ r. ⌜ Plans (now (s .entry)) (now (path .entry)) (columns (now (parents .exit)) (now (starts .exit)) (now (lens .exit))) r ⌝ }
 {
     let most = room(s);
     let mut count: usize = 0;
@@ -196,17 +197,26 @@ pub fn plan_mount(
         match path::components::next_component(path, at) {
             Component::End => return Planned::Fits { node, count },
             Component::Parent { next, .. } => {
-                node = up(s, made, count, node);
+                node = up(s, parents, count, node);
                 at = next;
             }
             Component::Name { start, len, next } => {
-                match find(s, path, made, starts, lens, count, node, &path[start..next]) {
+                match find(
+                    s,
+                    path,
+                    parents,
+                    starts,
+                    lens,
+                    count,
+                    node,
+                    &path[start..next],
+                ) {
                     Found::Node(x) => node = x,
                     Found::Nothing => {
                         if count == most {
                             return Planned::NoRoom;
                         }
-                        node = note(s, made, starts, lens, count, node, start, len);
+                        node = note(s, parents, starts, lens, count, node, start, len);
                         count += 1;
                     }
                 }
@@ -220,21 +230,21 @@ pub fn plan_mount(
 pub fn apply_plan(
     s: &mut [u8],
     path: &[u8],
-    made: &[u64; 1024],
+    parents: &[u64; 1024],
     starts: &[u16; 1024],
     lens: &[u8; 1024],
     count: usize,
 )
     requires { ⌜ Laid (now s) ⌝ }
     requires { ⌜ (countOf (now s) + count < capacityOf (now s)) × (nextOf (now s) + count ≤ 2 ^ 56) ⌝ }
-    requires { ⌜ Within (now path) (columns (now made) (now starts) (now lens)) count ⌝ }
-    ensures { λ _. ⌜ now (s .exit) ≡ appendAll (plannedFrom (now (path .entry)) (nextOf (now (s .entry))) (columns (now (made .entry)) (now (starts .entry)) (now (lens .entry))) 0 count) (now (s .entry)) ⌝ }
+    requires { ⌜ Within (now path) (columns (now parents) (now starts) (now lens)) count ⌝ }
+    ensures { λ _. ⌜ now (s .exit) ≡ appendAll (plannedFrom (now (path .entry)) (nextOf (now (s .entry))) (columns (now (parents .entry)) (now (starts .entry)) (now (lens .entry))) 0 count) (now (s .entry)) ⌝ }
 {
     let mut k: usize = 0;
     while k < count {
-        let a = place(starts[k]);
-        let e = a + size(lens[k]);
-        tables::rows::append(s, word(made[k]), &path[a..e]);
+        let a = start_of(starts[k]);
+        let e = a + length_of(lens[k]);
+        tables::rows::append(s, parent_in(parents[k]), &path[a..e]);
         k += 1;
     }
 }

@@ -11,7 +11,8 @@ use Rattle.rules.specs.Instance.{Instance, withTree}
 use Rattle.rules.specs.Saved.{Entry}
 use Rattle.rules.specs.Restore.{nodesFrom}
 use Rattle.rules.proofs.Fields.{length-bytesOf}
-use Rattle.tables.specs.Table.{row, over, Fit}
+use Rattle.tables.specs.Table.{row}
+use Rattle.tables.proofs.Table.{over, Fit}
 use Rattle.tables.specs.Layout.{header, capacityOf, countOf, nextOf}
 use Rattle.tables.specs.View.{field, headOf, nodesOf, view}
 use Rattle.tables.specs.Rule.{laidBy, laid, Laid}

@@ -11,12 +11,13 @@ use Rattle.rules.specs.Instance.{Options, Instance}
 use Rattle.rules.specs.Create.{unknown}
 use Rattle.rules.specs.RoundTrip.{OptionsFit}
 use Rattle.rules.proofs.Fields.{length-bytesOf}
-use Rattle.tables.specs.Table.{row, putRow, over, Fit}
+use Rattle.tables.specs.Table.{row, putRow}
 use Rattle.tables.specs.Layout.{header}
 use Rattle.tables.specs.View.{field, headOf, nodesOf, view}
 use Rattle.tables.specs.Rule.{laidBy, laid}
-use Rattle.tables.specs.Write.{fromPlace, putHeader, setNext, heldByte}
-use Rattle.tables.proofs.Spells.{cell-back}
+use Rattle.tables.specs.Write.{fromPlace, putHeader, setNext, yesByte}
+use Rattle.tables.proofs.Table.{over, Fit}
+use Rattle.tables.proofs.Spells.{cell-back, yes-back, yes-fits}
 use Rattle.tables.proofs.Heads.{head-put, view-header}
 use Rattle.tables.proofs.Keeps.{laid-ruled, is-ruled, length-header}
 use Rattle.restore_parts.specs.Parts.{hasBits, optionCells, setOptions, setState}
@@ -28,7 +29,7 @@ pub options-put : (mem : List ℕ) (o : Options)
 unfolding put write putHeader putRow setOptions
 options-put mem o = refl
 
-pub state-put : (mem : List ℕ) (next counter : ℕ) (o : Options) → put 1 (put 1 (setOptions o (put 8 mem 24 next)) 81 counter) 83 (heldByte (hasBits (o .inOpts))) ≡ setState next counter o mem
+pub state-put : (mem : List ℕ) (next counter : ℕ) (o : Options) → put 1 (put 1 (setOptions o (put 8 mem 24 next)) 81 counter) 83 (yesByte (hasBits (o .inOpts))) ≡ setState next counter o mem
 unfolding put write putHeader putRow setNext setState
 state-put mem next counter o = refl
 
@@ -47,7 +48,7 @@ become next counter o i = record {
 
 module _ (next counter : ℕ) (o : Options) (mem : List ℕ) where
   abbrev init : ℕ
-  init = heldByte (hasBits (o .inOpts))
+  init = yesByte (hasBits (o .inOpts))
 
   abbrev cells : List (List ℕ)
   cells = bytesOf 8 next ∷ [] ∷ (optionCells o ++ (bytesOf 1 counter ∷ [] ∷ bytesOf 1 init ∷ []))
@@ -96,17 +97,9 @@ module _ (next counter : ℕ) (o : Options) (mem : List ℕ) where
     unfolding over row
     counter-is = cell-back 1 counter mem 81 byte
 
-    flag-back : (b : Bool) → (v : ℕ) → v ≡ heldByte b → not (eqb v 0) ≡ b
-    flag-back true v e = rw e
-    flag-back false v e = rw e
-
-    bit-fits : (b : Bool) → heldByte b < 256
-    bit-fits true = omega arith
-    bit-fits false = omega arith
-
     init-is : not (eqb (field 16 H) 0) ≡ hasBits (o .inOpts)
     unfolding over row
-    init-is = flag-back (hasBits (o .inOpts)) _ (cell-back 1 init mem 83 (bit-fits (hasBits (o .inOpts))))
+    init-is = ap (λ (v : ℕ). not (eqb v 0)) (cell-back 1 init mem 83 (yes-fits (hasBits (o .inOpts)))) ∙ yes-back (hasBits (o .inOpts))
 
     pub view-state : 256 ≤ length mem → view (setState next counter o mem) ≡ become next counter o (view mem)
     unfolding view nodesOf over row

@@ -21,7 +21,7 @@ use Rattle.tables.specs.Table.{row}
 use Rattle.tables.specs.Layout.{capacityOf, countOf}
 use Rattle.tables.specs.View.{nodesOf, view}
 use Rattle.tables.specs.Rule.{laid}
-use Rattle.tables.specs.Write.{heldByte, setNext, appendNode}
+use Rattle.tables.specs.Write.{yesByte, setNext, appendNode}
 use Rattle.tables.specs.Answer.{mountIn}
 use Rattle.tables.specs.declared.mounts.MountPoint.{MountPoint}
 use Rattle.tables.specs.declared.mounts.MountOn.{MountOn}
@@ -34,10 +34,10 @@ use Rattle.restore_parts.proofs.Loads.{Ready, ready}
 
 -- ---- the byte of `initialized`
 
-pub no-bits : (bits : ℕ) → bits ≡ 0 → 0 ≡ heldByte (hasBits bits)
+pub no-bits : (bits : ℕ) → bits ≡ 0 → 0 ≡ yesByte (hasBits bits)
 no-bits bits e = rw (eq-eqb bits 0 e)
 
-pub some-bits : (bits : ℕ) → (bits ≡ 0 → ⊥) → 1 ≡ heldByte (hasBits bits)
+pub some-bits : (bits : ℕ) → (bits ≡ 0 → ⊥) → 1 ≡ yesByte (hasBits bits)
 some-bits bits h = rw (ne-eqb bits 0 h)
 
 -- ---- fresh

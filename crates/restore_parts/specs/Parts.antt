@@ -7,7 +7,7 @@ use lib.Dec.{eqb}
 use Rattle.le.specs.Mem.{bytesOf}
 use Rattle.rules.specs.Instance.{Options}
 use Rattle.rules.specs.Saved.{Entry, State}
-use Rattle.tables.specs.Write.{putHeader, setNext, heldByte, appendNode}
+use Rattle.tables.specs.Write.{putHeader, setNext, yesByte, appendNode}
 
 -- ---- the records
 
@@ -53,7 +53,7 @@ setOptions o mem = putHeader 5 (optionCells o) mem
 
 -- next number, options, counter, and whether in_opts has a bit; mask, mapping in force and remove flag stand between (R134)
 unfoldable pub setState : ℕ → ℕ → Options → List ℕ → List ℕ
-setState next counter o mem = putHeader 14 (bytesOf 1 counter ∷ [] ∷ bytesOf 1 (heldByte (hasBits (o .inOpts))) ∷ []) (setOptions o (setNext next mem))
+setState next counter o mem = putHeader 14 (bytesOf 1 counter ∷ [] ∷ bytesOf 1 (yesByte (hasBits (o .inOpts))) ∷ []) (setOptions o (setNext next mem))
 
 -- ---- both
 

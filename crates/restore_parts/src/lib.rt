@@ -11,7 +11,7 @@ ghost use Rattle.saved.specs.Options.{meant};
 ghost use Rattle.tables.specs.Layout.{capacityOf, countOf};
 ghost use Rattle.tables.specs.View.{view};
 ghost use Rattle.tables.specs.Rule.{laid, Laid};
-ghost use Rattle.tables.specs.Write.{heldByte};
+ghost use Rattle.tables.specs.Write.{yesByte};
 ghost use Rattle.restore_parts.specs.Parts.{hasBits, Loads, loadNode, loadNodes, setOptions, setState, stateMem};
 use saved::inner::SavedOptions;
 use tables::mounts::MountOn;
@@ -99,7 +99,7 @@ fn put_options(s: &mut [u8], o: SavedOptions)
 
 // 1 where a bit is set, else 0.
 fn has_bits(bits: u64) -> u8
-    ensures { λ r. ⌜ r ≡ heldByte (hasBits bits) ⌝ }
+    ensures { λ r. ⌜ r ≡ yesByte (hasBits bits) ⌝ }
 {
     if bits == 0 {
         return 0;

@@ -5,14 +5,14 @@ use Prim.Native.Nat.{ℕ, zero, suc, _+_, _-_, _/_, _%_, _≤_, _<_, min}
 use native.Mathlib.Nat.{suc-add}
 use native.Mathlib.Decide.{decLe}
 use native.Mathlib.Omega.{arith}
-use lib.ListN.{length, getD, take, length-append}
+use lib.ListN.{length, take, length-append}
 use lib.Seq.{take-all}
 use Rattle.rules.proofs.Fields.{length-read, bytes-back}
 use Rattle.le.specs.Mem.{read, bytesOf, get, write, Bytes}
 use Rattle.le.proofs.Lens.{get-one, get-split, take-read, write-append}
-use Rattle.tables.specs.Table.{row}
 use Rattle.tables.specs.Layout.{lastAt, firstAt}
-use Rattle.tables.specs.View.{nameFrom, nodeFrom, nodeAt}
+use Rattle.tables.specs.View.{nodeAt}
+use Rattle.tables.proofs.Cells.{called-at}
 use Rattle.row_name.specs.Copied.{Copied}
 
 -- the first w of k bytes, which are all of them where w is larger
@@ -36,12 +36,8 @@ module _ (n : ℕ) (mem : List ℕ) (i : ℕ) where
   abbrev byte : ℕ
   byte = get 1 mem (lastAt n i)
 
-  cells : name ≡ take (getD mem (lastAt n i) 0 - 7) (read mem (firstAt n i) 248) ++ take (min (getD mem (lastAt n i) 0) 7) (read mem (lastAt n i + 1) 7)
-  unfolding nodeAt nodeFrom row nameFrom read
-  cells = refl
-
   by-byte : name ≡ read mem (firstAt n i) (min (byte - 7) 248) ++ read mem (lastAt n i + 1) (min (min byte 7) 7)
-  by-byte = cells ∙ rw (get-one mem (lastAt n i), take-least mem (firstAt n i) 248 (byte - 7), take-least mem (lastAt n i + 1) 7 (min byte 7))
+  by-byte = called-at n mem i ∙ rw (get-one mem (lastAt n i), take-least mem (firstAt n i) 248 (byte - 7), take-least mem (lastAt n i + 1) 7 (min byte 7))
 
   size : length name ≡ min (byte - 7) 248 + min byte 7
   size =

@@ -1,9 +1,9 @@
 -- A header that is written for an instance: what the bytes then stand for, and that they keep the layout rule. Assumes nothing.
 use mathlib.Core.Path.{_≡_, refl, ap, ap₂, _∙_}
-use mathlib.Core.Bool.{Bool, true, false, not}
+use mathlib.Core.Bool.{true, false, not}
 use mathlib.Core.List.{List, [], _∷_}
 use mathlib.Core.Option.{none}
-use Prim.Native.Nat.{ℕ, zero, suc, _+_, _*_, _≤_, _<_}
+use Prim.Native.Nat.{ℕ, zero, suc, _+_, _*_, _^_, _≤_, _<_}
 use native.Mathlib.Omega.{arith}
 use lib.ListN.{length, getD}
 use lib.Dec.{eqb}
@@ -11,16 +11,17 @@ use Rattle.rules.specs.Ids.{badMapping}
 use Rattle.rules.specs.Instance.{Instance}
 use Rattle.rules.specs.Create.{unknown}
 use Rattle.rules.proofs.Fields.{length-bytesOf}
-use Rattle.tables.specs.Table.{Col, over, Fit}
+use Rattle.tables.specs.Table.{Col}
 use Rattle.tables.specs.Layout.{header}
 use Rattle.tables.specs.View.{field, mountFrom, slotsOf, nodesFrom, view}
 use Rattle.tables.specs.Rule.{laidBy, laid}
-use Rattle.tables.specs.Write.{putHeader, heldByte}
-use Rattle.tables.proofs.Spells.{whole}
+use Rattle.tables.specs.Write.{putHeader}
+use Rattle.tables.proofs.Table.{over, Fit}
+use Rattle.tables.proofs.Spells.{cell-back, yes-back, yes-fits}
 use Rattle.tables.proofs.Heads.{head-put, view-header}
 use Rattle.tables.proofs.Keeps.{is-ruled, length-header}
 use Rattle.storage.specs.Header.{spell, headerOf}
-use Rattle.storage.specs.Limits.{Limits, Widths}
+use Rattle.storage.specs.Limits.{Limits}
 
 -- ---- numbers as cells
 
@@ -30,17 +31,19 @@ spell-fits [] vs = omega arith
 spell-fits (c ∷ cs) [] = omega arith
 spell-fits (c ∷ cs) (v ∷ vs) = (omega (arith, length-bytesOf (c .width) v), spell-fits cs vs)
 
+-- numbers within the widths of the columns
+abbrev Widths : List Col → List ℕ → Type 0
+Widths [] vs = 0 ≤ 0
+Widths (c ∷ cs) [] = 0 ≤ 0
+Widths (c ∷ cs) (v ∷ vs) = (v < 256 ^ c .width) × Widths cs vs
+
 -- number k is read again
 spelt : (cs : List Col) (vs : List ℕ) (mem : List ℕ) (i k : ℕ) → Widths cs vs → k < length vs → k < length cs → field k (over cs (spell cs vs) mem i) ≡ getD vs k 0
 unfolding spell over
 spelt [] vs mem i k w h g = absurd (omega arith)
 spelt (c ∷ cs) [] mem i k w h g = absurd (omega arith)
-spelt (c ∷ cs) (v ∷ vs) mem i zero w h g = whole (c .width) v mem _ (w .0)
+spelt (c ∷ cs) (v ∷ vs) mem i zero w h g = cell-back (c .width) v mem _ (w .0)
 spelt (c ∷ cs) (v ∷ vs) mem i (suc k) w h g = spelt cs vs mem i k (w .1) (omega arith) (omega arith)
-
-flag-back : (b : Bool) → not (eqb (heldByte b) 0) ≡ b
-flag-back true = refl
-flag-back false = refl
 
 -- ---- the header of an instance
 
@@ -56,11 +59,7 @@ module _ (i : Instance) (mem : List ℕ) (l : Limits i) (b : 256 ≤ length mem)
 
   widths : Widths header vs
   unfolding headerOf
-  widths = let d = l in let e = flag-fits (i .removal) in let f = flag-fits (i .initialized) in omega (arith, l .fixed-fits, l .options-fit)
-    where
-      flag-fits : (t : Bool) → heldByte t ≤ 1
-      flag-fits true = omega arith
-      flag-fits false = omega arith
+  widths = let d = l in let e = yes-fits (i .removal) in let f = yes-fits (i .initialized) in omega (arith, l .fixed-fits, l .options-fit)
 
   reads : (k : ℕ) → k < 18 → field k H ≡ getD vs k 0
   unfolding headerOf
@@ -75,7 +74,7 @@ module _ (i : Instance) (mem : List ℕ) (l : Limits i) (b : 256 ≤ length mem)
     indexes = record { slots = slotsOf mem; counter = i .indexes .counter };
     tree = record { next = i .tree .next; root = none; nodes = nodesFrom (i .fixed .capacity) mem 0 (length (i .tree .nodes)) };
   }
-  unfolding headerOf
+  unfolding headerOf mountFrom
   view-headed =
       let f : (k : ℕ) → k < 18 → field k H ≡ getD vs k 0 = reads in
       view-header 0 (spell header vs) mem (spell-fits header vs) b
@@ -85,8 +84,8 @@ module _ (i : Instance) (mem : List ℕ) (l : Limits i) (b : 256 ≤ length mem)
           known = f 4 (omega arith) t;
           mapping = record { internal = f 7 (omega arith) t; external = f 8 (omega arith) t; range = f 9 (omega arith) t };
         };
-        removal = (ap (λ (x : ℕ). not (eqb x 0)) (f 15 (omega arith)) ∙ flag-back (i .removal)) t;
-        initialized = (ap (λ (x : ℕ). not (eqb x 0)) (f 16 (omega arith)) ∙ flag-back (i .initialized)) t;
+        removal = (ap (λ (x : ℕ). not (eqb x 0)) (f 15 (omega arith)) ∙ yes-back (i .removal)) t;
+        initialized = (ap (λ (x : ℕ). not (eqb x 0)) (f 16 (omega arith)) ∙ yes-back (i .initialized)) t;
         options = record {
           inOpts = f 5 (omega arith) t;
           outOpts = f 6 (omega arith) t;

@@ -18,7 +18,7 @@ use Rattle.tables.specs.Table.{tab}
 use Rattle.tables.specs.Layout.{header, slotTable}
 use Rattle.tables.specs.View.{slotsOf, nodesFrom, view}
 use Rattle.tables.specs.Rule.{laid}
-use Rattle.tables.specs.Write.{fromPlace, putHeader, heldByte, setSlot, mountCells, setRootMount}
+use Rattle.tables.specs.Write.{fromPlace, putHeader, yesByte, setSlot, mountCells, setRootMount}
 use Rattle.tables.proofs.Tab.{length-tab}
 use Rattle.tables.proofs.Refine.{view-slot, view-root-mount}
 use Rattle.tables.proofs.Keeps.{laid-long, laid-is, length-header, length-slot, keeps-slot, keeps-root}
@@ -37,7 +37,7 @@ putSlots (s ∷ ss) k mem = putSlots ss (k + 1) (setSlot k (s .held) (s .tag) me
 slot-bytes : (k : ℕ) (s : Slot) (mem : List ℕ) → Bytes mem → Bytes (setSlot k (s .held) (s .tag) mem)
 unfolding setSlot
 slot-bytes k s mem h =
-    row-bytes slotTable (bytesOf 1 (heldByte (s .held)) ∷ bytesOf 4 (s .tag) ∷ []) mem k h (number-bytes 1 (heldByte (s .held)), (number-bytes 4 (s .tag), omega arith))
+    row-bytes slotTable (bytesOf 1 (yesByte (s .held)) ∷ bytesOf 4 (s .tag) ∷ []) mem k h (number-bytes 1 (yesByte (s .held)), (number-bytes 4 (s .tag), omega arith))
 
 abbrev withSlots : List Slot → Instance → Instance
 withSlots ss i = withIndexes (record { slots = ss; counter = i .indexes .counter }) i

@@ -10,12 +10,14 @@ use Rattle.le.specs.Mem.{read, value, bytesOf}
 use Rattle.rules.specs.Bytes.{Bytes}
 use Rattle.rules.specs.Tree.{Mount, Node}
 use Rattle.rules.proofs.Fields.{length-bytesOf}
-use Rattle.tables.specs.Table.{putRow, over, Fit}
+use Rattle.tables.specs.Table.{putRow}
 use Rattle.tables.specs.Layout.{nodeTable}
 use Rattle.tables.specs.View.{mountFrom, nameFrom, nodeFrom, nodesFrom}
 use Rattle.tables.specs.Write.{MayFit}
 use Rattle.tables.proofs.Table.{length-putRow}
-use Rattle.tables.proofs.Spells.{whole, mount-word, name-back}
+use Rattle.tables.proofs.Table.{over, Fit}
+use Rattle.tables.proofs.Cells.{numberAt, parentAt, mountCellAt, uidAt, gidAt, modeAt}
+use Rattle.tables.proofs.Spells.{cell-back, mount-word, name-back}
 use Rattle.tables.proofs.Refine.{nodes-more}
 use Rattle.storage.specs.Limits.{NodeFits, NodesFit}
 use Rattle.storage.proofs.Bytes.{AllBytes, number-bytes, append-bytes, take-bytes, drop-bytes, row-bytes}
@@ -51,6 +53,7 @@ rowCells x =
     ∷ []
 
 word-back : (m : Option Mount) → MayFit m → mountFrom (wordOf m) (uidOf m) (gidOf m) (modeOf m) ≡ m
+unfolding mountFrom
 word-back none f = refl
 word-back (some m) f = mount-word m f
 
@@ -79,12 +82,12 @@ row-spelt n x mem i f =
     let p = x .called in
     let m = x .mount in
     let fits = words m (f .4) in
-    let u : value (bytesOf 8 (x .number) ++ read mem (8192 + 8 * i + length (bytesOf 8 (x .number))) (8 - length (bytesOf 8 (x .number)))) ≡ x .number = whole 8 (x .number) mem _ (let h = f .0 in omega arith) in
-    let v : value (bytesOf 8 (x .above) ++ read mem (8192 + 8 * n + 8 * i + length (bytesOf 8 (x .above))) (8 - length (bytesOf 8 (x .above)))) ≡ x .above = whole 8 (x .above) mem _ (let h = f .1 in omega arith) in
-    let w : value (bytesOf 8 (wordOf m) ++ read mem (8192 + 16 * n + 8 * i + length (bytesOf 8 (wordOf m))) (8 - length (bytesOf 8 (wordOf m)))) ≡ wordOf m = whole 8 (wordOf m) mem _ (fits .word) in
-    let a : value (bytesOf 4 (uidOf m) ++ read mem (8192 + 32 * n + 4 * i + length (bytesOf 4 (uidOf m))) (4 - length (bytesOf 4 (uidOf m)))) ≡ uidOf m = whole 4 (uidOf m) mem _ (fits .uid) in
-    let b : value (bytesOf 4 (gidOf m) ++ read mem (8192 + 36 * n + 4 * i + length (bytesOf 4 (gidOf m))) (4 - length (bytesOf 4 (gidOf m)))) ≡ gidOf m = whole 4 (gidOf m) mem _ (fits .gid) in
-    let c : value (bytesOf 4 (modeOf m) ++ read mem (8192 + 40 * n + 4 * i + length (bytesOf 4 (modeOf m))) (4 - length (bytesOf 4 (modeOf m)))) ≡ modeOf m = whole 4 (modeOf m) mem _ (fits .mode) in
+    let u = cell-back 8 (x .number) mem (numberAt n i) (let h = f .0 in omega arith) in
+    let v = cell-back 8 (x .above) mem (parentAt n i) (let h = f .1 in omega arith) in
+    let w = cell-back 8 (wordOf m) mem (mountCellAt n i) (fits .word) in
+    let a = cell-back 4 (uidOf m) mem (uidAt n i) (fits .uid) in
+    let b = cell-back 4 (gidOf m) mem (gidAt n i) (fits .gid) in
+    let c = cell-back 4 (modeOf m) mem (modeAt n i) (fits .mode) in
     let last = bytesOf 1 (length p) ++ drop (length p - 7) p in
     let first = take (length p - 7) p in
     let name : nameFrom (last ++ read mem (8192 + 24 * n + 8 * i + length last) (8 - length last)) (first ++ read mem (8192 + 44 * n + 248 * i + length first) (248 - length first)) ≡ p =

@@ -6,7 +6,7 @@ use Rattle.le.specs.Mem.{bytesOf}
 use Rattle.rules.specs.Instance.{Instance}
 use Rattle.tables.specs.Table.{Col}
 use Rattle.tables.specs.Layout.{mark}
-use Rattle.tables.specs.Write.{heldByte}
+use Rattle.tables.specs.Write.{yesByte}
 
 -- numbers as cells of the columns, each in its column's width
 unfoldable pub spell : List Col → List ℕ → List (List ℕ)
@@ -32,7 +32,7 @@ headerOf i =
     ∷ i .options .mapping .range
     ∷ i .options .flags
     ∷ i .indexes .counter
-    ∷ heldByte (i .removal)
-    ∷ heldByte (i .initialized)
+    ∷ yesByte (i .removal)
+    ∷ yesByte (i .initialized)
     ∷ 0
     ∷ []

@@ -10,16 +10,9 @@ use Rattle.rules.specs.Tree.{Node}
 use Rattle.rules.specs.Instance.{Fixed, Options, Slot, Instance}
 use Rattle.rules.specs.Create.{unknown}
 use Rattle.rules.specs.Numbers.{storageFor}
-use Rattle.tables.specs.Table.{Col}
 use Rattle.tables.specs.View.{view}
 use Rattle.tables.specs.Rule.{laid}
 use Rattle.tables.specs.Write.{MayFit}
-
--- numbers within the widths of the columns
-abbrev pub Widths : List Col → List ℕ → Type 0
-Widths [] vs = 0 ≤ 0
-Widths (c ∷ cs) [] = 0 ≤ 0
-Widths (c ∷ cs) (v ∷ vs) = (v < 256 ^ c .width) × Widths cs vs
 
 -- ---- each number within its cell
 

@@ -54,9 +54,6 @@ pub enum OptionsOf {
 // The bytes `GALDOVAR`.
 const MARK: u64 = 5927113483044536647;
 
-// What every storage has before its node table: header, slots and free bytes (R20).
-const HEADER: usize = 8192;
-
 // The flags are below this (R29, R122).
 const FLAGS: u8 = 64;
 
@@ -80,7 +77,7 @@ fn settings_fit(known: u64, in_opts: u64, out_opts: u64, flags: u8, m: id_map::I
 pub fn is_laid(s: &[u8]) -> bool
     ensures { λ r. ⌜ r ≡ laid (now (s .entry)) ⌝ }
 {
-    if s.len() < HEADER {
+    if s.len() < tables::rows::TABLE {
         return false;
     }
     if le::fields::get_u64(s, 0) != MARK {
@@ -93,7 +90,7 @@ pub fn is_laid(s: &[u8]) -> bool
     if (rules::MAX_NODES as u64) < n {
         return false;
     }
-    if (s.len() as u64) < 512 * n + 8192 {
+    if (s.len() as u64) < 512 * n + (tables::rows::TABLE as u64) {
         return false;
     }
     if n <= le::fields::get_u64(s, 16) {
@@ -123,7 +120,7 @@ fn is_small(bytes: usize, n: usize) -> bool
     if rules::MAX_NODES < n {
         return true;
     }
-    bytes < 512 * n + 8192
+    bytes < 512 * n + tables::rows::TABLE
 }
 
 // The tags, one behind the other in their column.
@@ -231,7 +228,7 @@ pub fn create(
     Created::Done
 }
 
-// From now on an unmount takes its node out of the tree (R32).
+// From now on a done unmount takes its node out of the tree, unless it is the root (R32, R100).
 pub fn set_remove_pseudo_root(s: &mut [u8]) -> Removal
     ensures { λ r. ⌜ Does (now (s .entry)) removeCall (removalTold r) (now (s .exit)) (cond (laid (now (s .entry))) (setRemoval (now (s .entry))) (now (s .entry))) ⌝ }
 {

@@ -1,23 +1,23 @@
 -- What the rules say of a number, and what is written for it, by the place of its row. Assumes nothing.
 use mathlib.Core.Path.{_≡_, refl, ap}
-use mathlib.Core.Bool.{Bool, true, false, cond, not, _&&_}
+use mathlib.Core.Bool.{Bool, true, false, cond, not}
 use mathlib.Core.List.{List, [], _∷_}
 use mathlib.Core.Option.{Option, none, some}
-use Prim.Native.Nat.{ℕ, zero, suc, _-_, _≤_, _<_}
+use Prim.Native.Nat.{ℕ, zero, suc, _<_}
 use native.Mathlib.Omega.{arith}
-use borrow.Author.Tests.{eq-eqb, ne-eqb, eqb-true, eqb-false, ltb-true, lt-ltb, le-ltb}
+use borrow.Author.Tests.{eq-eqb, ne-eqb, eqb-false}
 use lib.ListN.{length, getD}
-use lib.Dec.{eqb, ltb}
+use lib.Dec.{eqb}
 use Rattle.le.specs.Mem.{write, put}
 use Rattle.rules.specs.Numbers.{rootNumber}
 use Rattle.rules.specs.Tree.{Mount, Node, isNone, nodeIn, isKnown, parentIn}
 use Rattle.rules.specs.Instance.{mountOf}
-use Rattle.rules.proofs.Tests.{and-both}
 use Rattle.tables.specs.Table.{putRow}
-use Rattle.tables.specs.Layout.{mountCellAt, capacityOf, countOf}
+use Rattle.tables.specs.Layout.{capacityOf, countOf}
 use Rattle.tables.specs.View.{nodeAt, nodesOf, view}
 use Rattle.tables.specs.Write.{putHeader, setRootMount, setRowMount}
-use Rattle.tables.specs.Answer.{placeIn, inPlace, mountMem, rowFor}
+use Rattle.tables.specs.Answer.{placeIn, nodeMountMem, rowFor}
+use Rattle.tables.proofs.Cells.{mountCellAt}
 use Rattle.tables.proofs.Places.{nobody, place-nowhere, nodes-count, nodes-at, node-found}
 
 -- a number that a row has is a node's
@@ -37,20 +37,6 @@ pub parent-root : (ns : List Node) (x : ℕ) → x ≡ rootNumber → parentIn n
 unfolding parentIn
 parent-root ns x r = rw (eq-eqb x 1 r)
 
--- the three tests of a node in its place
-module _ (mem : List ℕ) (x : ℕ) where
-  pub not-placed-low : x < 2 → inPlace mem x ≡ false
-  unfolding inPlace
-  not-placed-low h = rw (lt-ltb x 2 h)
-
-  pub not-placed-high : 2 ≤ x → countOf mem ≤ x - 2 → inPlace mem x ≡ false
-  unfolding inPlace
-  not-placed-high l h = rw (le-ltb x 2 l, le-ltb (x - 2) (countOf mem) h)
-
-  pub placed-by-number : 2 ≤ x → x - 2 < countOf mem → (v : ℕ) → v ≡ nodeAt (capacityOf mem) mem (x - 2) .number → eqb v x ≡ inPlace mem x
-  unfolding inPlace
-  placed-by-number l h v e = rw (e, le-ltb x 2 l, lt-ltb (x - 2) (countOf mem) h)
-
 module _ (mem : List ℕ) (x : ℕ) where
   -- ---- what the rules say of the number, by its place
 
@@ -62,14 +48,10 @@ module _ (mem : List ℕ) (x : ℕ) where
   unfolding isKnown
   known-found r i e = rw (ne-eqb x 1 r, node-found mem x i e)
 
-  pub known-in-place : (x ≡ rootNumber → ⊥) → inPlace mem x ≡ true → isKnown (nodesOf mem) x ≡ true
-  unfolding inPlace isKnown
-  known-in-place r e =
-      let q = and-both (not (ltb x 2) && ltb (x - 2) (countOf mem)) (eqb (nodeAt (capacityOf mem) mem (x - 2) .number) x) e in
-      let w = and-both (not (ltb x 2)) (ltb (x - 2) (countOf mem)) (q .0) in
-      let h : x - 2 < countOf mem = ltb-true (x - 2) (countOf mem) (w .1) in
-      let n : nodeAt (capacityOf mem) mem (x - 2) .number ≡ x = eqb-true (nodeAt (capacityOf mem) mem (x - 2) .number) x (q .1) in
-      rw (ne-eqb x 1 r) (ap not (some-node (nodesOf mem) x (x - 2) (omega (arith, nodes-count mem)) (rw (nodes-at mem (x - 2) h) n)))
+  -- a number that row i has is known
+  pub known-by-row : (x ≡ rootNumber → ⊥) → (i : ℕ) → i < countOf mem → nodeAt (capacityOf mem) mem i .number ≡ x → isKnown (nodesOf mem) x ≡ true
+  unfolding isKnown
+  known-by-row r i h e = rw (ne-eqb x 1 r) (ap not (some-node (nodesOf mem) x i (omega (arith, nodes-count mem)) (rw (nodes-at mem i h) e)))
 
   pub known-missing : (x ≡ rootNumber → ⊥) → placeIn (nodesOf mem) x ≡ none → isKnown (nodesOf mem) x ≡ false
   unfolding isKnown
@@ -97,16 +79,16 @@ module _ (mem : List ℕ) (x : ℕ) where
 
   -- ---- what is written for the number, by its place
 
-  pub set-root : (m : Option Mount) → x ≡ rootNumber → mountMem (nodesOf mem) m x mem ≡ setRootMount m mem
-  unfolding mountMem
+  pub set-root : (m : Option Mount) → x ≡ rootNumber → nodeMountMem (nodesOf mem) m x mem ≡ setRootMount m mem
+  unfolding nodeMountMem
   set-root m r = rw (eq-eqb x 1 r)
 
-  pub set-found : (m : Option Mount) → (x ≡ rootNumber → ⊥) → (i : ℕ) → placeIn (nodesOf mem) x ≡ some i → mountMem (nodesOf mem) m x mem ≡ setRowMount m i mem
-  unfolding mountMem
+  pub set-found : (m : Option Mount) → (x ≡ rootNumber → ⊥) → (i : ℕ) → placeIn (nodesOf mem) x ≡ some i → nodeMountMem (nodesOf mem) m x mem ≡ setRowMount m i mem
+  unfolding nodeMountMem
   set-found m r i e = rw (ne-eqb x 1 r, e)
 
-  pub set-missing : (m : Option Mount) → (x ≡ rootNumber → ⊥) → placeIn (nodesOf mem) x ≡ none → mountMem (nodesOf mem) m x mem ≡ mem
-  unfolding mountMem
+  pub set-missing : (m : Option Mount) → (x ≡ rootNumber → ⊥) → placeIn (nodesOf mem) x ≡ none → nodeMountMem (nodesOf mem) m x mem ≡ mem
+  unfolding nodeMountMem
   set-missing m r e = rw (ne-eqb x 1 r, e)
 
   -- ---- its row, for the functions that do not search it

@@ -2,7 +2,7 @@
 use mathlib.Core.Path.{_≡_, refl, sym, ap, _∙_}
 use mathlib.Core.Bool.{Bool, true, false, _&&_, and-true}
 use mathlib.Core.List.{List, _++_}
-use Prim.Native.Nat.{ℕ, _+_, _-_, _%_, _^_, _≤_, _<_, min}
+use Prim.Native.Nat.{ℕ, _+_, _-_, _*_, _%_, _^_, _≤_, _<_, min}
 use native.Mathlib.Nat.{zero-add}
 use native.Mathlib.Omega.{arith}
 use lib.ListN.{length, getD, take, length-append}
@@ -11,8 +11,28 @@ use Rattle.le.proofs.Lens.{get-one, take-read}
 use Rattle.rules.proofs.Same.{same-length, same-append}
 use Rattle.rules.proofs.Fields.{length-read, read-add, read-all}
 use Rattle.tables.specs.Table.{row}
-use Rattle.tables.specs.Layout.{numberAt, parentAt, mountCellAt, lastAt, uidAt, gidAt, modeAt, firstAt}
+use Rattle.tables.specs.Layout.{tableAt, lastAt, firstAt}
 use Rattle.tables.specs.View.{mountFrom, nameFrom, nodeFrom, nodeAt}
+
+-- ---- where the cells of row i are, in a table of N rows
+
+abbrev pub numberAt : ℕ → ℕ → ℕ
+numberAt n i = tableAt + 8 * i
+
+abbrev pub parentAt : ℕ → ℕ → ℕ
+parentAt n i = tableAt + 8 * n + 8 * i
+
+abbrev pub mountCellAt : ℕ → ℕ → ℕ
+mountCellAt n i = tableAt + 16 * n + 8 * i
+
+abbrev pub uidAt : ℕ → ℕ → ℕ
+uidAt n i = tableAt + 32 * n + 4 * i
+
+abbrev pub gidAt : ℕ → ℕ → ℕ
+gidAt n i = tableAt + 36 * n + 4 * i
+
+abbrev pub modeAt : ℕ → ℕ → ℕ
+modeAt n i = tableAt + 40 * n + 4 * i
 
 -- ---- the cells of row i
 
@@ -29,16 +49,12 @@ module _ (n : ℕ) (mem : List ℕ) (i : ℕ) where
   unfolding nodeAt nodeFrom row get
   mount-at = refl
 
-  called-at : nodeAt n mem i .called ≡ nameFrom (read mem (lastAt n i) 8) (read mem (firstAt n i) 248)
-  unfolding nodeAt nodeFrom row
+  -- the length, and the bytes that it takes of the two cells
+  pub called-at : nodeAt n mem i .called ≡ take (getD mem (lastAt n i) 0 - 7) (read mem (firstAt n i) 248) ++ take (min (getD mem (lastAt n i) 0) 7) (read mem (lastAt n i + 1) 7)
+  unfolding nodeAt nodeFrom row nameFrom read
   called-at = refl
 
 -- ---- names
-
--- the length and the last bytes of a name, taken apart
-name-cells : (mem : List ℕ) (at : ℕ) (first : List ℕ) → nameFrom (read mem at 8) first ≡ take (getD mem at 0 - 7) first ++ take (min (getD mem at 0) 7) (read mem (at + 1) 7)
-unfolding nameFrom read
-name-cells mem at first = refl
 
 -- row i, whose length byte is l, against a name
 module _ (n : ℕ) (mem : List ℕ) (i l : ℕ) (p : List ℕ) (e : l ≡ get 1 mem (lastAt n i)) (fits : l < 256) where
@@ -46,7 +62,7 @@ module _ (n : ℕ) (mem : List ℕ) (i l : ℕ) (p : List ℕ) (e : l ≡ get 1 
   pub spelt : nodeAt n mem i .called ≡ read mem (firstAt n i) (l - 7) ++ read mem (lastAt n i + 1) (min l 7)
   spelt =
       let h : getD mem (lastAt n i) 0 ≡ l = get-one mem (lastAt n i) ∙ sym e in
-      called-at n mem i ∙ name-cells mem (lastAt n i) (read mem (firstAt n i) 248)
+      called-at n mem i
       ∙ rw (h, take-read mem (firstAt n i) 248 (l - 7) (omega arith), take-read mem (lastAt n i + 1) 7 (min l 7) (omega arith))
 
   pub other-length : (l ≡ length p → ⊥) → same (nodeAt n mem i .called) p ≡ false

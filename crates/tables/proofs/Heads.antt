@@ -6,12 +6,12 @@ use native.Mathlib.Omega.{arith}
 use lib.ListN.{length}
 use Rattle.le.specs.Mem.{read, write, bytesOf}
 use Rattle.rules.proofs.Fields.{length-bytesOf}
-use Rattle.tables.specs.Table.{putRow, closeUp, over, Above, Beneath, Behind, Fit}
+use Rattle.tables.specs.Table.{putRow, closeUp}
 use Rattle.tables.specs.Layout.{header, slotTable, nodeTable}
 use Rattle.tables.specs.View.{field, nodeFrom, slotFrom, instanceFrom, headOf, slotAt, nodeAt, slotsOf, nodesFrom, nodesOf, view}
 use Rattle.tables.specs.Write.{fromPlace, putHeader, setCount, setNext}
 use Rattle.tables.proofs.Tab.{tab-same}
-use Rattle.tables.proofs.Table.{put-below, close-below, upper-kept, row-low, over-low, put-same}
+use Rattle.tables.proofs.Table.{over, Above, Beneath, Behind, Fit, put-below, close-below, upper-kept, row-low, over-low, put-same}
 
 -- ---- where the three tables stand
 

@@ -15,13 +15,13 @@ use Rattle.rules.specs.Tree.{Mount}
 use Rattle.rules.specs.Create.{unknown}
 use Rattle.rules.proofs.Fields.{length-bytesOf}
 use Rattle.rules.proofs.Tests.{pass, passed}
-use Rattle.tables.specs.Table.{row, putRow, over, Fit}
+use Rattle.tables.specs.Table.{row, putRow}
 use Rattle.tables.specs.Layout.{header, slotTable, nodeTable, mark, capacityOf, countOf, nextOf}
 use Rattle.tables.specs.View.{field, mappingFrom, optionsFrom, headOf, nodesOf}
 use Rattle.tables.specs.Rule.{laidBy, laid, Laid}
-use Rattle.tables.specs.Write.{fromPlace, putHeader, setCount, setNext, setCounter, setRemoval, heldByte, setSlot, mountCells, rowMountCells, setRootMount, setRowMount, appendNode, removeRow}
-use Rattle.tables.specs.Answer.{placeIn, atPlace, mountMem, removeMem}
-use Rattle.tables.proofs.Table.{length-putRow, length-closeUp}
+use Rattle.tables.specs.Write.{fromPlace, putHeader, setCount, setNext, setCounter, setRemoval, yesByte, setSlot, mountCells, rowMountCells, setRootMount, setRowMount, appendNode, removeRow}
+use Rattle.tables.specs.Answer.{placeIn, atPlace, nodeMountMem, removeMem}
+use Rattle.tables.proofs.Table.{over, Fit, length-putRow, length-closeUp}
 use Rattle.tables.proofs.Spells.{cell-back, root-fit}
 use Rattle.tables.proofs.Heads.{low-head, put-low, head-put}
 use Rattle.tables.proofs.Refine.{head-append, head-remove, slot-head}
@@ -109,7 +109,7 @@ pub laid-is : (mem : List ℕ) → laid mem ≡ true → Laid mem
 unfolding row get
 laid-is mem e =
     let r = laid-ruled mem e in
-    record { some-node = r .size .some-node; few-nodes = r .size .few-nodes; long = r .size .enough; live = r .live; low = r .low; top = r .top }
+    record { few-nodes = r .size .few-nodes; long = r .size .enough; live = r .live; top = r .top }
 
 -- ---- writes that leave the tested fields
 
@@ -139,7 +139,7 @@ one-byte c = omega (arith, length-bytesOf 1 c)
 
 pub length-slot : (k : ℕ) (held : Bool) (tag : ℕ) (mem : List ℕ) → length (setSlot k held tag mem) ≡ length mem
 unfolding setSlot
-length-slot k held tag mem = length-putRow slotTable (bytesOf 1 (heldByte held) ∷ bytesOf 4 tag ∷ []) mem k
+length-slot k held tag mem = length-putRow slotTable (bytesOf 1 (yesByte held) ∷ bytesOf 4 tag ∷ []) mem k
 
 module _ (mem : List ℕ) (e : laid mem ≡ true) where
   pub keeps-slot : (k : ℕ) (held : Bool) (tag : ℕ) → k < 256 → tag < 2 ^ 32 → laid (setSlot k held tag mem) ≡ true
@@ -164,8 +164,8 @@ module _ (mem : List ℕ) (e : laid mem ≡ true) where
       let m′ = putRow (nodeTable n) xs mem i in
       same-laid m′ mem (low-head m′ mem (put-low n xs mem i)) (length-putRow (nodeTable n) xs mem i) ∙ e
 
-  pub keeps-mount : (m : Option Mount) (x : ℕ) → laid (mountMem (nodesOf mem) m x mem) ≡ true
-  unfolding mountMem setRowMount
+  pub keeps-mount : (m : Option Mount) (x : ℕ) → laid (nodeMountMem (nodesOf mem) m x mem) ≡ true
+  unfolding nodeMountMem setRowMount
   keeps-mount m x = go (eqb x rootNumber) (placeIn (nodesOf mem) x)
     where
       go : (b : Bool) (o : Option ℕ) → laid (cond b (setRootMount m mem) (atPlace o (λ (i : ℕ). setRowMount m i mem) mem)) ≡ true

@@ -2,7 +2,7 @@
 use mathlib.Core.Path.{_≡_, refl, sym, subst}
 use mathlib.Core.Bool.{Bool, true, false, cond, not, _||_, false≢true}
 use mathlib.Core.List.{List, [], _∷_}
-use mathlib.Core.Option.{Option, none, some}
+use mathlib.Core.Option.{Option, none, some, Option·none-ne-some}
 use Prim.Native.Nat.{ℕ, zero, suc, _+_, _^_, _<_}
 use native.Mathlib.Omega.{arith}
 use lib.Dec.{eqb}
@@ -35,7 +35,7 @@ nodes-low mem = subst LowNodes (sym (nodes-of mem)) (tab-low (nodeAt (capacityOf
 
 pub child-low : (ns : List Node) → LowNodes ns → (here : ℕ) (p : List ℕ) (y : ℕ) → childIn ns here p ≡ some y → y < 2 ^ 56
 unfolding childIn
-child-low [] l here p y e = let z : _≡_ {A = ℕ} 0 1 = cc in absurd (omega arith)
+child-low [] l here p y e = absurd (Option·none-ne-some _ e)
 child-low (n ∷ ns) l here p y e = go (isChild here p n) e (child-low ns (l .2) here p y)
   where
     go : (b : Bool) → cond b (some (n .number)) (childIn ns here p) ≡ some y → (childIn ns here p ≡ some y → y < 2 ^ 56) → y < 2 ^ 56
@@ -45,7 +45,7 @@ child-low (n ∷ ns) l here p y e = go (isChild here p n) e (child-low ns (l .2)
 -- the node of a number: its number is that one
 in-low : (ns : List Node) → LowNodes ns → (x : ℕ) (n : Node) → nodeIn ns x ≡ some n → (x < 2 ^ 56) × (n .above < 2 ^ 56)
 unfolding nodeIn
-in-low [] l x n e = let z : _≡_ {A = ℕ} 0 1 = cc in absurd (omega arith)
+in-low [] l x n e = absurd (Option·none-ne-some _ e)
 in-low (m ∷ ns) l x n e = go (eqb (m .number) x) refl e (in-low ns (l .2) x n)
   where
     go : (b : Bool) → eqb (m .number) x ≡ b → cond b (some m) (nodeIn ns x) ≡ some n → (nodeIn ns x ≡ some n → (x < 2 ^ 56) × (n .above < 2 ^ 56)) → (x < 2 ^ 56) × (n .above < 2 ^ 56)

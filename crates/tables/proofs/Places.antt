@@ -2,7 +2,7 @@
 use mathlib.Core.Path.{_≡_, refl, sym, ap, _∙_, subst}
 use mathlib.Core.Bool.{Bool, true, false, cond}
 use mathlib.Core.List.{List, [], _∷_}
-use mathlib.Core.Option.{Option, none, some}
+use mathlib.Core.Option.{Option, none, some, Option·none-ne-some, Option·some-ne-none}
 use Prim.Native.Nat.{ℕ, suc, _<_}
 use native.Mathlib.Nat.{zero-add}
 use native.Mathlib.Omega.{arith}
@@ -11,13 +11,12 @@ use lib.Dec.{eqb}
 use Rattle.rules.specs.Numbers.{rootNumber}
 use Rattle.rules.specs.Tree.{Mount, Node, nodeIn, mountAt, without, withMount, bare}
 use Rattle.rules.specs.Instance.{setMount, withTree, cut}
-use Rattle.tables.specs.Table.{removeAt}
 use Rattle.tables.specs.Layout.{capacityOf, countOf}
 use Rattle.tables.specs.View.{nodeAt, nodesOf, view}
 use Rattle.tables.specs.Rule.{Laid}
 use Rattle.tables.specs.Write.{MayFit, setRootMount, setRowMount, removeRow}
-use Rattle.tables.specs.Answer.{later, placeIn, atPlace, mountMem, removeMem}
-use Rattle.tables.proofs.Tab.{length-tab, tab-at}
+use Rattle.tables.specs.Answer.{later, placeIn, atPlace, nodeMountMem, removeMem}
+use Rattle.tables.proofs.Tab.{removeAt, length-tab, tab-at}
 use Rattle.tables.proofs.Find.{nodes-of}
 use Rattle.tables.proofs.Refine.{view-remove, view-row-mount, view-root-mount}
 
@@ -34,7 +33,7 @@ pub record First (ns : List Node) (x i : ℕ) : Type 0 where
 
 pub place-first : (ns : List Node) (x i : ℕ) → placeIn ns x ≡ some i → First ns x i
 unfolding placeIn nodeIn mountAt without removeAt
-place-first [] x i e = let z : _≡_ {A = ℕ} 0 1 = cc in absurd (omega arith)
+place-first [] x i e = absurd (Option·none-ne-some _ e)
 place-first (n ∷ ns) x i e = go (eqb (n .number) x) refl (placeIn ns x) refl e (place-first ns x)
   where
     go : (b : Bool) → eqb (n .number) x ≡ b → (o : Option ℕ) → placeIn ns x ≡ o → cond b (some 0) (later o) ≡ some i
@@ -42,7 +41,7 @@ place-first (n ∷ ns) x i e = go (eqb (n .number) x) refl (placeIn ns x) refl e
     go true t o p q k =
         let z : 0 ≡ i = cc in
         subst (λ (j : ℕ). First (n ∷ ns) x j) z (record { within = omega arith; node = rw t; mounted = λ m. rw t; gone = rw t })
-    go false t none p q k = let z : _≡_ {A = ℕ} 0 1 = cc in absurd (omega arith)
+    go false t none p q k = absurd (Option·none-ne-some _ q)
     go false t (some j) p q k =
         let z : suc j ≡ i = cc in
         let f = k j p in
@@ -65,8 +64,8 @@ place-nowhere [] x e = record { node = refl; mounted = λ m. refl; gone = refl }
 place-nowhere (n ∷ ns) x e = go (eqb (n .number) x) refl (placeIn ns x) refl e (place-nowhere ns x)
   where
     go : (b : Bool) → eqb (n .number) x ≡ b → (o : Option ℕ) → placeIn ns x ≡ o → cond b (some 0) (later o) ≡ none → (placeIn ns x ≡ none → Nowhere ns x) → Nowhere (n ∷ ns) x
-    go true t o p q k = let z : _≡_ {A = ℕ} 0 1 = cc in absurd (omega arith)
-    go false t (some j) p q k = let z : _≡_ {A = ℕ} 0 1 = cc in absurd (omega arith)
+    go true t o p q k = absurd (Option·some-ne-none _ q)
+    go false t (some j) p q k = absurd (Option·some-ne-none _ q)
     go false t none p q k =
         let f = k p in
         record { node = rw t (f .node); mounted = λ m. rw t (ap (λ (l : List Node). n ∷ l) (f .mounted m)); gone = rw t (ap (λ (l : List Node). n ∷ l) (f .gone)) }
@@ -119,8 +118,8 @@ module _ (mem : List ℕ) (d : Laid mem) (x : ℕ) where
       ∙ (λ j. withTree (record { next = view mem .tree .next; root = view mem .tree .root; nodes = sym (place-first (nodesOf mem) x i e .gone) j }) (view mem))
 
   -- a mount is set or taken off
-  pub view-mount : (m : Option Mount) → MayFit m → view (mountMem (nodesOf mem) m x mem) ≡ withTree (setMount (view mem .tree) x m) (view mem)
-  unfolding mountMem setMount
+  pub view-mount : (m : Option Mount) → MayFit m → view (nodeMountMem (nodesOf mem) m x mem) ≡ withTree (setMount (view mem .tree) x m) (view mem)
+  unfolding nodeMountMem setMount
   view-mount m f = go (eqb x rootNumber) (placeIn (nodesOf mem) x) refl
     where
       go : (b : Bool) (o : Option ℕ) → placeIn (nodesOf mem) x ≡ o

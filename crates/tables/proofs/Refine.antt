@@ -14,14 +14,14 @@ use Rattle.rules.proofs.Fields.{length-bytesOf, value-bytes}
 use Rattle.rules.proofs.Tests.{le-or-lt}
 use Rattle.rules.specs.Tree.{Mount, Node, bare, withMount}
 use Rattle.rules.specs.Instance.{withCounter, withSlot, withTree, removing, grown}
-use Rattle.tables.specs.Table.{row, putRow, closeUp, over, Fit, tab, removeAt}
+use Rattle.tables.specs.Table.{row, putRow, closeUp, tab}
 use Rattle.tables.specs.Layout.{header, slotTable, nodeTable, capacityOf, countOf, nextOf}
-use Rattle.tables.specs.View.{field, nodeFrom, slotFrom, instanceFrom, headOf, slotAt, nodeAt, slotsOf, nodesFrom, nodesOf, view}
-use Rattle.tables.specs.Write.{fromPlace, setCount, setCounter, setRemoval, heldByte, setSlot, mountCells, rowMountCells, MayFit, setRootMount, setRowMount, nodeCells, appendNode, removeRow}
-use Rattle.tables.proofs.Tab.{tab-same, tab-set, tab-append, tab-remove}
+use Rattle.tables.specs.View.{field, mountFrom, nodeFrom, slotFrom, instanceFrom, headOf, slotAt, nodeAt, slotsOf, nodesFrom, nodesOf, view}
+use Rattle.tables.specs.Write.{fromPlace, setCount, setCounter, setRemoval, yesByte, setSlot, mountCells, rowMountCells, MayFit, setRootMount, setRowMount, nodeCells, appendNode, removeRow}
+use Rattle.tables.proofs.Tab.{removeAt, tab-same, tab-set, tab-append, tab-remove}
 use Rattle.tables.specs.Rule.{Laid}
-use Rattle.tables.proofs.Table.{length-putRow, length-closeUp, upper-kept, lower-kept, close-low, close-high, put-other, put-same}
-use Rattle.tables.proofs.Spells.{whole, cell-back, mount-word, mount-written, cells-fit, node-written, mount-fit, root-fit}
+use Rattle.tables.proofs.Table.{over, Fit, length-putRow, length-closeUp, upper-kept, lower-kept, close-low, close-high, put-other, put-same}
+use Rattle.tables.proofs.Spells.{cell-back, yes-back, yes-fits, mount-word, mount-written, cells-fit, node-written, mount-fit, root-fit}
 use Rattle.tables.proofs.Heads.{slots-ordered, nodes-ordered, header-beneath, slots-beneath, slots-above, nodes-above, view-header, low-head, low-slots, put-low, closed-low, head-low, view-low, two-fields, one-fit, fields-fit}
 
 -- ---- the bytes of the header
@@ -47,21 +47,17 @@ apart i j q = ⊎-elim (λ (a : i ≤ j). ⊎-elim (λ (b : j ≤ i). absurd (q 
 
 module _ (k : ℕ) (h : k < 256) (held : Bool) (tag : ℕ) (mem : List ℕ) (t : tag < 2 ^ 32) (l : 8192 ≤ length mem) where
   abbrev S : List (List ℕ)
-  S = bytesOf 1 (heldByte held) ∷ bytesOf 4 tag ∷ []
+  S = bytesOf 1 (yesByte held) ∷ bytesOf 4 tag ∷ []
 
   slot-fit : Fit slotTable S
-  slot-fit = omega (arith, length-bytesOf 1 (heldByte held), length-bytesOf 4 tag)
-
-  held-back : (b : Bool) → not (eqb (value (bytesOf 1 (heldByte b) ++ [])) 0) ≡ b
-  unfolding value bytesOf
-  held-back true = refl
-  held-back false = refl
+  slot-fit = omega (arith, length-bytesOf 1 (yesByte held), length-bytesOf 4 tag)
 
   slot-is : slotFrom (over slotTable S mem k) ≡ record { held = held; tag = tag }
-  unfolding slotFrom over read
+  unfolding slotFrom over
   slot-is =
-      let e : value (bytesOf 4 tag ++ []) ≡ tag = rw append-nil (value-bytes 4 tag ∙ mod-eq-of-lt t) in
-      rw (length-bytesOf 1 (heldByte held), length-bytesOf 4 tag) (λ i. record { held = held-back held i; tag = e i })
+      let a = cell-back 1 (yesByte held) mem (256 + 1 * k) (yes-fits held) in
+      let b = cell-back 4 tag mem (512 + 4 * k) t in
+      rw (a, b) (λ i. record { held = yes-back held i; tag = tag })
 
   slots-set : slotsOf (setSlot k held tag mem) ≡ set (slotsOf mem) k (record { held = held; tag = tag })
   unfolding slotsOf setSlot slotAt
@@ -126,7 +122,7 @@ rows-closed n mem i k fits l =
     (λ j b. ap nodeFrom (close-low n i k fits (nodeTable n) mem j 0 (nodes-ordered n) b))
     (λ j a b. ap nodeFrom (close-high n i k fits (nodeTable n) mem j 0 (nodes-ordered n) (omega arith) a b))
 
--- ---- what the cells of a row spell
+-- ---- what the writes of rows and mounts do
 
 module _ (mem : List ℕ) (d : Laid mem) where
   abbrev n : ℕ
@@ -204,14 +200,14 @@ module _ (mem : List ℕ) (d : Laid mem) where
       λ t. instanceFrom (heads t) (low-slots m′ mem low t) ((all ∙ nodes) t)
 
   pub view-root-mount : (m : Option Mount) → MayFit m → view (setRootMount m mem) ≡ withTree (record { next = view mem .tree .next; root = m; nodes = view mem .tree .nodes }) (view mem)
-  unfolding setRootMount view nodesOf over row get
+  unfolding setRootMount view mountFrom nodesOf over row get
   view-root-mount none f =
-      let w : value (bytesOf 8 0 ++ read mem (88 + length (bytesOf 8 0)) (8 - length (bytesOf 8 0))) ≡ 0 = whole 8 0 mem _ (omega arith) in
+      let w = cell-back 8 0 mem 88 (omega arith) in
       view-header 17 (mountCells none) mem (root-fit none) (omega (arith, d .long)) ∙ rw w
   view-root-mount (some m) f =
       let v = m .index * 2 ^ 56 + m .root in
-      let w : value (bytesOf 8 v ++ read mem (88 + length (bytesOf 8 v)) (8 - length (bytesOf 8 v))) ≡ v = whole 8 v mem _ (omega (arith, f .few, f .root)) in
-      let a : value (bytesOf 4 (m .uid) ++ read mem (96 + length (bytesOf 4 (m .uid))) (4 - length (bytesOf 4 (m .uid)))) ≡ m .uid = whole 4 (m .uid) mem _ (f .uid) in
-      let b : value (bytesOf 4 (m .gid) ++ read mem (100 + length (bytesOf 4 (m .gid))) (4 - length (bytesOf 4 (m .gid)))) ≡ m .gid = whole 4 (m .gid) mem _ (f .gid) in
-      let e : value (bytesOf 4 (m .mode) ++ read mem (104 + length (bytesOf 4 (m .mode))) (4 - length (bytesOf 4 (m .mode)))) ≡ m .mode = whole 4 (m .mode) mem _ (f .mode) in
+      let w = cell-back 8 v mem 88 (omega (arith, f .few, f .root)) in
+      let a = cell-back 4 (m .uid) mem 96 (f .uid) in
+      let b = cell-back 4 (m .gid) mem 100 (f .gid) in
+      let e = cell-back 4 (m .mode) mem 104 (f .mode) in
       view-header 17 (mountCells (some m)) mem (root-fit (some m)) (omega (arith, d .long)) ∙ rw (w, a, b, e, mount-word m f)

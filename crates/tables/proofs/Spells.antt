@@ -1,5 +1,6 @@
--- What the cells of a row spell: a number, a mount, a name, a new node. Assumes nothing.
-use mathlib.Core.Path.{_≡_, _∙_}
+-- What cells spell: a number, yes or no, a mount, a name, a new node. Assumes nothing.
+use mathlib.Core.Path.{_≡_, refl, _∙_}
+use mathlib.Core.Bool.{Bool, true, false, not}
 use mathlib.Core.List.{List, _++_, append-nil}
 use mathlib.Core.Option.{Option, none, some}
 use Prim.Native.Nat.{ℕ, _+_, _-_, _*_, _/_, _%_, _^_, _≤_, _<_, min}
@@ -7,43 +8,52 @@ use native.Mathlib.Nat.{mod-eq-of-lt, add-zero}
 use native.Mathlib.Omega.{arith}
 use lib.ListN.{length, take, drop, length-append, length-take, length-drop, take-append-drop}
 use lib.Seq.{take-at, length-take-le}
+use lib.Dec.{eqb}
 use borrow.Author.Tests.{ne-eqb}
 use Rattle.le.specs.Mem.{read, value, bytesOf}
 use Rattle.rules.proofs.Fields.{length-bytesOf, value-bytes}
 use Rattle.rules.specs.Tree.{Mount, bare, withMount}
-use Rattle.tables.specs.Table.{row, over, Fit}
+use Rattle.tables.specs.Table.{row}
 use Rattle.tables.specs.Layout.{header, nodeTable}
 use Rattle.tables.specs.View.{mountFrom, nameFrom, nodeFrom, nodeAt}
-use Rattle.tables.specs.Write.{fromPlace, mountCells, rowMountCells, MountFits, MayFit, nodeCells}
+use Rattle.tables.specs.Write.{fromPlace, yesByte, mountCells, rowMountCells, MountFits, MayFit, nodeCells}
+use Rattle.tables.proofs.Table.{over, Fit}
+use Rattle.tables.proofs.Cells.{numberAt, parentAt, mountCellAt, uidAt, gidAt, modeAt}
 
--- a number that fills its cell
-pub whole : (k v : ℕ) (mem : List ℕ) (q : ℕ) → v < 256 ^ k → value (bytesOf k v ++ read mem q (k - length (bytesOf k v))) ≡ v
+-- a number that fills the cell at a place
+pub cell-back : (k v : ℕ) (mem : List ℕ) (at : ℕ) → v < 256 ^ k → value (bytesOf k v ++ read mem (at + length (bytesOf k v)) (k - length (bytesOf k v))) ≡ v
 unfolding read
-whole k v mem q h =
+cell-back k v mem at h =
     let z : k - k ≡ 0 = omega arith in
     rw (length-bytesOf k v, z, append-nil, value-bytes k v) (mod-eq-of-lt h)
 
--- the same of the cell at a place
-pub cell-back : (k v : ℕ) (mem : List ℕ) (at : ℕ) → v < 256 ^ k → value (bytesOf k v ++ read mem (at + length (bytesOf k v)) (k - length (bytesOf k v))) ≡ v
-cell-back k v mem at h = whole k v mem _ h
+-- the byte of yes or no is read again, and fits
+pub yes-back : (b : Bool) → not (eqb (yesByte b) 0) ≡ b
+yes-back true = refl
+yes-back false = refl
+
+pub yes-fits : (b : Bool) → yesByte b < 256
+yes-fits true = omega arith
+yes-fits false = omega arith
 
 pub mount-word : (m : Mount) → MountFits m → mountFrom (m .index * 2 ^ 56 + m .root) (m .uid) (m .gid) (m .mode) ≡ some m
+unfolding mountFrom
 mount-word m f =
     let i : (m .index * 2 ^ 56 + m .root) / 2 ^ 56 ≡ m .index = omega (arith, f .root) in
     let r : (m .index * 2 ^ 56 + m .root) % 2 ^ 56 ≡ m .root = omega (arith, f .root) in
     rw (i, r, ne-eqb (m .index) 0 (λ z. omega (arith, f .index)))
 
 pub mount-written : (m : Option Mount) (n : ℕ) (mem : List ℕ) (i : ℕ) → MayFit m → nodeFrom (over (nodeTable n) (rowMountCells m) mem i) ≡ withMount m (nodeAt n mem i)
-unfolding nodeFrom nodeAt over row
+unfolding nodeFrom nodeAt mountFrom over row
 mount-written none n mem i f =
-    let w : value (bytesOf 8 0 ++ read mem (8192 + 16 * n + 8 * i + length (bytesOf 8 0)) (8 - length (bytesOf 8 0))) ≡ 0 = whole 8 0 mem _ (omega arith) in
+    let w = cell-back 8 0 mem (mountCellAt n i) (omega arith) in
     rw w (simp add-zero)
 mount-written (some m) n mem i f =
     let v = m .index * 2 ^ 56 + m .root in
-    let w : value (bytesOf 8 v ++ read mem (8192 + 16 * n + 8 * i + length (bytesOf 8 v)) (8 - length (bytesOf 8 v))) ≡ v = whole 8 v mem _ (omega (arith, f .few, f .root)) in
-    let a : value (bytesOf 4 (m .uid) ++ read mem (8192 + 32 * n + 4 * i + length (bytesOf 4 (m .uid))) (4 - length (bytesOf 4 (m .uid)))) ≡ m .uid = whole 4 (m .uid) mem _ (f .uid) in
-    let b : value (bytesOf 4 (m .gid) ++ read mem (8192 + 36 * n + 4 * i + length (bytesOf 4 (m .gid))) (4 - length (bytesOf 4 (m .gid)))) ≡ m .gid = whole 4 (m .gid) mem _ (f .gid) in
-    let c : value (bytesOf 4 (m .mode) ++ read mem (8192 + 40 * n + 4 * i + length (bytesOf 4 (m .mode))) (4 - length (bytesOf 4 (m .mode)))) ≡ m .mode = whole 4 (m .mode) mem _ (f .mode) in
+    let w = cell-back 8 v mem (mountCellAt n i) (omega (arith, f .few, f .root)) in
+    let a = cell-back 4 (m .uid) mem (uidAt n i) (f .uid) in
+    let b = cell-back 4 (m .gid) mem (gidAt n i) (f .gid) in
+    let c = cell-back 4 (m .mode) mem (modeAt n i) (f .mode) in
     rw (w, a, b, c, mount-word m f) (simp add-zero)
 
 -- a name in its two cells
@@ -68,11 +78,11 @@ cells-fit n x above p h =
 
 pub node-written : (n x above : ℕ) (p : List ℕ) (mem : List ℕ) (i : ℕ) → x < 2 ^ 56 → above < 2 ^ 56 → length p ≤ 255
     → nodeFrom (over (nodeTable n) (nodeCells x above p) mem i) ≡ bare x above p
-unfolding nodeFrom over nodeCells
+unfolding nodeFrom mountFrom over nodeCells
 node-written n x above p mem i a b h =
-    let u : value (bytesOf 8 x ++ read mem (8192 + 8 * i + length (bytesOf 8 x)) (8 - length (bytesOf 8 x))) ≡ x = whole 8 x mem _ (omega arith) in
-    let v : value (bytesOf 8 above ++ read mem (8192 + 8 * n + 8 * i + length (bytesOf 8 above)) (8 - length (bytesOf 8 above))) ≡ above = whole 8 above mem _ (omega arith) in
-    let w : value (bytesOf 8 0 ++ read mem (8192 + 16 * n + 8 * i + length (bytesOf 8 0)) (8 - length (bytesOf 8 0))) ≡ 0 = whole 8 0 mem _ (omega arith) in
+    let u = cell-back 8 x mem (numberAt n i) (omega arith) in
+    let v = cell-back 8 above mem (parentAt n i) (omega arith) in
+    let w = cell-back 8 0 mem (mountCellAt n i) (omega arith) in
     let last = bytesOf 1 (length p) ++ drop (length p - 7) p in
     let first = take (length p - 7) p in
     let name : nameFrom (last ++ read mem (8192 + 24 * n + 8 * i + length last) (8 - length last)) (first ++ read mem (8192 + 44 * n + 248 * i + length first) (248 - length first)) ≡ p =

@@ -5,9 +5,15 @@ use native.Mathlib.Nat.{zero-add, add-zero, suc-add}
 use native.Mathlib.Omega.{arith}
 use mathlib.Core.List.{List, [], _∷_, _++_}
 use lib.ListN.{length, getD, set}
-use Rattle.tables.specs.Table.{tab, removeAt}
+use Rattle.tables.specs.Table.{tab}
 
 module _ {A : Type 0} where
+  -- a list without its element k
+  unfoldable pub removeAt : ℕ → List A → List A
+  removeAt k [] = []
+  removeAt zero (x ∷ xs) = xs
+  removeAt (suc k) (x ∷ xs) = x ∷ removeAt k xs
+
   pub length-tab : (f : ℕ → A) (i k : ℕ) → length (tab f i k) ≡ k
   unfolding tab
   length-tab f i zero = refl

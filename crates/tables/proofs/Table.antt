@@ -9,7 +9,36 @@ use lib.ListN.{length}
 use Rattle.le.specs.Mem.{read, write}
 use Rattle.rules.proofs.Fields.{length-read, read-add}
 use Rattle.le.proofs.Lens.{length-write, read-apart, read-same, read-moved}
-use Rattle.tables.specs.Table.{Col, off, row, putRow, closeUp, over, Above, Beneath, Behind, Fit}
+use Rattle.tables.specs.Table.{Col, off, row, putRow, closeUp}
+
+-- row i after bytes were written into it
+unfoldable pub over : List Col → List (List ℕ) → List ℕ → ℕ → List (List ℕ)
+over [] xs mem i = []
+over (c ∷ cs) [] mem i = row (c ∷ cs) mem i
+over (c ∷ cs) (x ∷ xs) mem i = (x ++ read mem (off c i + length x) (c .width - length x)) ∷ over cs xs mem i
+
+-- ---- where columns of n cells stand
+
+-- each begins at or past e
+abbrev pub Above : ℕ → List Col → Type 0
+Above e [] = 0 ≤ 0
+Above e (c ∷ cs) = (e ≤ c .base) × Above e cs
+
+-- each ends at or before e
+abbrev pub Beneath : ℕ → List Col → ℕ → Type 0
+Beneath n [] e = 0 ≤ 0
+Beneath n (c ∷ cs) e = (off c n ≤ e) × Beneath n cs e
+
+-- one behind the other, from e on
+abbrev pub Behind : ℕ → ℕ → List Col → Type 0
+Behind n e [] = 0 ≤ 0
+Behind n e (c ∷ cs) = (e ≤ c .base) × Behind n (off c n) cs
+
+-- what is written fits its cells
+abbrev pub Fit : List Col → List (List ℕ) → Type 0
+Fit [] xs = 0 ≤ 0
+Fit (c ∷ cs) [] = 0 ≤ 0
+Fit (c ∷ cs) (x ∷ xs) = (length x ≤ c .width) × Fit cs xs
 
 -- ---- cells: products with the width
 

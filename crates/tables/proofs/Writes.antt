@@ -14,8 +14,9 @@ use Rattle.rules.specs.Tree.{Mount}
 use Rattle.rules.proofs.Fields.{read-slice}
 use Rattle.le.proofs.Lens.{put-write}
 use Rattle.tables.specs.Table.{Col, off, putRow, closeUp}
-use Rattle.tables.specs.Layout.{nodeTable, capacityOf, countOf, nextOf, numberAt, parentAt, mountCellAt, lastAt, uidAt, gidAt, modeAt, firstAt}
-use Rattle.tables.specs.Write.{putHeader, setCount, setNext, setCounter, setRemoval, heldByte, setSlot, setRootMount, setRowMount, nodeCells, appendNode, removeRow}
+use Rattle.tables.specs.Layout.{nodeTable, capacityOf, countOf, nextOf, lastAt, firstAt}
+use Rattle.tables.specs.Write.{putHeader, setCount, setNext, setCounter, setRemoval, yesByte, setSlot, setRootMount, setRowMount, nodeCells, appendNode, removeRow}
+use Rattle.tables.proofs.Cells.{numberAt, parentAt, mountCellAt, uidAt, gidAt, modeAt}
 
 -- ---- the header
 
@@ -42,7 +43,7 @@ module _ (mem : List ℕ) where
 
 -- ---- a slot
 
-pub put-slot : (mem : List ℕ) (k : ℕ) (held : Bool) (tag : ℕ) → put 4 (put 1 mem (256 + k) (heldByte held)) (512 + 4 * k) tag ≡ setSlot k held tag mem
+pub put-slot : (mem : List ℕ) (k : ℕ) (held : Bool) (tag : ℕ) → put 4 (put 1 mem (256 + k) (yesByte held)) (512 + 4 * k) tag ≡ setSlot k held tag mem
 unfolding put setSlot putRow
 put-slot mem k held tag = rw one-mul
 

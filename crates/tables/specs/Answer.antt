@@ -1,15 +1,14 @@
 -- What the answers of the inner functions stand for, and places of rows.
-use Prim.Native.Nat.{ℕ, suc, _-_}
-use mathlib.Core.Bool.{Bool, cond, not, _&&_}
+use Prim.Native.Nat.{ℕ, suc}
+use mathlib.Core.Bool.{Bool, cond}
 use mathlib.Core.List.{List, [], _∷_}
 use mathlib.Core.Option.{Option, none, some}
 use mathlib.Core.Path.{_≡_}
-use lib.Dec.{eqb, ltb}
+use lib.Dec.{eqb}
 use Rattle.rules.specs.Numbers.{rootNumber}
 use Rattle.rules.specs.Tree.{Mount, Node, parentIn}
 use Rattle.rules.specs.Instance.{mountOf}
-use Rattle.tables.specs.Layout.{capacityOf, countOf}
-use Rattle.tables.specs.View.{mountFrom, slotAt, nodeAt, nodesOf, view}
+use Rattle.tables.specs.View.{slotAt, nodesOf, view}
 use Rattle.tables.specs.Write.{setRootMount, setRowMount, removeRow}
 use Rattle.tables.specs.declared.rows.Found.{Found}
 use Rattle.tables.specs.declared.rows.Found.the-variants.{Node as FoundNode, Nothing as FoundNothing}
@@ -40,10 +39,6 @@ mountOfPoint m = record { index = m .«fs_idx»; root = m .ino; uid = m .uid; gi
 unfoldable pub mountIn : MountOn → Option Mount
 mountIn (Point m) = some (mountOfPoint m)
 mountIn MountNothing = none
-
--- as the cells spell it: `mountFrom`, which stays folded under this name
-unfoldable pub mountFromWord : ℕ → ℕ → ℕ → ℕ → Option Mount
-mountFromWord word uid gid mode = mountFrom word uid gid mode
 
 -- a tag, or none, which is kept apart from tag 0 (R78, R97)
 unfoldable pub tagIn : Tag → Option ℕ
@@ -80,10 +75,6 @@ pub record Under (mem : List ℕ) (x : ℕ) (r : MountUnder) : Type 0 where
   pub parent : r .up ≡ parentIn (nodesOf mem) x
   pub row : RowOf mem x (r .row)
 
--- whether node x stands in the row that it has where no node was removed before it: numbers begin at 2
-unfoldable pub inPlace : List ℕ → ℕ → Bool
-inPlace mem x = not (ltb x 2) && ltb (x - 2) (countOf mem) && eqb (nodeAt (capacityOf mem) mem (x - 2) .number) x
-
 -- ---- writes at a node's number
 
 -- what f makes at the place; where there is none, the bytes as they were
@@ -92,8 +83,8 @@ atPlace none f mem = mem
 atPlace (some i) f mem = f i
 
 -- the mount of the root, or of the first node of that number; a number that is no node keeps none (R52, R53, R54)
-unfoldable pub mountMem : List Node → Option Mount → ℕ → List ℕ → List ℕ
-mountMem nodes m x mem = cond (eqb x rootNumber) (setRootMount m mem) (atPlace (placeIn nodes x) (λ (i : ℕ). setRowMount m i mem) mem)
+unfoldable pub nodeMountMem : List Node → Option Mount → ℕ → List ℕ → List ℕ
+nodeMountMem nodes m x mem = cond (eqb x rootNumber) (setRootMount m mem) (atPlace (placeIn nodes x) (λ (i : ℕ). setRowMount m i mem) mem)
 
 -- the first node of that number goes (R53, R100)
 unfoldable pub removeMem : List Node → ℕ → List ℕ → List ℕ

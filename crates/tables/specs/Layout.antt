@@ -79,28 +79,12 @@ nextOf mem = get 8 mem 24
 abbrev pub counterAt : List ℕ → ℕ
 counterAt mem = get 1 mem 81
 
--- ---- where the cells of row i are, in a table of N rows
+-- ---- where the name of row i stands, in a table of N rows
 
-abbrev pub numberAt : ℕ → ℕ → ℕ
-numberAt n i = tableAt + 8 * i
-
-abbrev pub parentAt : ℕ → ℕ → ℕ
-parentAt n i = tableAt + 8 * n + 8 * i
-
-abbrev pub mountCellAt : ℕ → ℕ → ℕ
-mountCellAt n i = tableAt + 16 * n + 8 * i
-
+-- its length and last bytes
 abbrev pub lastAt : ℕ → ℕ → ℕ
 lastAt n i = tableAt + 24 * n + 8 * i
 
-abbrev pub uidAt : ℕ → ℕ → ℕ
-uidAt n i = tableAt + 32 * n + 4 * i
-
-abbrev pub gidAt : ℕ → ℕ → ℕ
-gidAt n i = tableAt + 36 * n + 4 * i
-
-abbrev pub modeAt : ℕ → ℕ → ℕ
-modeAt n i = tableAt + 40 * n + 4 * i
-
+-- the bytes before those
 abbrev pub firstAt : ℕ → ℕ → ℕ
 firstAt n i = tableAt + 44 * n + 248 * i

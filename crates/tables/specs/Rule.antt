@@ -1,5 +1,5 @@
 -- The layout rule: what every call tests first, in constant time, and keeps.
-use Prim.Native.Nat.{ℕ, _+_, _*_, _^_, _≤_, _<_}
+use Prim.Native.Nat.{ℕ, _≤_, _<_}
 use mathlib.Core.Bool.{Bool, not}
 use mathlib.Core.List.{List, [], _∷_}
 use lib.ListN.{length}
@@ -33,11 +33,9 @@ laidBy h bytes =
 unfoldable pub laid : List ℕ → Bool
 laid mem = laidBy (headOf mem) (length mem)
 
--- what places of rows need of it
+-- what follows from it for places of rows and for new numbers
 pub record Laid (mem : List ℕ) : Type 0 where
-  pub some-node : 1 ≤ capacityOf mem
-  pub few-nodes : capacityOf mem ≤ 1024
-  pub long : 512 * capacityOf mem + 8192 ≤ length mem
+  pub few-nodes : capacityOf mem ≤ maxNodes
+  pub long : storageFor (capacityOf mem) ≤ length mem
   pub live : countOf mem < capacityOf mem
-  pub low : 2 ≤ nextOf mem
-  pub top : nextOf mem ≤ 2 ^ 56
+  pub top : nextOf mem ≤ topNumber

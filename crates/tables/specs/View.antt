@@ -25,7 +25,7 @@ abbrev pub flag : ℕ → List (List ℕ) → Bool
 flag k cells = not (eqb (field k cells) 0)
 
 -- index × 2^56 + root number; index 0 is no mount, whatever the low bits are (R5)
-abbrev pub mountFrom : ℕ → ℕ → ℕ → ℕ → Option Mount
+unfoldable pub mountFrom : ℕ → ℕ → ℕ → ℕ → Option Mount
 mountFrom word uid gid mode =
     cond (eqb (word / 2 ^ 56) 0) none (some (record { index = word / 2 ^ 56; root = word % 2 ^ 56; uid = uid; gid = gid; mode = mode }))
 

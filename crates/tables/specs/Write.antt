@@ -37,14 +37,14 @@ setRemoval mem = putHeader 15 (bytesOf 1 1 ∷ []) mem
 
 -- ---- a slot
 
--- a held slot has occupancy 1
-abbrev pub heldByte : Bool → ℕ
-heldByte true = 1
-heldByte false = 0
+-- yes is 1, no is 0
+abbrev pub yesByte : Bool → ℕ
+yesByte true = 1
+yesByte false = 0
 
 -- slot k, held or not, with its tag (R56)
 unfoldable pub setSlot : ℕ → Bool → ℕ → List ℕ → List ℕ
-setSlot k held tag mem = putRow slotTable (bytesOf 1 (heldByte held) ∷ bytesOf 4 tag ∷ []) mem k
+setSlot k held tag mem = putRow slotTable (bytesOf 1 (yesByte held) ∷ bytesOf 4 tag ∷ []) mem k
 
 -- ---- a mount
 

@@ -56,7 +56,7 @@ pub fn removes(s: &[u8]) -> bool
     le::fields::get_u8(s, 82) != 0
 }
 
-// From now on it does (R32).
+// `remove_pseudo_root` is set (R32).
 pub fn set_removes(s: &mut [u8])
     requires { ⌜ 8192 ≤ length (now s) ⌝ }
     ensures { λ _. ⌜ now (s .exit) ≡ setRemoval (now (s .entry)) ⌝ }

@@ -4,10 +4,10 @@ ghost use mathlib.Core.Option.{none, some};
 ghost use Prim.Native.Nat.{_<_, _^_};
 ghost use Rattle.rules.specs.Instance.{mountOf as mountOfTree};
 ghost use Rattle.tables.specs.Layout.{capacityOf, countOf};
-ghost use Rattle.tables.specs.View.{nodeAt, nodesOf, view};
+ghost use Rattle.tables.specs.View.{mountFrom, nodeAt, nodesOf, view};
 ghost use Rattle.tables.specs.Rule.{Laid};
 ghost use Rattle.tables.specs.Write.{setRootMount, setRowMount};
-ghost use Rattle.tables.specs.Answer.{mountOfPoint, mountIn, mountFromWord, RowOf, Under, mountMem};
+ghost use Rattle.tables.specs.Answer.{mountOfPoint, mountIn, RowOf, Under, nodeMountMem};
 use crate::rows::Row;
 
 // A mount on a node: its index, the backend's root number, and the root's ids and mode as the request brought them (R76, R77).
@@ -27,7 +27,7 @@ pub enum MountOn {
 
 // The mount that a cell and its ids spell: the cell is the index times 2^56, and the root number; index 0 is none (R5).
 fn spelt(word: u64, uid: u32, gid: u32, mode: u32) -> MountOn
-    ensures { λ r. ⌜ mountIn r ≡ mountFromWord word uid gid mode ⌝ }
+    ensures { λ r. ⌜ mountIn r ≡ mountFrom word uid gid mode ⌝ }
 {
     let index = word / rules::NUMBERS;
     if index == 0 {
@@ -150,7 +150,7 @@ pub fn set(s: &mut [u8], x: u64, row: Row, m: MountPoint)
     requires { ⌜ Laid (now s) ⌝ }
     requires { ⌜ RowOf (now s) x row ⌝ }
     requires { ⌜ m .ino < 2 ^ 56 ⌝ }
-    ensures { λ _. ⌜ now (s .exit) ≡ mountMem (nodesOf (now (s .entry))) (some (mountOfPoint m)) x (now (s .entry)) ⌝ }
+    ensures { λ _. ⌜ now (s .exit) ≡ nodeMountMem (nodesOf (now (s .entry))) (some (mountOfPoint m)) x (now (s .entry)) ⌝ }
 {
     if x == rules::ROOT_ID {
         put_root(s, m);
@@ -166,7 +166,7 @@ pub fn set(s: &mut [u8], x: u64, row: Row, m: MountPoint)
 pub fn clear(s: &mut [u8], x: u64, row: Row)
     requires { ⌜ Laid (now s) ⌝ }
     requires { ⌜ RowOf (now s) x row ⌝ }
-    ensures { λ _. ⌜ now (s .exit) ≡ mountMem (nodesOf (now (s .entry))) none x (now (s .entry)) ⌝ }
+    ensures { λ _. ⌜ now (s .exit) ≡ nodeMountMem (nodesOf (now (s .entry))) none x (now (s .entry)) ⌝ }
 {
     if x == rules::ROOT_ID {
         le::fields::put_u64(s, 88, 0);

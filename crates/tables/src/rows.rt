@@ -13,7 +13,7 @@ ghost use Rattle.tables.specs.Layout.{nodeTable, tableAt, capacityOf, co
 ghost use Rattle.tables.specs.View.{nodeAt, nodesOf};
 ghost use Rattle.tables.specs.Rule.{Laid};
 ghost use Rattle.tables.specs.Write.{nodeCells, appendNode, removeRow};
-ghost use Rattle.tables.specs.Answer.{foundIn, rowIn, placeIn, inPlace};
+ghost use Rattle.tables.specs.Answer.{foundIn, rowIn, placeIn};
 
 // The number of a node, or nothing.
 pub enum Found {
@@ -79,7 +79,8 @@ fn same_start(s: &[u8], p: usize, name: &[u8]) -> bool
     le::runs::same_at(s, p, name, 0, len - 7)
 }
 
-// Whether row i, whose name's cell is that of the name, is the child of that name: no row's name is longer than 255 bytes; parent, and the bytes before the last seven (R45).
+// Whether row i, whose name's cell is that of the name, is the child of that name: what is left to compare is the parent and the bytes before the last seven; a name over
+// 255 bytes is no row's (R10, R45).
 pub fn child_alike(s: &[u8], i: usize, here: u64, name: &[u8]) -> bool
     requires { ⌜ Laid (now s) ⌝ }
     requires { ⌜ i < countOf (now s) ⌝ }
@@ -129,22 +130,7 @@ pub fn find_row(s: &[u8], x: u64) -> Row
     Row::Nothing
 }
 
-// Whether node x stands in the row that it has where no node was removed before it.
-fn is_in_place(s: &[u8], x: u64) -> bool
-    requires { ⌜ Laid (now s) ⌝ }
-    ensures { λ r. ⌜ r ≡ inPlace (now (s .entry)) x ⌝ }
-{
-    if x < rules::FIRST_NODE {
-        return false;
-    }
-    let i = (x - rules::FIRST_NODE) as usize;
-    if crate::header::count(s) <= i {
-        return false;
-    }
-    number(s, i) == x
-}
-
-// Whether the number is the root's or a node's (R52).
+// Whether the number is the root's or a node's; the row that it has where no node was removed before it is asked first (R52).
 pub fn is_known(s: &[u8], x: u64) -> bool
     requires { ⌜ Laid (now s) ⌝ }
     ensures { λ r. ⌜ r ≡ isKnown (nodesOf (now (s .entry))) x ⌝ }
@@ -152,8 +138,13 @@ pub fn is_known(s: &[u8], x: u64) -> bool
     if x == rules::ROOT_ID {
         return true;
     }
-    if is_in_place(s, x) {
-        return true;
+    if rules::FIRST_NODE <= x {
+        let i = (x - rules::FIRST_NODE) as usize;
+        if i < crate::header::count(s) {
+            if number(s, i) == x {
+                return true;
+            }
+        }
     }
     match find_row(s, x) {
         Row::At(i) => true,

@@ -21,6 +21,7 @@ LowRoot none = Unit {0}
 LowRoot (some m) = m .root < 2 ^ 56
 
 from-low : (word uid gid mode : ℕ) → LowRoot (mountFrom word uid gid mode)
+unfolding mountFrom
 from-low word uid gid mode = go (eqb (word / 2 ^ 56) 0)
   where
     go : (b : Bool) → LowRoot (cond b none (some (record { index = word / 2 ^ 56; root = word % 2 ^ 56; uid = uid; gid = gid; mode = mode })))

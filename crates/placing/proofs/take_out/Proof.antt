@@ -1,6 +1,6 @@
--- The node is taken out where removal is set and it is not the root. Assumes nothing.
+-- The node is taken out where removal is set and it has a row. Assumes nothing.
 use borrow.Author.Needs.{needs}
-use Rattle.placing.proofs.Returns.{row-of, stays-unset, stays-root, goes, nothing-goes}
+use Rattle.placing.proofs.Returns.{row-of, stays-unset, goes, nothing-goes}
 use Rattle.tables.proofs.Keeps.{laid-long, laid-is}
 use Rattle.placing.proofs.take_out.Statement.{statement}
 use Rattle.placing.proofs.take_out.Tie as tie
@@ -14,12 +14,6 @@ same-length c = search needs
 returns : tie.Need-returns
 returns c = search (stays-unset, needs)
 
-same-length-2 : tie.Need-same-length-2
-same-length-2 c = search needs
-
-returns-2 : tie.Need-returns-2
-returns-2 c = search (stays-root, needs)
-
 enum-known-row : tie.Need-enum-known-row
 enum-known-row c = search needs
 
@@ -29,17 +23,17 @@ remove-requires c κs = search (row-of, laid-is, needs)
 enum-told : tie.Need-enum-told
 enum-told c = search needs
 
+same-length-2 : tie.Need-same-length-2
+same-length-2 c = search needs
+
+returns-2 : tie.Need-returns-2
+returns-2 c = search (goes, needs)
+
 same-length-3 : tie.Need-same-length-3
 same-length-3 c = search needs
 
 returns-3 : tie.Need-returns-3
-returns-3 c = search (goes, needs)
-
-same-length-4 : tie.Need-same-length-4
-same-length-4 c = search needs
-
-returns-4 : tie.Need-returns-4
-returns-4 c = search (nothing-goes, needs)
+returns-3 c = search (nothing-goes, needs)
 
 pub take-out-spec : {M : Type 1} → statement M
 take-out-spec =
@@ -48,12 +42,10 @@ take-out-spec =
     removes-requires
     same-length
     returns
-    same-length-2
-    returns-2
     enum-known-row
     remove-requires
     enum-told
+    same-length-2
+    returns-2
     same-length-3
-    returns-3
-    same-length-4
-    returns-4)
+    returns-3)

@@ -10,10 +10,10 @@ use Rattle.plan.proofs.apply_plan.Statement.{statement}
 use Rattle.plan.proofs.apply_plan.Tie as tie
 
 abbrev Inv-loop : tie.InvT-loop
-Inv-loop s₀ path made starts lens count k₀ s k = Writing s₀ path (columns made starts lens) count s k
+Inv-loop s₀ path parents starts lens count k₀ s k = Writing s₀ path (columns parents starts lens) count s k
 
 abbrev μ-loop : tie.MeasureT-loop
-μ-loop s₀ path made starts lens count k₀ s k = count - k
+μ-loop s₀ path parents starts lens count k₀ s k = count - k
 
 loop-holds : tie.Need-loop-holds Inv-loop μ-loop
 loop-holds c = starts _ _ _ _ (c .before .before .pre .0)
@@ -27,13 +27,13 @@ part-append-end c = omega (arith, c .before .before .before .before .before .bef
 append-requires : tie.Need-append-requires Inv-loop μ-loop
 append-requires c κs =
     let w = c .before .before .before .before .before .before .before .before .before .loop .inv in
-    let short = c .before .before .before .before .size .ensures .1 in
-    (w .laid, (omega arith, (omega arith, rw (add-sub-cancel-left (c .before .before .before .before .before .before .place .result) (c .before .before .before .before .size .result), length-take) (omega arith))))
+    let short = c .before .before .before .before .length-of .ensures .1 in
+    (w .laid, (omega arith, (omega arith, rw (add-sub-cancel-left (c .before .before .before .before .before .before .start-of .result) (c .before .before .before .before .length-of .result), length-take) (omega arith))))
 
 loop-again : tie.Need-loop-again Inv-loop μ-loop
 loop-again c =
     goes-on _ _ _ _ _ _ (c .before .before .before .before .before .before .before .before .before .before .before .before .loop .inv) _ (omega arith) (c .before .before .before .before .before .before .before .before .before .before .before .before .before .before .before .pre .1 .0 .0) (c .before .before .before .before .before .before .before .before .before .before .before .before .before .before .before .pre .1 .0 .1)
-    (rw (add-sub-cancel-left (c .before .before .before .before .before .before .before .before .before .place .result) (c .before .before .before .before .before .before .before .size .result), c .before .before .before .before .before .before .before .before .before .place .ensures, c .before .before .before .before .before .before .before .size .ensures .0, c .before .before .before .before .word .ensures) at (c .before .before .append .ensures))
+    (rw (add-sub-cancel-left (c .before .before .before .before .before .before .before .before .before .start-of .result) (c .before .before .before .before .before .before .before .length-of .result), c .before .before .before .before .before .before .before .before .before .start-of .ensures, c .before .before .before .before .before .before .before .length-of .ensures .0, c .before .before .before .before .parent-in .ensures) at (c .before .before .append .ensures))
 
 returns : tie.Need-returns Inv-loop μ-loop
 returns c = done _ _ _ _ _ _ (c .before .loop .inv) (omega arith)

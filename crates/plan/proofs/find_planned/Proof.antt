@@ -9,10 +9,10 @@ use Rattle.plan.proofs.find_planned.Statement.{statement}
 use Rattle.plan.proofs.find_planned.Tie as tie
 
 abbrev Inv-loop : tie.InvT-loop
-Inv-loop path made starts lens count next here name j₀ j = Seeks path next (columns made starts lens) count here name j
+Inv-loop path parents starts lens count next here name j₀ j = Seeks path next (columns parents starts lens) count here name j
 
 abbrev μ-loop : tie.MeasureT-loop
-μ-loop path made starts lens count next here name j₀ j = count - j
+μ-loop path parents starts lens count next here name j₀ j = count - j
 
 loop-holds : tie.Need-loop-holds Inv-loop μ-loop
 loop-holds c = seek-begins _ _ _ _ _ _

@@ -13,10 +13,10 @@ use Rattle.plan.proofs.plan_mount.Statement.{statement}
 use Rattle.plan.proofs.plan_mount.Tie as tie
 
 abbrev Inv-loop : tie.InvT-loop
-Inv-loop s path made₀ starts₀ lens₀ most count₀ node₀ at₀ made starts lens count node at = Going s path (columns made starts lens) count node at
+Inv-loop s path parents₀ starts₀ lens₀ most count₀ node₀ at₀ parents starts lens count node at = Going s path (columns parents starts lens) count node at
 
 abbrev μ-loop : tie.MeasureT-loop
-μ-loop s path made₀ starts₀ lens₀ most count₀ node₀ at₀ made starts lens count node at = length path - at
+μ-loop s path parents₀ starts₀ lens₀ most count₀ node₀ at₀ parents starts lens count node at = length path - at
 
 loop-holds : tie.Need-loop-holds Inv-loop μ-loop
 loop-holds c = begins _ _ _ (c .before .before .before .pre .1 .1) (c .before .before .before .pre .1 .0)

@@ -9,10 +9,10 @@ returns : tie.Need-returns
 returns c = is-else _ _ _ _ _ (c .if1 .taken)
 
 returns-2 : tie.Need-returns-2
-returns-2 c = is-longer _ _ _ _ _ _ (c .before .size .ensures .0) (search needs) (c .if2 .taken)
+returns-2 c = is-longer _ _ _ _ _ _ (c .before .length-of .ensures .0) (search needs) (c .if2 .taken)
 
 returns-3 : tie.Need-returns-3
-returns-3 c = is-named _ _ _ _ _ _ (c .before .before .before .before .size .ensures .0) (search needs) (c .before .before .before .before .before .before .if1 .left) (c .before .before .before .if2 .left) _ (c .before .place .ensures) (c .same-at .ensures)
+returns-3 c = is-named _ _ _ _ _ _ (c .before .before .before .before .length-of .ensures .0) (search needs) (c .before .before .before .before .before .before .if1 .left) (c .before .before .before .if2 .left) _ (c .before .start-of .ensures) (c .same-at .ensures)
 
 pub planned-is-spec : {M : Type 1} → statement M
 planned-is-spec =

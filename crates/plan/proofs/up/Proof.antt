@@ -26,7 +26,7 @@ returns-3 c = λ path starts lens. up-before _ _ _ _ _ (c .before .before .befor
 
 returns-4 : tie.Need-returns-4
 unfolding rowIn
-returns-4 c = λ path starts lens. c .word .ensures ∙ up-planned _ _ _ _ _ (c .before .before .before .before .before .before .before .before .if1 .left) (sym (c .before .before .before .before .before .before .before .find-row .ensures) ∙ ap rowIn (c .before .before .before .before .before .enum-told .given .1)) _ (c .before .before .before .before .next .ensures) (omega arith) (omega arith)
+returns-4 c = λ path starts lens. c .parent-in .ensures ∙ up-planned _ _ _ _ _ (c .before .before .before .before .before .before .before .before .if1 .left) (sym (c .before .before .before .before .before .before .before .find-row .ensures) ∙ ap rowIn (c .before .before .before .before .before .enum-told .given .1)) _ (c .before .before .before .before .next .ensures) (omega arith) (omega arith)
 
 returns-5 : tie.Need-returns-5
 unfolding rowIn

@@ -1,11 +1,19 @@
 -- The cells 13 to 17 are written. Assumes nothing.
+use mathlib.Core.Path.{_∙_}
 use Rattle.storage.proofs.Creation.{bytes-put}
 use borrow.Author.Needs.{needs}
 use Rattle.storage.proofs.put_bytes.Statement.{statement}
 use Rattle.storage.proofs.put_bytes.Tie as tie
 
 returns : tie.Need-returns
-returns c = let a = c .before .before .before .before .before .before .before .before .before .before .before .before .before .before .before .before .before .before .before .before .before .args in cc (bytes-put (a .s .now) (a .flags))
+returns c =
+    let w5 = c .before .before in
+    let w4 = w5 .before .before .before .before in
+    let w3 = w4 .before .before .before .before in
+    let w2 = w3 .before .before .before .before in
+    let w1 = w2 .before .before .before .before in
+    let a = w1 .before .before .before .args in
+    w5 .put-u64 .ensures ∙ rw (w4 .put-u84 .ensures, w3 .put-u83 .ensures, w2 .put-u82 .ensures, w1 .put-u8 .ensures) (bytes-put (a .s .now) (a .flags))
 
 pub put-bytes-spec : {M : Type 1} → statement M
 put-bytes-spec =
