@@ -10,7 +10,7 @@ use Rattle.rules.specs.Numbers.{rootNumber, indexOf, numberOf, INVAL}
 use Rattle.rules.specs.Ids.{Mapping, badMapping, wrapped, unwrapped, mapped, unmapped}
 use Rattle.rules.specs.Tree.{Mount}
 use Rattle.rules.specs.Instance.{Instance, tagIn as tagInSlot, tagOf, mountOf}
-use Rattle.rules.specs.Outcome.{toTree, rootfs, Outcome, refused, says, firstOf}
+use Rattle.rules.specs.Outcome.{toTree, rootfs, refused, says, firstOf}
 use Rattle.rules.specs.Lookup.{routeTag, routeTree, routeRule, remapped}
 use Rattle.rules.specs.Unmount.{badPath, reached, mountUnder, rootHeld, rootAt, rootRule}
 use Rattle.rules.proofs.Ids.{wrapped-is-whole}
