@@ -10,7 +10,7 @@ use Rattle.rules.specs.Path.{rooted, tooLong}
 use Rattle.rules.specs.Tree.{Mount, Made}
 use Rattle.rules.specs.Instance.{Instance, mountOf, tagOf}
 use Rattle.rules.specs.Outcome.{Answer, Outcome, nothing, mounted, restored, refused, says, firstOf}
-use Rattle.rules.specs.Mount.{Request, planned, noRoom, ended, walkedTo, mountThere, freed, tagAt, placed, allocation, stepped, allocated, mountAs}
+use Rattle.rules.specs.Mount.{Request, planned, noRoom, ended, walkedTo, mountThere, freed, tagAt, placed, allocation, stepped, allocated, mountAs, restoreAs}
 use Rattle.rules.specs.Unmount.{reached}
 use Rattle.index.specs.Search.{foundOf}
 use Rattle.index.specs.declared.FsIndex.the-variants.{Index, Full as IndexFull}
@@ -179,9 +179,13 @@ module _ (mem path : List ℕ) (k : ℕ) (b : Backend) where
   abbrev Done-back : Outcome
   Done-back = says (restored (tagAt (mountThere (view mem) path) (view mem)) (tagOf (freed (mountThere (view mem) path) (view mem)) k)) (placed k Q (ended (view mem) path) (walkedTo path (view mem)))
 
-  pub restores-way : laid mem ≡ true → tooLong path ≡ false → (m : List ℕ) (x : ℕ) → Leads mem path m x → (r : Restored) (after : List ℕ) → RestoresAt m k x b r after → Back r after
+  back-is : noRoom (view mem) path ≡ false → rooted path ≡ true → restoredRule (view mem) k Q ≡ cond (ltb maxIno (b .root .0)) Big-back Done-back
+  unfolding restoreAs firstOf
+  back-is room on = rw (room, on)
+
+  pub restores-way : laid mem ≡ true → tooLong path ≡ false → rooted path ≡ true → (m : List ℕ) (x : ℕ) → Leads mem path m x → (r : Restored) (after : List ℕ) → RestoresAt m k x b r after → Back r after
   unfolding placed restoredMem
-  restores-way l s m x w r after e =
+  restores-way l s on m x w r after e =
       let v : view m ≡ walkedTo path (view mem) = leads-view mem path l s m x w in
       let y : x ≡ ended (view mem) path = w .ends in
       let tag : tagAt (mountOf (view m .tree) x) (view m) ≡ tagAt (mountThere (view mem) path) (view mem) =
@@ -189,6 +193,6 @@ module _ (mem path : List ℕ) (k : ℕ) (b : Backend) where
       let slot : tagOf (freed (mountOf (view m .tree) x) (view m)) k ≡ tagOf (freed (mountThere (view mem) path) (view mem)) k =
       (λ i. tagOf (freed (mountOf (v i .tree) (y i)) (v i)) k) ∙ freed-kept (mountThere (view mem) path) (walkedTo path (view mem)) (view mem) k refl in
       ends-follow m k x b _ 0 (restoredTold r) after e (restoredRule (view mem) k Q) Big-back Done-back (restoredMem k Q mem)
-      (ap (λ (c : Bool). cond c (refused NOROOM (view mem)) (cond (ltb maxIno (b .root .0)) Big-back Done-back)) (w .room)) refl
+      (back-is (w .room) on) refl
       (λ i. record { code = DONE; answer = restored (sym tag i) (sym slot i); count = 0 }) (sym v) (λ i. placed k Q (sym y i) (sym v i))
       (leads-bytes mem path l s m x w k b ∙ rw (w .room))

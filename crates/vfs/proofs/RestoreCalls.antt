@@ -65,7 +65,7 @@ module _ (mem path : List ℕ) (k : ℕ) (b : Backend) where
         no-slash-back e = let z : rooted path ≡ false = sym re ∙ not-true r e in refusal Inval INVAL (rw (p .fits, p .formed, held, top, z)) refl (rw (p .fits, p .formed, held, top, z))
 
         pub slash-back : not r ≡ false → (v : Restored) (after : List ℕ) → Follows (restoredRule (view mem) k Q) (restoredMem k Q mem) (restoredTold v) after → Gives v after
-        unfolding restoreMountRule restoreAs restoreMem firstOf stopped
+        unfolding restoreMountRule restoreMem firstOf stopped
         slash-back e v after w =
             let at : rooted path ≡ true = sym re ∙ not-false r e in
             does mem F (restoredTold v) after (restoreMem k Q mem) (restoredRule (view mem) k Q) (p .laid) (rw (p .fits, p .formed, held, top, at)) (w .told) (w .bytes ∙ sym (rw (p .laid, p .fits, p .formed, held, top, at))) (w .stands) (w .keeps)

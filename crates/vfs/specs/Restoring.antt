@@ -7,8 +7,8 @@ use Rattle.rules.specs.Numbers.{maxIno, INVAL, TOOLONG, INODE, NOROOM, BADINDEX
 use Rattle.rules.specs.Utf8.{wellFormed}
 use Rattle.rules.specs.Path.{rooted, tooLong}
 use Rattle.rules.specs.Instance.{Instance, mountOf, tagOf}
-use Rattle.rules.specs.Outcome.{restored, Outcome, refused, says}
-use Rattle.rules.specs.Mount.{Request, noRoom, ended, walkedTo, mountThere, freed, tagAt, placed}
+use Rattle.rules.specs.Outcome.{restored, Outcome, refused}
+use Rattle.rules.specs.Mount.{Request, noRoom, freed, tagAt, restoreAs}
 use Rattle.tables.specs.View.{view}
 use Rattle.tables.specs.Rule.{laid}
 use Rattle.tables.specs.Answer.{tagIn}
@@ -33,11 +33,9 @@ abbrev pub RestoresAt : List ℕ → ℕ → ℕ → Backend → Restored → Li
 RestoresAt mem k x b r after =
     EndsAt mem k x b (restored (tagAt (mountOf (view mem .tree) x) (view mem)) (tagOf (freed (mountOf (view mem .tree) x) (view mem)) k)) 0 (restoredTold r) after
 
--- rows 4, 7 and 8, of a path with leading slash
+-- from row 4 on, of a path with leading slash (R71, R92 to R95)
 abbrev pub restoredRule : Instance → ℕ → Request → Outcome
-restoredRule i k r =
-    cond (noRoom i (r .path)) (refused NOROOM i) (cond (ltb maxIno (r .root)) (refused INODE (walkedTo (r .path) i))
-    (says (restored (tagAt (mountThere i (r .path)) i) (tagOf (freed (mountThere i (r .path)) i) k)) (placed k r (ended i (r .path)) (walkedTo (r .path) i))))
+restoredRule i k r = cond (noRoom i (r .path)) (refused NOROOM i) (restoreAs i k r)
 
 -- and the bytes after them
 unfoldable pub restoredMem : ℕ → Request → List ℕ → List ℕ

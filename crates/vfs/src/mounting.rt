@@ -86,10 +86,10 @@ fn mount_new(s: &mut [u8], path: &[u8], b: Backend) -> Mounted
     requires { ⌜ rooted (now path) ≡ true ⌝ }
     ensures { λ r. ⌜ Follows (rootedRule (view (now (s .entry))) (requestOf (now (path .entry)) b)) (rootedMem (requestOf (now (path .entry)) b) (now (s .entry))) (mountedTold r) (now (s .exit)) ⌝ }
 {
-    let mut made = [0u64; 1024];
+    let mut parents = [0u64; 1024];
     let mut starts = [0u16; 1024];
     let mut lens = [0u8; 1024];
-    match plan::plan_mount(s, path, &mut made, &mut starts, &mut lens) {
+    match plan::plan_mount(s, path, &mut parents, &mut starts, &mut lens) {
         Planned::NoRoom => Mounted::NoRoom,
         Planned::Fits { node, count } => {
             let a = allocate(s);
@@ -97,7 +97,7 @@ fn mount_new(s: &mut [u8], path: &[u8], b: Backend) -> Mounted
             match answer {
                 FsIndex::Full => Mounted::Full { count: a.count },
                 FsIndex::Index(k) => {
-                    plan::apply_plan(s, path, &made, &starts, &lens, count);
+                    plan::apply_plan(s, path, &parents, &starts, &lens, count);
                     mount_at(s, k, a.count, node, b)
                 }
             }

@@ -2,7 +2,7 @@
 ghost use mathlib.Core.Path.{_≡_};
 ghost use mathlib.Core.Bool.{true, false};
 ghost use Prim.Native.Nat.{_≤_};
-ghost use Rattle.rules.specs.Path.{tooLong};
+ghost use Rattle.rules.specs.Path.{rooted, tooLong};
 ghost use Rattle.rules.specs.Instance.{Instance};
 ghost use Rattle.rules.specs.Mount.{restoreMountRule};
 ghost use Rattle.tables.specs.View.{view};
@@ -50,16 +50,17 @@ fn restore_at(s: &mut [u8], k: u8, x: u64, b: Backend) -> Restored
 fn restore_new(s: &mut [u8], k: u8, path: &[u8], b: Backend) -> Restored
     requires { ⌜ laid (now s) ≡ true ⌝ }
     requires { ⌜ tooLong (now path) ≡ false ⌝ }
+    requires { ⌜ rooted (now path) ≡ true ⌝ }
     requires { ⌜ 1 ≤ k ⌝ }
     ensures { λ r. ⌜ Follows (restoredRule (view (now (s .entry))) k (requestOf (now (path .entry)) b)) (restoredMem k (requestOf (now (path .entry)) b) (now (s .entry))) (restoredTold r) (now (s .exit)) ⌝ }
 {
-    let mut made = [0u64; 1024];
+    let mut parents = [0u64; 1024];
     let mut starts = [0u16; 1024];
     let mut lens = [0u8; 1024];
-    match plan::plan_mount(s, path, &mut made, &mut starts, &mut lens) {
+    match plan::plan_mount(s, path, &mut parents, &mut starts, &mut lens) {
         Planned::NoRoom => Restored::NoRoom,
         Planned::Fits { node, count } => {
-            plan::apply_plan(s, path, &made, &starts, &lens, count);
+            plan::apply_plan(s, path, &parents, &starts, &lens, count);
             restore_at(s, k, node, b)
         }
     }
@@ -69,6 +70,7 @@ fn restore_new(s: &mut [u8], k: u8, path: &[u8], b: Backend) -> Restored
 fn restore_rooted(s: &mut [u8], k: u8, path: &[u8], b: Backend) -> Restored
     requires { ⌜ laid (now s) ≡ true ⌝ }
     requires { ⌜ tooLong (now path) ≡ false ⌝ }
+    requires { ⌜ rooted (now path) ≡ true ⌝ }
     requires { ⌜ 1 ≤ k ⌝ }
     ensures { λ r. ⌜ Follows (restoredRule (view (now (s .entry))) k (requestOf (now (path .entry)) b)) (restoredMem k (requestOf (now (path .entry)) b) (now (s .entry))) (restoredTold r) (now (s .exit)) ⌝ }
 {

@@ -1,7 +1,7 @@
 -- `vfs::restoring::restore_mount` meets its contract: each way through it by its law.
 use denote.Ref.{now}
 use borrow.Author.Needs.{needs}
-use Rattle.vfs.proofs.FirstRows.{Passed, small, too-long, bad-bytes, passed}
+use Rattle.vfs.proofs.FirstRows.{Passed, small, too-long, bad-bytes, passed, slash-by}
 use Rattle.vfs.proofs.RestoreCalls.{restore-begins, index-by, bad-index, large-back, no-slash-back, slash-back}
 use Rattle.vfs.proofs.restoring.restore_mount.Statement.{statement}
 use Rattle.vfs.proofs.restoring.restore_mount.Tie as tie
@@ -61,7 +61,7 @@ returns-6 c = no-slash-back _ _ _ _ (pass (c .before .before .before .before .be
 restore-rooted-requires : tie.Need-restore-rooted-requires
 restore-rooted-requires c κs =
     let p = pass (c .before .before .before .before .before .before) in
-    (p .laid, (p .fits, index-by _ (c .before .before .before .before .before .if4 .left)))
+    (p .laid, (p .fits, (slash-by _ _ (c .before .before .is-rooted .ensures) (c .before .if6 .left), index-by _ (c .before .before .before .before .before .if4 .left))))
 
 same-length-7 : tie.Need-same-length-7
 same-length-7 c = search needs

@@ -21,7 +21,7 @@ apply-plan-requires c κs = applies _ _ (c .before .before .before .before .befo
 restore-at-requires : tie.Need-restore-at-requires
 restore-at-requires c κs =
     let p = c .before .before .before .before .before .before .before .before .before .before .before .before .before .before .before .before .before .before .pre in
-    (leads-laid _ _ (p .0) (p .1 .0) _ _ (plan-leads _ _ (p .0) _ _ _ (fitted _ _ _ (c .before .before .before .before .before .before .before .before .before .before .before .plan-mount .ensures) (c .before .before .before .before .before .before .before .before .before .node .given .1)) _ (c .before .before .before .apply-plan .ensures)), p .1 .1)
+    (leads-laid _ _ (p .0) (p .1 .0) _ _ (plan-leads _ _ (p .0) _ _ _ (fitted _ _ _ (c .before .before .before .before .before .before .before .before .before .before .before .plan-mount .ensures) (c .before .before .before .before .before .before .before .before .before .node .given .1)) _ (c .before .before .before .apply-plan .ensures)), p .1 .1 .1)
 
 same-length : tie.Need-same-length
 same-length c = search needs
@@ -35,7 +35,7 @@ same-length-2 c = search needs
 returns-2 : tie.Need-returns-2
 returns-2 c =
     let p = c .before .before .before .before .before .before .before .before .before .before .before .before .before .before .before .before .before .before .before .before .before .pre in
-    restores-way _ _ _ _ (p .0) (p .1 .0) _ _ (plan-leads _ _ (p .0) _ _ _ (fitted _ _ _ (c .before .before .before .before .before .before .before .before .before .before .before .before .before .before .plan-mount .ensures) (c .before .before .before .before .before .before .before .before .before .before .before .before .node .given .1)) _ (c .before .before .before .before .before .before .apply-plan .ensures)) _ _ (c .before .before .restore-at .ensures)
+    restores-way _ _ _ _ (p .0) (p .1 .0) (p .1 .1 .0) _ _ (plan-leads _ _ (p .0) _ _ _ (fitted _ _ _ (c .before .before .before .before .before .before .before .before .before .before .before .before .before .before .plan-mount .ensures) (c .before .before .before .before .before .before .before .before .before .before .before .before .node .given .1)) _ (c .before .before .before .before .before .before .apply-plan .ensures)) _ _ (c .before .before .restore-at .ensures)
 
 pub restore-new-spec : {M : Type 1} → statement M
 restore-new-spec =

@@ -33,7 +33,7 @@ same-length-2 c = search needs
 returns-2 : tie.Need-returns-2
 returns-2 c =
     let p = c .before .before .before .before .before .before .before .before .before .before .before .pre in
-    restores-way _ _ _ _ (p .0) (p .1 .0) _ _ (found-leads _ _ (p .0) _ (reaches _ _ (c .before .before .before .before .before .before .before .walk .ensures) _ (c .before .before .before .before .before .x .given .1))) _ _ (c .before .before .restore-at .ensures)
+    restores-way _ _ _ _ (p .0) (p .1 .0) (p .1 .1 .0) _ _ (found-leads _ _ (p .0) _ (reaches _ _ (c .before .before .before .before .before .before .before .walk .ensures) _ (c .before .before .before .before .before .x .given .1))) _ _ (c .before .before .restore-at .ensures)
 
 pub restore-rooted-spec : {M : Type 1} → statement M
 restore-rooted-spec =
