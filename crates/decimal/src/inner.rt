@@ -30,7 +30,7 @@ pub fn put(out: &mut [u8], at: usize, n: u64) -> usize
     digits(out, at, n)
 }
 
-// Writes one byte at the place `at`.
+// Writes one byte at the place `at` (R145, R152).
 pub fn put_byte(out: &mut [u8], at: usize, b: u8) -> usize
     requires { ⌜ at + 1 ≤ length (now out) ⌝ }
     ensures { λ r. ⌜ Wrote (now (out .entry)) at 1 (b ∷ []) r (now (out .exit)) ⌝ }

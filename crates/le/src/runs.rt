@@ -36,7 +36,7 @@ pub fn same_at(a: &[u8], p: usize, b: &[u8], q: usize, len: usize) -> bool
     same_bytes(a, p + i, b, q + i, len - i)
 }
 
-// Copies `len` bytes of src at `from` into dst at a place (R64, R65).
+// Copies `len` bytes of src at `from` into dst at a place (R48, R64, R120).
 pub fn copy_run(dst: &mut [u8], at: usize, src: &[u8], from: usize, len: usize)
     requires { ⌜ at + len ≤ length (now dst) ⌝ }
     requires { ⌜ from + len ≤ length (now src) ⌝ }
@@ -49,7 +49,7 @@ pub fn copy_run(dst: &mut [u8], at: usize, src: &[u8], from: usize, len: usize)
     }
 }
 
-// Copies all of src into dst at a place (R64, R65).
+// Copies all of src into dst at a place (R31, R64).
 pub fn copy_at(dst: &mut [u8], at: usize, src: &[u8])
     requires { ⌜ at + length (now src) ≤ length (now dst) ⌝ }
     ensures { λ _. ⌜ now (dst .exit) ≡ write (now (dst .entry)) at (now (src .entry)) ⌝ }
@@ -70,7 +70,7 @@ pub fn shift_down(s: &mut [u8], to: usize, by: usize, len: usize)
     }
 }
 
-// Writes one byte `len` times at a place (R64, R65).
+// Writes one byte `len` times at a place (R64).
 pub fn fill_at(dst: &mut [u8], at: usize, len: usize, v: u8)
     requires { ⌜ at + len ≤ length (now dst) ⌝ }
     ensures { λ _. ⌜ now (dst .exit) ≡ write (now (dst .entry)) at (replicate len v) ⌝ }

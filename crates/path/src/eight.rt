@@ -1,4 +1,4 @@
-// Bytes of a slice looked at eight together: all eight are looked at, with no way out between, so that a compiler may compare them side by side.
+// Bytes of a slice looked at eight together, as the cells of `scan`.
 ghost use mathlib.Core.Path.{_≡_};
 ghost use Prim.Native.Nat.{_+_, _≤_};
 ghost use lib.ListN.{length};

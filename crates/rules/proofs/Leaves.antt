@@ -4,9 +4,9 @@ use mathlib.Core.Bool.{true, false, true≢false}
 use mathlib.Core.Logic.{inl, inr, ⊎-elim}
 use mathlib.Core.List.{List}
 use mathlib.Core.Option.{Option, none, some}
-use Prim.Native.Nat.{ℕ, _+_, _%_, _<_}
+use Prim.Native.Nat.{ℕ, _+_, _%_, _≤_, _<_}
 use native.Mathlib.Omega.{arith}
-use borrow.Author.Tests.{not-true, ltb-true}
+use borrow.Author.Tests.{not-true, not-false, ltb-true, ltb-false}
 use Rattle.rules.specs.Numbers.{maxIno, TOOLONG, INVAL, INODE, FULL, NOROOM, BADINDEX}
 use Rattle.rules.specs.Utf8.{wellFormed}
 use Rattle.rules.specs.Path.{rooted}
@@ -81,28 +81,28 @@ module _ (i : Instance) (r : Request) where
     values = λ f. (refl, refl);
   }
 
-  row6 : rooted (r .path) ≡ false → Leaves i (mount r) (allocated i INVAL nothing (stepped i))
-  row6 e = record {
+  row6 : wellFormed (r .path) ≡ true → rooted (r .path) ≡ false → Leaves i (mount r) (allocated i INVAL nothing (stepped i))
+  row6 u e = record {
     full = λ f. absurd (omega arith);
-    inval = λ f. inr (r, record { call = refl; slash = e; leaves = ap (λ (n : ℕ). withCounter n i) (seen-moved i) });
+    inval = λ f. inr (r, record { call = refl; utf8 = u; slash = e; leaves = ap (λ (n : ℕ). withCounter n i) (seen-moved i) });
     inode = λ f. absurd (omega arith);
     others = λ f g h k. absurd (h refl);
     values = λ f. (refl, refl);
   }
 
-  row7 : maxIno < r .root → Leaves i (mount r) (allocated i INODE nothing (walkedTo (r .path) (stepped i)))
-  row7 b = record {
+  row7 : r .largest ≤ maxIno → maxIno < r .root → Leaves i (mount r) (allocated i INODE nothing (walkedTo (r .path) (stepped i)))
+  row7 l b = record {
     full = λ f. absurd (omega arith);
     inval = λ f. absurd (omega arith);
-    inode = λ f. inr (inl (r, record { call = refl; root = b; leaves = ap (λ (n : ℕ). walkedTo (r .path) (withCounter n i)) (seen-moved i) }));
+    inode = λ f. inr (inl (r, record { call = refl; largest = l; root = b; leaves = ap (λ (n : ℕ). walkedTo (r .path) (withCounter n i)) (seen-moved i) }));
     others = λ f g h k. absurd (k refl);
     values = λ f. (refl, refl);
   }
 
-  mount-as : (k : Option ℕ) → allocation i .found ≡ k → Leaves i (mount r) (mountAs i r k)
+  mount-as : wellFormed (r .path) ≡ true → r .largest ≤ maxIno → (k : Option ℕ) → allocation i .found ≡ k → Leaves i (mount r) (mountAs i r k)
   unfolding mountAs
-  mount-as none e = row5 e
-  mount-as (some k) e = first-of (Leaves i (mount r)) _ _ (λ a. row6 (not-true (rooted (r .path)) a), λ a. (λ b. row7 (ltb-true maxIno (r .root) b), λ b. done i (mount r) _ refl))
+  mount-as u l none e = row5 e
+  mount-as u l (some k) e = first-of (Leaves i (mount r)) _ _ (λ a. row6 u (not-true (rooted (r .path)) a), λ a. (λ b. row7 l (ltb-true maxIno (r .root) b), λ b. done i (mount r) _ refl))
 
   mount-leaves : Leaves i (mount r) (mountRule i r)
   unfolding mountRule
@@ -116,7 +116,7 @@ module _ (i : Instance) (r : Request) where
             λ d. (
               λ n. plainly i (mount r) NOROOM (λ e. omega arith) (λ e. omega arith) (λ e. omega arith),
               λ n.
-                  mount-as (allocation i .found) refl,
+                  mount-as (not-false _ b) (ltb-false maxIno (r .largest) d) (allocation i .found) refl,
             ),
           ),
         ),
@@ -143,11 +143,11 @@ module _ (i : Instance) (k : ℕ) (r : Request) where
   restored-row3 l q (inl e) = let z : _≡_ {A = ℕ} 0 1 = cc in absurd (omega arith)
   restored-row3 l q (inr (j, e)) = let s : r ≡ q = cc in rw (sym s) l
 
-  restored-row7 : maxIno < r .root → Leaves i call (refused INODE (walkedTo (r .path) i))
-  restored-row7 b = record {
+  restored-row7 : r .largest ≤ maxIno → maxIno < r .root → Leaves i call (refused INODE (walkedTo (r .path) i))
+  restored-row7 l b = record {
     full = λ f. absurd (omega arith);
     inval = λ f. absurd (omega arith);
-    inode = λ f. inr (inr (k, r, record { call = refl; root = b; leaves = refl }));
+    inode = λ f. inr (inr (k, r, record { call = refl; largest = l; root = b; leaves = refl }));
     others = λ f g h l. absurd (l refl);
     values = λ f. (refl, refl);
   }
@@ -156,9 +156,9 @@ module _ (i : Instance) (k : ℕ) (r : Request) where
   restored-inval : Leaves i call (refused INVAL i)
   restored-inval = kept i call INVAL (λ e. omega arith) (λ e. no-mount) (λ e. absurd (omega arith))
 
-  restored-as : Leaves i call (restoreAs i k r)
+  restored-as : r .largest ≤ maxIno → Leaves i call (restoreAs i k r)
   unfolding restoreAs
-  restored-as = first-of (Leaves i call) _ _ (λ a. restored-inval, λ a. (λ b. restored-row7 (ltb-true maxIno (r .root) b), λ b. done i call _ refl))
+  restored-as m = first-of (Leaves i call) _ _ (λ a. restored-inval, λ a. (λ b. restored-row7 m (ltb-true maxIno (r .root) b), λ b. done i call _ refl))
 
   restored-leaves : Leaves i call (restoreMountRule i k r)
   unfolding restoreMountRule
@@ -171,7 +171,7 @@ module _ (i : Instance) (k : ℕ) (r : Request) where
             λ d. plainly i call BADINDEX (λ e. omega arith) (λ e. omega arith) (λ e. omega arith),
             λ d. (
               λ l. kept i call INODE (λ e. omega arith) (λ e. absurd (omega arith)) (λ e. restored-row3 (ltb-true maxIno (r .largest) l)),
-              λ l. (λ n. plainly i call NOROOM (λ e. omega arith) (λ e. omega arith) (λ e. omega arith), λ n. restored-as),
+              λ l. (λ n. plainly i call NOROOM (λ e. omega arith) (λ e. omega arith) (λ e. omega arith), λ n. restored-as (ltb-false maxIno (r .largest) l)),
             ),
           ),
         ),

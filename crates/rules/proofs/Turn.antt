@@ -17,7 +17,7 @@ use Rattle.rules.specs.Mount.{Request, freed, placed, allocation, steppe
 use Rattle.rules.specs.Unmount.{unmounts, unmountAt, unmountRule, reached, mountUnder}
 use Rattle.rules.specs.Restore.{restoreRule}
 use Rattle.rules.specs.Calls.{Call, mount, rule}
-use Rattle.rules.specs.Trace.{NoRestore, Moves, Keeps, Answers, EveryMount, OnlyMounts}
+use Rattle.rules.specs.Trace.{NoRestore, Moves, Keeps, MountAnswers, EveryMount, OnlyMounts}
 use Rattle.rules.proofs.Rows.{each-of}
 use Rattle.rules.proofs.Still.{every-call}
 use Rattle.rules.proofs.Held.{freed-slots}
@@ -54,11 +54,11 @@ mount-as i r (some k) =
     (moves i (stepped i) r _ _ refl, (moves i j r _ _ refl, moves i _ r _ _ (placed-counter k r (ended i (r .path)) j)))
 
 -- a done one answers what its allocation found
-answers-as : (i : Instance) (r : Request) (k : Option ℕ) → allocation i .found ≡ k → mountAs i r k .code ≡ 0 → (j : ℕ) × Answers i r (mountAs i r k) j
+answers-as : (i : Instance) (r : Request) (k : Option ℕ) → allocation i .found ≡ k → mountAs i r k .code ≡ 0 → (j : ℕ) × MountAnswers i r (mountAs i r k) j
 unfolding mountAs
 answers-as i r none e = λ z. absurd (omega arith)
 answers-as i r (some k) e =
-    each-of (λ (o : Outcome). o .code ≡ 0 → (j : ℕ) × Answers i r o j) _ _ (
+    each-of (λ (o : Outcome). o .code ≡ 0 → (j : ℕ) × MountAnswers i r o j) _ _ (
       λ z. absurd (omega arith),
       (
         λ z. absurd (omega arith),
@@ -66,10 +66,10 @@ answers-as i r (some k) e =
       ),
     )
 
-answers-done : (i : Instance) (r : Request) → mountRule i r .code ≡ 0 → (k : ℕ) × Answers i r (mountRule i r) k
+answers-done : (i : Instance) (r : Request) → mountRule i r .code ≡ 0 → (k : ℕ) × MountAnswers i r (mountRule i r) k
 unfolding mountRule
 answers-done i r =
-    each-of (λ (o : Outcome). o .code ≡ 0 → (k : ℕ) × Answers i r o k) _ _
+    each-of (λ (o : Outcome). o .code ≡ 0 → (k : ℕ) × MountAnswers i r o k) _ _
     (λ z. absurd (omega arith), (λ z. absurd (omega arith), (λ z. absurd (omega arith), (λ z. absurd (omega arith), answers-as i r (allocation i .found) refl))))
 
 -- the theorem: a mount that rows 1 to 4 let pass makes its allocation, and what it finds is what is answered

@@ -99,7 +99,7 @@ pub data Rooted (ns : List Node) : ℕ → Type 0 where
   top : Rooted ns rootNumber
   under : (x : ℕ) (n : Node) → nodeIn ns x ≡ some n → Rooted ns (n .above) → Rooted ns x
 
--- a path leads to such a number alone; so what stands under a removed node stays live, and no path reaches it (R101)
+-- a path leads to such a number alone; so no path reaches what stands under a removed node (R101)
 abbrev pub EveryReached : Type 0
 EveryReached = (i : Instance) → Driven i → (path : List ℕ) (x : ℕ) → reached i path ≡ some x → Rooted (i .tree .nodes) x
 

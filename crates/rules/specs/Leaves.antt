@@ -1,6 +1,6 @@
 -- Demand 1, what a refusal leaves: the column "leaves" of the refusal table, once over all calls, by the number.
-use Prim.Native.Nat.{ℕ, _+_, _%_, _<_}
-use mathlib.Core.Bool.{false}
+use Prim.Native.Nat.{ℕ, _+_, _%_, _≤_, _<_}
+use mathlib.Core.Bool.{true, false}
 use mathlib.Core.Logic.{_⊎_}
 use mathlib.Core.List.{[]}
 use mathlib.Core.Path.{_≡_}
@@ -16,21 +16,24 @@ use Rattle.rules.specs.Calls.{Call, mount, restore-mount, rule}
 abbrev pub moved : Instance → Outcome → Instance
 moved i o = withCounter ((counterOf i + count o) % 256) i
 
--- a mount refused for its missing slash: the counter alone (R73)
+-- a mount refused for its missing slash, which row 2 let pass: the counter alone (R69, R73)
 pub record Row6 (i : Instance) (c : Call) (o : Outcome) (r : Request) : Type 0 where
   pub call : c ≡ mount r
+  pub utf8 : wellFormed (r .path) ≡ true
   pub slash : rooted (r .path) ≡ false
   pub leaves : o .after ≡ moved i o
 
--- a mount refused for its root number: the counter, the next number, and the nodes made behind the others (R74)
+-- a mount refused for its root number, which row 3 let pass: the counter, the next number, and the nodes made behind the others (R70, R74)
 pub record Row7 (i : Instance) (c : Call) (o : Outcome) (r : Request) : Type 0 where
   pub call : c ≡ mount r
+  pub largest : r .largest ≤ maxIno
   pub root : maxIno < r .root
   pub leaves : o .after ≡ walkedTo (r .path) (moved i o)
 
 -- the same of a restored mount, without the counter (R92)
 pub record RestoredRow7 (i : Instance) (c : Call) (o : Outcome) (k : ℕ) (r : Request) : Type 0 where
   pub call : c ≡ restore-mount k r
+  pub largest : r .largest ≤ maxIno
   pub root : maxIno < r .root
   pub leaves : o .after ≡ walkedTo (r .path) i
 

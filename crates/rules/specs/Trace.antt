@@ -53,19 +53,20 @@ pub record Keeps (i : Instance) (o : Outcome) : Type 0 where
   pub counter : counterOf (o .after) ≡ counterOf i
 
 -- what a done mount answers is the index k that its allocation found, and the slot of k holds the request's tag (R75, R76, R85)
-pub record Answers (i : Instance) (r : Request) (o : Outcome) (k : ℕ) : Type 0 where
+pub record MountAnswers (i : Instance) (r : Request) (o : Outcome) (k : ℕ) : Type 0 where
   pub found : o .found ≡ some k
   pub told : (t : Option ℕ) × (o .answer ≡ mounted k t)
   pub holds : k < length (i .indexes .slots) → tagOf (o .after) k ≡ some (r .tag)
 
--- of every mount: if rows 1 to 4 let it pass it makes its allocation, and if it is done it answers by that (R68 to R75, R82, R83)
-pub record Allocates (i : Instance) (r : Request) (o : Outcome) : Type 0 where
+-- what a mount does: if rows 1 to 4 let it pass it makes its allocation, and if it is done it answers by that (R68 to R75, R82, R83)
+pub record MountAllocates (i : Instance) (r : Request) (o : Outcome) : Type 0 where
   pub moves : tooLong (r .path) ≡ false → wellFormed (r .path) ≡ true → r .largest ≤ maxIno → (rooted (r .path) && noRoom i (r .path)) ≡ false
       → Moves i (mount r) o r
-  pub answers : o .code ≡ 0 → (k : ℕ) × Answers i r o k
+  pub answers : o .code ≡ 0 → (k : ℕ) × MountAnswers i r o k
 
+-- of every mount on every instance (R68 to R76, R85)
 abbrev pub EveryMount : Type 0
-EveryMount = (i : Instance) (r : Request) → Allocates i r (mountRule i r)
+EveryMount = (i : Instance) (r : Request) → MountAllocates i r (mountRule i r)
 
 -- no call but an allocation, and a done state restore, moves the counter or visits an index (R89)
 abbrev pub OnlyMounts : Type 0

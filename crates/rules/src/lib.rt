@@ -1,34 +1,47 @@
-// The numbers of the trade (R5 to R13, R150), for the code of the crates above; the rules themselves stand in specs/.
+// The numbers of the trade, for the code of the crates above; the rules themselves stand in specs/.
 pub mod codes;
 
+// The largest node number and the largest backend number (R5).
 pub const VFS_MAX_INO: u64 = 72057594037927935;
 
+// How many numbers there are, 0 among them: cells are read modulo this (R5).
 pub const NUMBERS: u64 = VFS_MAX_INO + 1;
 
 // The index of the tree itself (R11).
 pub const VFS_PSEUDO_FS_IDX: u8 = 0;
 
+// The root's number (R12).
 pub const ROOT_ID: u64 = 1;
 
+// The number of the first new node (R12).
 pub const FIRST_NODE: u64 = 2;
 
+// The largest N (R9).
 pub const MAX_NODES: usize = 1024;
 
+// The bytes of the longest name (R10).
 pub const MAX_NAME: usize = 255;
 
+// The bytes of the longest mount path (R10).
 pub const MAX_PATH: usize = 4096;
 
+// The bytes of the longest line of a session (R150).
 pub const MAX_LINE: usize = 8192;
 
-// The saved state: a record without its name, the options, the trailer, and these two (R120, R121, R123).
+// The bytes of a node record without its name (R120).
 pub const RECORD: usize = 18;
 
+// The bytes of the options (R121).
 pub const OPTIONS: usize = 32;
 
+// The bytes of the trailer (R123).
 pub const TRAILER: usize = 24;
 
+// The bytes behind the records: options and trailer (R129 a).
 pub const TAIL: usize = OPTIONS + TRAILER;
 
+// The mode of a pseudo entry (R13).
 pub const DIR_MODE: u32 = 16895;
 
+// The block size of a pseudo entry (R13).
 pub const BLOCK_SIZE: u32 = 4096;

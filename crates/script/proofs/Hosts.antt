@@ -1,4 +1,4 @@
--- Every host reads every input to its end. Assumes nothing.
+-- A host reads every input to its end. Assumes the host: that its calls answer by their contracts.
 use Prim.Native.Nat.{ℕ, zero, suc, _+_, _≤_}
 use native.Mathlib.Omega.{arith}
 use mathlib.Core.Path.{_≡_, refl, sym, ap, _∙_}

@@ -1,4 +1,4 @@
--- A whole input in any pieces: the calls that read it, each as its contract allows it, what is claimed of all that they write, and that there are such calls.
+-- A whole input in any pieces: the calls that read it, each as its contract allows it, what is claimed of all that they write, and that a host whose calls answer by their contracts reads every input to its end.
 use Prim.Native.Nat.{ℕ, _^_, _≤_, _<_}
 use mathlib.Core.Bool.{true}
 use mathlib.Core.List.{List, [], _∷_, _++_}
@@ -83,7 +83,7 @@ abbrev pub EveryFeed : Type 0
 EveryFeed = (mem carry : List ℕ) (kept : ℕ) (piece out : List ℕ) (r : Fed) (after carried left : List ℕ)
     → Feeds mem carry kept piece out r after carried left → Onward carry kept piece out r carried
 
--- ---- there is such a run
+-- ---- the run of a host
 
 -- what can be lent: bytes, below 2^63 of them
 pub record Lent (s : List ℕ) : Type 0 where

@@ -15,7 +15,7 @@ fn is_not_plain(b: u8) -> bool
     127 < b
 }
 
-// Whether one of the eight bytes at a place is 0, or 128 or more (R35, R57): all eight are looked at, with no way out between, so that a compiler may compare them side by side.
+// Whether one of the eight bytes at a place is 0, or 128 or more (R35, R57); eight together, as the cells of `scan`.
 pub fn any_not_plain(s: &[u8], at: usize) -> bool
     requires { ⌜ at + 8 ≤ length (now s) ⌝ }
     ensures { λ r. ⌜ r ≡ anyOf (notPlainAt (now (s .entry))) at 8 ⌝ }
