@@ -13,6 +13,7 @@ import math
 import os
 import sys
 
+sys.dont_write_bytecode = True
 from crates_list import dependencies
 
 ROOT = os.path.dirname(os.path.dirname(os.path.abspath(__file__)))

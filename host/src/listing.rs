@@ -16,7 +16,7 @@ pub struct DirEntry<'a> {
 
 /// The records that [`readdir`](crate::Vfs::readdir) wrote, one after another.
 ///
-/// It ends at the first record whose name is cut.
+/// It ends at the first record whose head or name is cut.
 #[derive(Clone, Debug)]
 pub struct DirEntries<'a> {
     rest: &'a [u8],

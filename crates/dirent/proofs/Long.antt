@@ -170,7 +170,7 @@ module _ (d : List ℕ) (ino off : ℕ) (src : List ℕ) (from len last : ℕ) (
   size : length name ≡ len
   size = length-append (read src from (len - 7)) (bytesOf 7 last) ∙ omega (arith, length-read src from (len - 7), length-bytesOf 7 last)
 
-  pub long : length (dirent ino off name) ≡ 24 + (len + 7) / 8 * 8
+  long : length (dirent ino off name) ≡ 24 + (len + 7) / 8 * 8
   long = omega (arith, entry-length ino off name, size)
 
   pub long-out : length d < 24 + (len + 7) / 8 * 8 → Lays d (length d) (dirent ino off name ∷ []) 0 d

@@ -25,7 +25,7 @@ length-put k mem at v = length-write mem at (bytesOf k v)
 
 -- ---- k + j bytes as k, then j
 
-pub bytes-add : (k j v : ℕ) → bytesOf (k + j) v ≡ bytesOf k (v % 256 ^ k) ++ bytesOf j (v / 256 ^ k)
+bytes-add : (k j v : ℕ) → bytesOf (k + j) v ≡ bytesOf k (v % 256 ^ k) ++ bytesOf j (v / 256 ^ k)
 unfolding bytesOf
 bytes-add zero j v = rw (zero-add, div-one)
 bytes-add (suc k) j v =

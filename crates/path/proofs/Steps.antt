@@ -41,10 +41,10 @@ module _ (s : List ℕ) (at : ℕ) where
   abbrev pub word : List ℕ
   word = part s at (wordLength (drop at s))
 
-  pub word-length : length word ≡ wordLength (drop at s)
+  word-length : length word ≡ wordLength (drop at s)
   word-length = length-take-le (wordLength (drop at s)) (drop at s) (part-le slash (drop at s))
 
-  pub word-between : {end : ℕ} → end ≡ wordEnd s at → between s at end ≡ word
+  word-between : {end : ℕ} → end ≡ wordEnd s at → between s at end ≡ word
   word-between e = rw (e, end-length slash s at)
 
   -- the components from its end on
@@ -71,7 +71,7 @@ pub data Sort (w : List ℕ) : Type 0 where
   double : w ≡ dot ∷ dot ∷ [] → Sort w
   plain : 0 < length w → ((at : ℕ) (ps : List Part) → sorted at w ps ≡ name at w ∷ ps) → Sort w
 
-pub sort : (w : List ℕ) → Sort w
+sort : (w : List ℕ) → Sort w
 unfolding sorted
 sort w = go (same w []) (isDot w) (isDots w) refl refl refl
   where

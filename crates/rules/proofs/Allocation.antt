@@ -21,7 +21,7 @@ module _ (held : ℕ → Bool) where
       let z = eqb-false k 0 (not-true (eqb k 0) (b .0)) in
       (⊎-elim (λ (w : k ≡ 0). absurd (z w)) (λ (p : 0 < k). p) (eq-zero-or-pos k), not-true (held k) (b .1))
 
-  pub is-free : (k : ℕ) → 0 < k → held k ≡ false → freeOf held k ≡ true
+  is-free : (k : ℕ) → 0 < k → held k ≡ false → freeOf held k ≡ true
   is-free k p e = rw (ne-eqb k 0 (λ z. omega arith), e)
 
   -- one that is not free is 0 or held
@@ -31,7 +31,7 @@ module _ (held : ℕ → Bool) where
       (λ (p : 0 < k). ⊎-elim (λ (t : held k ≡ true). inr t) (λ (f : held k ≡ false). absurd (true≢false (sym (is-free k p f) ∙ e))) (known (held k)))
       (eq-zero-or-pos k)
 
-  pub zero-held : (k : ℕ) → (k ≡ 0) ⊎ (held k ≡ true) → freeOf held k ≡ false
+  zero-held : (k : ℕ) → (k ≡ 0) ⊎ (held k ≡ true) → freeOf held k ≡ false
   zero-held k (inl z) = rw (eq-eqb k 0 z)
   zero-held k (inr t) = ⊎-elim (λ (z : k ≡ 0). rw (eq-eqb k 0 z)) (λ (p : 0 < k). rw (t, ne-eqb k 0 (λ z. omega arith))) (eq-zero-or-pos k)
 

@@ -157,7 +157,7 @@ module _ (c : List ℕ) (x : ℕ) where
   unfolding listed
   listed-none j e = rw e
 
-  pub listed-present : (b : List ℕ) (i : ℕ) → Column (λ (j : ℕ). nodeAt b (startOf b j) .number) i c → listed x c i ≡ present x (earlier b i)
+  listed-present : (b : List ℕ) (i : ℕ) → Column (λ (j : ℕ). nodeAt b (startOf b j) .number) i c → listed x c i ≡ present x (earlier b i)
   unfolding listed present earlier
   listed-present b zero h = refl
   listed-present b (suc i) h = rw (h i (omega arith), listed-present b i (λ j l. h j (omega arith)))

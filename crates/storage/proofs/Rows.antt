@@ -6,7 +6,7 @@ use Prim.Native.Nat.{ℕ, suc, _+_, _-_, _*_, _%_, _^_, _≤_, _<_}
 use native.Mathlib.Nat.{mod-eq-of-lt, add-zero}
 use native.Mathlib.Omega.{arith}
 use lib.ListN.{length, take, drop, length-append, length-take, length-drop}
-use Rattle.le.specs.Mem.{read, value, bytesOf}
+use Rattle.le.specs.Mem.{read, bytesOf}
 use Rattle.rules.specs.Bytes.{Bytes}
 use Rattle.rules.specs.Tree.{Mount, Node}
 use Rattle.rules.proofs.Fields.{length-bytesOf}

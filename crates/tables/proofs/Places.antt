@@ -31,7 +31,7 @@ pub record First (ns : List Node) (x i : ℕ) : Type 0 where
   pub mounted : (m : Option Mount) → mountAt m ns x ≡ set ns i (withMount m (getD ns i nobody))
   pub gone : without ns x ≡ removeAt i ns
 
-pub place-first : (ns : List Node) (x i : ℕ) → placeIn ns x ≡ some i → First ns x i
+place-first : (ns : List Node) (x i : ℕ) → placeIn ns x ≡ some i → First ns x i
 unfolding placeIn nodeIn mountAt without removeAt
 place-first [] x i e = absurd (Option·none-ne-some _ e)
 place-first (n ∷ ns) x i e = go (eqb (n .number) x) refl (placeIn ns x) refl e (place-first ns x)

@@ -1,14 +1,13 @@
 -- What each write does to the instance that the bytes stand for. Assumes nothing.
-use mathlib.Core.Path.{_≡_, refl, ap, _∙_, subst}
-use mathlib.Core.Bool.{Bool, true, false, not}
+use mathlib.Core.Path.{_≡_, ap, _∙_, subst}
+use mathlib.Core.Bool.{Bool}
 use mathlib.Core.Logic.{_⊎_, inl, inr, ⊎-elim}
-use mathlib.Core.List.{List, [], _∷_, _++_, append-nil}
+use mathlib.Core.List.{List, [], _∷_, _++_}
 use mathlib.Core.Option.{Option, none, some}
 use Prim.Native.Nat.{ℕ, suc, _+_, _-_, _*_, _^_, _≤_, _<_}
 use native.Mathlib.Nat.{mod-eq-of-lt, zero-add}
 use native.Mathlib.Omega.{arith}
 use lib.ListN.{length, set}
-use lib.Dec.{eqb}
 use Rattle.le.specs.Mem.{read, value, bytesOf, get}
 use Rattle.rules.proofs.Fields.{length-bytesOf, value-bytes}
 use Rattle.rules.proofs.Tests.{le-or-lt}

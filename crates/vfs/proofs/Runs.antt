@@ -23,7 +23,7 @@ use Rattle.vfs.specs.Runs.{Step, Allowed, Run, callsOf, counts, EveryLap
 use Rattle.vfs.proofs.MountWays.{counter-in}
 
 -- the counts that are told are those of the rules
-pub same-total : (ss : List Step) (mem : List ℕ) → laid mem ≡ true → Run mem ss → counts ss ≡ total (stepsOf (view mem) (callsOf ss))
+same-total : (ss : List Step) (mem : List ℕ) → laid mem ≡ true → Run mem ss → counts ss ≡ total (stepsOf (view mem) (callsOf ss))
 unfolding Run callsOf counts total stepsOf
 same-total [] mem l r = refl
 same-total (s ∷ ss) mem l (b, (a, r)) =

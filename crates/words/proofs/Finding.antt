@@ -59,11 +59,11 @@ module _ (s : List ℕ) (at : ℕ) where
       ap numbersOf (first-part space (drop at s))
       ∙ rw (none-behind (drop (partLength space (drop at s)) (drop at s)), drop-drop 1 (partLength space (drop at s)) (drop at s), behind-end space s at, end-length space s at)
 
-  pub from-value : (v : ℕ) → numberTo largest (between s at (partEnd space s at)) ≡ valueIn (Value v) → from s at ≡ v ∷ from s (partEnd space s at + 1)
+  from-value : (v : ℕ) → numberTo largest (between s at (partEnd space s at)) ≡ valueIn (Value v) → from s at ≡ v ∷ from s (partEnd space s at + 1)
   unfolding valueIn
   from-value v e = from-word ∙ ap (λ (o : Option ℕ). before o (from s (partEnd space s at + 1))) (sym (of-width 64 largest refl (between s at (partEnd space s at))) ∙ e)
 
-  pub from-bad : numberTo largest (between s at (partEnd space s at)) ≡ valueIn Bad → from s at ≡ from s (partEnd space s at + 1)
+  from-bad : numberTo largest (between s at (partEnd space s at)) ≡ valueIn Bad → from s at ≡ from s (partEnd space s at + 1)
   unfolding valueIn
   from-bad e = from-word ∙ ap (λ (o : Option ℕ). before o (from s (partEnd space s at + 1))) (sym (of-width 64 largest refl (between s at (partEnd space s at))) ∙ e)
 

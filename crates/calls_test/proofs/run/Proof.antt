@@ -59,7 +59,9 @@ part-expanded-start : tie.Need-part-expanded-start Inv-loop μ-loop
 part-expanded-start c = omega (arith, end-in _ _ _ (c .part-end .ensures) (le-of-lt (c .before .if1 .left)) .0)
 
 part-expanded-end : tie.Need-part-expanded-end Inv-loop μ-loop
-part-expanded-end c = omega (arith, end-in _ _ _ (c .part-end .ensures) (le-of-lt (c .before .if1 .left)) .0, end-in _ _ _ (c .part-end .ensures) (le-of-lt (c .before .if1 .left)) .1)
+part-expanded-end c =
+    let p = end-in _ _ _ (c .part-end .ensures) (le-of-lt (c .before .if1 .left)) in
+    omega (arith, p .0, p .1)
 
 expanded-requires : tie.Need-expanded-requires Inv-loop μ-loop
 expanded-requires c κs = search needs

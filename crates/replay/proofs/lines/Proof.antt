@@ -28,7 +28,9 @@ part-line-start : tie.Need-part-line-start Inv-loop μ-loop
 part-line-start c = omega (arith, end-in _ _ _ (c .part-end .ensures) (le-of-lt (c .before .loop-test .taken)) .0)
 
 part-line-end : tie.Need-part-line-end Inv-loop μ-loop
-part-line-end c = omega (arith, end-in _ _ _ (c .part-end .ensures) (le-of-lt (c .before .loop-test .taken)) .0, end-in _ _ _ (c .part-end .ensures) (le-of-lt (c .before .loop-test .taken)) .1)
+part-line-end c =
+    let p = end-in _ _ _ (c .part-end .ensures) (le-of-lt (c .before .loop-test .taken)) in
+    omega (arith, p .0, p .1)
 
 line-requires : tie.Need-line-requires Inv-loop μ-loop
 line-requires c κs = search needs

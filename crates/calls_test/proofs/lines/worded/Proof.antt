@@ -25,7 +25,9 @@ part-decoded-start : tie.Need-part-decoded-start
 part-decoded-start c = omega (arith, end-in _ _ _ (c .part-end2 .ensures) (search needs) .0)
 
 part-decoded-end : tie.Need-part-decoded-end
-part-decoded-end c = omega (arith, end-in _ _ _ (c .part-end2 .ensures) (search needs) .0, end-in _ _ _ (c .part-end2 .ensures) (search needs) .1)
+part-decoded-end c =
+    let p = end-in _ _ _ (c .part-end2 .ensures) (search needs) in
+    omega (arith, p .0, p .1)
 
 decoded-requires : tie.Need-decoded-requires
 decoded-requires c κs = search needs

@@ -1,0 +1,1 @@
+"""The rules in Python, from which the vectors are made."""
