@@ -16,20 +16,21 @@ use Rattle.rules.specs.Ids.{badMapping}
 use Rattle.rules.specs.Tree.{Mount, Node, isNone}
 use Rattle.rules.specs.Instance.{Slot, Instance, emptySlot, heldIn}
 use Rattle.rules.specs.Outcome.{Outcome}
+use Rattle.rules.specs.Mount.{allocation}
 use Rattle.rules.specs.Create.{Creation, outside, unknown, badOptions, tooSmall, newInstance, createRule}
-use Rattle.rules.specs.Saved.{stateOf, valid, accepted, goodNodes}
-use Rattle.rules.specs.Restore.{entriesFor, nodesFrom, noNodes, fresh, restoredTo, restoreRule}
+use Rattle.rules.specs.Saved.{stateOf, valid, goodNodes}
+use Rattle.rules.specs.Restore.{entriesFor, nodesFrom, noNodes, fresh, restoredTo}
 use Rattle.rules.specs.Calls.{Call, rule}
 use Rattle.rules.specs.Driven.{Typed, creation, call, Rises, Below, Named, Unique, Shape, IsAt, MountIn, Mounted, Facts, EveryDriven, EveryReached}
 use Rattle.rules.proofs.Tests.{le-or-lt, and-both, or-neither, passed}
 use Rattle.rules.proofs.Rows.{first-of}
 use Rattle.rules.proofs.Ids.{within}
 use Rattle.rules.proofs.Walk.{path-rooted}
-use Rattle.rules.proofs.Still.{every-call}
+use Rattle.rules.proofs.Ways.{Restorable, every-call}
 use Rattle.rules.proofs.Accepted.{clauses, fits}
 use Rattle.rules.proofs.Shape.{entries-from, entries-length}
 use Rattle.rules.proofs.Good.{good-shape}
-use Rattle.rules.proofs.MountFacts.{Keeps, mount-facts, restored-facts, unmount-facts}
+use Rattle.rules.proofs.MountFacts.{Keeps, mount-as, restored-as, unmounted}
 
 -- ---- state restore
 
@@ -51,12 +52,11 @@ none-held i f e k h =
     let n : IsAt k none ⊎ MountIn k [] = subst (λ (x : Option Mount). IsAt k x ⊎ MountIn k []) (no-root (i .tree .root) (b .1)) (subst (λ (x : List Node). IsAt k (i .tree .root) ⊎ MountIn k x) (no-nodes (i .tree .nodes) (b .0)) m) in
     ⊎-elim (λ w. w) (λ w. w) n
 
-module _ (i : Instance) (b : List ℕ) (f : Facts i) (bytes : Bytes b) (fresh-is : fresh i ≡ true) (ok : accepted b ≡ true)
-    (options-ok : unknown (i .fixed .known) (stateOf b .options) ≡ false) (room-ok : ltb (i .fixed .capacity) (1 + length (stateOf b .nodes)) ≡ false) where
+module _ (i : Instance) (b : List ℕ) (f : Facts i) (bytes : Bytes b) (ok : Restorable i b) where
   valid-parts : (2 ≤ stateOf b .next) × (stateOf b .next ≤ topNumber) × (goodNodes (stateOf b .next) [] (stateOf b .nodes) ≡ true)
   unfolding valid
   valid-parts =
-      let t = passed _ (clauses b ok .1) in
+      let t = passed _ (clauses b (ok .is-accepted) .1) in
       (leb-true 2 (stateOf b .next) (t .0), leb-true (stateOf b .next) topNumber (t .1 .0), t .1 .1 .0)
 
   state-facts : Facts (restoredTo (stateOf b) i)
@@ -64,36 +64,32 @@ module _ (i : Instance) (b : List ℕ) (f : Facts i) (bytes : Bytes b) (fresh-is
   state-facts =
       let s = stateOf b in
       let v = valid-parts in
-      let w = fits b bytes ok in
+      let w = fits b bytes (ok .is-accepted) in
       let shape : Shape (entriesFor (nodesFrom (s .nodes))) (s .next) = rw (entries-from (s .nodes)) (good-shape (s .next) (s .nodes) (v .0) (v .2)) in
       let size : length (nodesFrom (s .nodes)) ≡ length (s .nodes) = sym (entries-length (nodesFrom (s .nodes))) ∙ ap length (entries-from (s .nodes)) in
       record {
         shape = shape;
         top = v .1;
-        room = omega (arith, size, ltb-false (i .fixed .capacity) (1 + length (s .nodes)) room-ok);
+        room = omega (arith, size, ltb-false (i .fixed .capacity) (1 + length (s .nodes)) (ok .room));
         capacity = f .capacity;
         mask = f .mask;
         mapping = f .mapping;
-        within = options-ok;
+        within = ok .options;
         options = w .options;
         slots = f .slots;
         counter = w .counter;
-        held = λ k h. absurd (none-held i f fresh-is k h);
+        held = λ k h. absurd (none-held i f (ok .is-fresh) k h);
       }
-
-restore-facts : (i : Instance) (b : List ℕ) → Bytes b → Facts i → Keeps (restoreRule i b)
-unfolding restoreRule
-restore-facts i b bytes f =
-    first-of Keeps _ _ (λ a. f, λ a. (λ c. f, λ c. (λ d. f, λ d. (λ e. f, λ e. state-facts i b f bytes (not-false _ a) (not-false _ c) d e))))
 
 -- ---- every call, and creation
 
 call-facts : (i : Instance) (c : Call) → Typed c → Facts i → Keeps (rule i c)
 call-facts = every-call (λ (i : Instance) (c : Call) (o : Outcome). Typed c → Facts i → Keeps o) (record {
   still = λ i c o m s t f. subst Facts (sym (s .after)) f;
-  mounts = λ i r t f. mount-facts i r f;
-  restores-mount = λ i k r t f. restored-facts i k r f;
-  unmounts = λ i path t f. unmount-facts i path f;
+  early = λ i c code e t f. f;
+  mounts = λ i r p t f. mount-as i r f p (allocation i .found);
+  restores-mount = λ i k r p t f. restored-as i r f p k;
+  unmounted = λ i path x m e t f. unmounted i x m e f;
   sets-removal = λ i t f. record {
     shape = f .shape;
     top = f .top;
@@ -107,7 +103,7 @@ call-facts = every-call (λ (i : Instance) (c : Call) (o : Outcome). Typed c →
     counter = f .counter;
     held = f .held;
   };
-  restores = λ i b t f. restore-facts i b (t b refl) f;
+  restored = λ i b ok t f. state-facts i b f (t b refl) ok;
 })
 
 within-mask : (known bits : ℕ) → outside known bits ≡ false → bits ≤ known

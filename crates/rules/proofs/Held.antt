@@ -13,27 +13,23 @@ use borrow.Author.Tests.{eqb-true, eqb-false}
 use Rattle.rules.specs.Numbers.{rootNumber}
 use Rattle.rules.specs.Tree.{Mount, Node, nodeIn, withMount, mountAt, without}
 use Rattle.rules.specs.Instance.{Slot, Tree, Instance, emptySlot, heldBy, heldIn, withSlot, withTree, mountIn, mountOf, setMount, grown, cut}
-use Rattle.rules.specs.Mount.{Request, freed, mountOn, placed}
+use Rattle.rules.specs.Mount.{Request, freedSlots, freed, mountOn, placed}
 use Rattle.rules.specs.Unmount.{taken}
 use Rattle.rules.specs.Driven.{IsAt, MountIn, Mounted, Rooted}
 use Rattle.rules.proofs.Tests.{le-or-lt}
 use Rattle.rules.proofs.Walk.{reached-live}
+use Rattle.rules.proofs.Slots.{emptied-slot}
 
 abbrev pub Held : Instance → Type 0
 Held i = (q : ℕ) → heldIn i q ≡ true → Mounted q (i .tree)
 
 -- ---- slots
 
-freed-not-held : (slots : List Slot) (k : ℕ) → getD (set slots k emptySlot) k emptySlot .held ≡ false
-freed-not-held slots k =
-    ⊎-elim (λ (l : length slots ≤ k). ap (λ (s : Slot). s .held) (ap (λ (x : List Slot). getD x k emptySlot) (set-out slots k emptySlot l) ∙ List·getD-eq-default slots emptySlot l))
-    (λ (l : k < length slots). ap (λ (s : Slot). s .held) (getD-set-same slots k emptySlot emptySlot l)) (le-or-lt (length slots) k)
-
 -- one that is held after another was freed was held before
 held-before : (slots : List Slot) (k q : ℕ) → getD (set slots k emptySlot) q emptySlot .held ≡ true → (q ≡ k → ⊥) × (getD slots q emptySlot .held ≡ true)
 held-before slots k q h =
     elim (ℕ-discrete q k) [
-      | yes e ↦ absurd (true≢false (sym h ∙ (ap (λ (x : ℕ). getD (set slots k emptySlot) x emptySlot .held) e ∙ freed-not-held slots k)))
+      | yes e ↦ absurd (true≢false (sym h ∙ (ap (λ (x : ℕ). getD (set slots k emptySlot) x emptySlot .held) e ∙ ap (λ (s : Slot). s .held) (emptied-slot slots k))))
       | no e ↦ (e, sym (ap (λ (s : Slot). s .held) (getD-set-other slots k q emptySlot emptySlot e)) ∙ h)
     ]
 
@@ -135,35 +131,29 @@ held-grown i ms h q e = ⊎-elim (λ w. inl w) (λ w. inr (mounts-append q (i .t
 
 -- what is held once a mount's index is freed has another mount
 held-freed : (m : Option Mount) (i : Instance) → Held i → (q : ℕ) → heldIn (freed m i) q ≡ true → Mounted q (i .tree) × (IsAt q m → ⊥)
-unfolding freed
+unfolding freedSlots
 held-freed none i h q e = (h q e, λ w. w)
 held-freed (some m) i h q e =
     let b = held-before (i .indexes .slots) (m .index) q e in
     (h q (b .1), λ w. b .0 (sym w))
 
 -- freeing leaves as many slots
-pub freed-slots : (m : Option Mount) (i : Instance) → length (freed m i .indexes .slots) ≡ length (i .indexes .slots)
-unfolding freed
-freed-slots none i = refl
-freed-slots (some m) i = length-set (i .indexes .slots) (m .index) emptySlot
-
-pub freed-tree : (m : Option Mount) (i : Instance) → freed m i .tree ≡ i .tree
-unfolding freed
-freed-tree none i = refl
-freed-tree (some m) i = refl
+pub freed-slots : (m : Option Mount) (slots : List Slot) → length (freedSlots m slots) ≡ length slots
+unfolding freedSlots
+freed-slots none slots = refl
+freed-slots (some m) slots = length-set slots (m .index) emptySlot
 
 pub held-placed : (k : ℕ) (r : Request) (x : ℕ) (i : Instance) → Rooted (i .tree .nodes) x → Held i → Held (placed k r x i)
 unfolding placed
 held-placed k r x i w h q e =
     let old = mountOf (i .tree) x in
     let j = freed old i in
-    rw (freed-tree old i)
-    (elim (ℕ-discrete q k) [
+    elim (ℕ-discrete q k) [
       | yes s ↦ rw s (tree-set (mountOn k r) (i .tree) x w)
       | no s ↦
           let b = held-freed old i h q (sym (ap (λ (z : Slot). z .held) (getD-set-other (j .indexes .slots) k q (heldBy (r .tag)) emptySlot s)) ∙ e) in
           tree-kept q (some (mountOn k r)) (i .tree) x (b .0) (b .1)
-    ])
+    ]
 
 pub held-taken : (i : Instance) (x : ℕ) (m : Mount) → mountOf (i .tree) x ≡ some m → Held i → Held (withSlot (m .index) emptySlot (withTree (taken i x) i))
 unfolding taken

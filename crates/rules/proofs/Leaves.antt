@@ -2,27 +2,26 @@
 use mathlib.Core.Path.{_≡_, refl, sym, ap, _∙_}
 use mathlib.Core.Bool.{true, false, true≢false}
 use mathlib.Core.Logic.{inl, inr, ⊎-elim}
-use mathlib.Core.List.{List}
 use mathlib.Core.Option.{Option, none, some}
 use Prim.Native.Nat.{ℕ, _+_, _%_, _≤_, _<_}
 use native.Mathlib.Omega.{arith}
-use borrow.Author.Tests.{not-true, not-false, ltb-true, ltb-false}
-use Rattle.rules.specs.Numbers.{maxIno, TOOLONG, INVAL, INODE, FULL, NOROOM, BADINDEX}
+use borrow.Author.Tests.{not-true, ltb-true}
+use Rattle.rules.specs.Numbers.{maxIno, INVAL, INODE, FULL}
 use Rattle.rules.specs.Utf8.{wellFormed}
 use Rattle.rules.specs.Path.{rooted}
 use Rattle.rules.specs.Round.{untilTwice, freeOf, allocate}
 use Rattle.rules.specs.Tree.{Mount}
 use Rattle.rules.specs.Instance.{Instance, counterOf, heldIn, withCounter}
 use Rattle.rules.specs.Outcome.{nothing, Outcome, refused}
-use Rattle.rules.specs.Mount.{Request, allocation, allocated, stepped, walkedTo, mountAs, mountRule, restoreAs, restoreMountRule}
-use Rattle.rules.specs.Unmount.{unmounts, unmountAt, unmountRule, reached, mountUnder}
-use Rattle.rules.specs.Restore.{restoreRule}
-use Rattle.rules.specs.Calls.{Call, mount, restore-mount, umount, restore}
+use Rattle.rules.specs.Mount.{Request, allocation, allocated, stepped, walkedTo, mountAs, restoreAs}
+use Rattle.rules.specs.Unmount.{unmounts}
+use Rattle.rules.specs.Calls.{Call, mount, restore-mount, umount}
 use Rattle.rules.specs.Leaves.{ByRow2, ByRow3, Leaves, EveryRefusal}
-use Rattle.rules.proofs.Rows.{first-of, each-of}
+use Rattle.rules.proofs.Rows.{first-of}
 use Rattle.rules.proofs.Round.{spent}
 use Rattle.rules.proofs.Turn.{seen-moved}
-use Rattle.rules.proofs.Still.{Still, still-refused, isMount, every-call}
+use Rattle.rules.proofs.Still.{Still, still-refused}
+use Rattle.rules.proofs.Ways.{isMount, Passed, Early, restored-row2, every-call}
 
 module _ (i : Instance) (c : Call) where
   -- a call that is done has no refusal to speak of
@@ -45,12 +44,8 @@ module _ (i : Instance) (c : Call) where
     values = λ f. ⊎-elim (λ (z : o .code ≡ 0). absurd (f z)) (λ v. v) (s .bare);
   }
 
-  kept : (code : ℕ) → (code ≡ FULL → ⊥) → (code ≡ INVAL → ByRow2 c) → (code ≡ INODE → ByRow3 c) → Leaves i c (refused code i)
-  kept code h v w = unchanged (refused code i) v w (still-refused i code h)
-
-  -- a refusal that is neither FULL, INVAL nor INODE
-  plainly : (code : ℕ) → (code ≡ FULL → ⊥) → (code ≡ INVAL → ⊥) → (code ≡ INODE → ⊥) → Leaves i c (refused code i)
-  plainly code h v w = kept code h (λ e. absurd (v e)) (λ e. absurd (w e))
+  early : (code : ℕ) → Early c code → Leaves i c (refused code i)
+  early code e = unchanged (refused code i) (e .inval) (e .inode) (still-refused i code (e .not-full))
 
   -- the call is no mount
   module _ (no : isMount c ≡ false) where
@@ -99,112 +94,48 @@ module _ (i : Instance) (r : Request) where
     values = λ f. (refl, refl);
   }
 
-  mount-as : wellFormed (r .path) ≡ true → r .largest ≤ maxIno → (k : Option ℕ) → allocation i .found ≡ k → Leaves i (mount r) (mountAs i r k)
+  mount-as : Passed i r → (k : Option ℕ) → allocation i .found ≡ k → Leaves i (mount r) (mountAs i r k)
   unfolding mountAs
-  mount-as u l none e = row5 e
-  mount-as u l (some k) e = first-of (Leaves i (mount r)) _ _ (λ a. row6 u (not-true (rooted (r .path)) a), λ a. (λ b. row7 l (ltb-true maxIno (r .root) b), λ b. done i (mount r) _ refl))
+  mount-as p none e = row5 e
+  mount-as p (some k) e =
+      first-of (Leaves i (mount r)) _ _
+      (λ a. row6 (p .utf8) (not-true (rooted (r .path)) a), λ a. (λ b. row7 (p .largest) (ltb-true maxIno (r .root) b), λ b. done i (mount r) _ refl))
 
-  mount-leaves : Leaves i (mount r) (mountRule i r)
-  unfolding mountRule
-  mount-leaves =
-      first-of (Leaves i (mount r)) _ _ (
-        λ a. plainly i (mount r) TOOLONG (λ e. omega arith) (λ e. omega arith) (λ e. omega arith),
-        λ a. (
-          λ b. kept i (mount r) INVAL (λ e. omega arith) (λ e. row2 (not-true _ b)) (λ e. absurd (omega arith)),
-          λ b. (
-            λ d. kept i (mount r) INODE (λ e. omega arith) (λ e. absurd (omega arith)) (λ e. row3 (ltb-true maxIno (r .largest) d)),
-            λ d. (
-              λ n. plainly i (mount r) NOROOM (λ e. omega arith) (λ e. omega arith) (λ e. omega arith),
-              λ n.
-                  mount-as (not-false _ b) (ltb-false maxIno (r .largest) d) (allocation i .found) refl,
-            ),
-          ),
-        ),
-      )
-    where
-      row2 : wellFormed (r .path) ≡ false → ByRow2 (mount r)
-      row2 u q e = let s : r ≡ q = cc in rw (sym s) u
+-- ---- restored mount: row 7
 
-      row3 : maxIno < r .largest → ByRow3 (mount r)
-      row3 l q (inl e) = let s : r ≡ q = cc in rw (sym s) l
-      row3 l q (inr (k, e)) = let z : _≡_ {A = ℕ} 0 1 = cc in absurd (omega arith)
-
--- ---- restored mount
-
-module _ (i : Instance) (k : ℕ) (r : Request) where
+module _ (i : Instance) (k : ℕ) (r : Request) (p : Passed i r) where
   abbrev call : Call
   call = restore-mount k r
 
-  -- it is no mount
-  no-mount : ByRow2 call
-  no-mount q e = let z : _≡_ {A = ℕ} 0 1 = cc in absurd (omega arith)
-
-  restored-row3 : maxIno < r .largest → ByRow3 call
-  restored-row3 l q (inl e) = let z : _≡_ {A = ℕ} 0 1 = cc in absurd (omega arith)
-  restored-row3 l q (inr (j, e)) = let s : r ≡ q = cc in rw (sym s) l
-
-  restored-row7 : r .largest ≤ maxIno → maxIno < r .root → Leaves i call (refused INODE (walkedTo (r .path) i))
-  restored-row7 l b = record {
+  restored-row7 : maxIno < r .root → Leaves i call (refused INODE (walkedTo (r .path) i))
+  restored-row7 b = record {
     full = λ f. absurd (omega arith);
     inval = λ f. absurd (omega arith);
-    inode = λ f. inr (inr (k, r, record { call = refl; largest = l; root = b; leaves = refl }));
+    inode = λ f. inr (inr (k, r, record { call = refl; largest = p .largest; root = b; leaves = refl }));
     others = λ f g h l. absurd (l refl);
     values = λ f. (refl, refl);
   }
 
-  -- INVAL of row 2 and of row 6
-  restored-inval : Leaves i call (refused INVAL i)
-  restored-inval = kept i call INVAL (λ e. omega arith) (λ e. no-mount) (λ e. absurd (omega arith))
-
-  restored-as : r .largest ≤ maxIno → Leaves i call (restoreAs i k r)
+  restored-as : Leaves i call (restoreAs i k r)
   unfolding restoreAs
-  restored-as m = first-of (Leaves i call) _ _ (λ a. restored-inval, λ a. (λ b. restored-row7 m (ltb-true maxIno (r .root) b), λ b. done i call _ refl))
-
-  restored-leaves : Leaves i call (restoreMountRule i k r)
-  unfolding restoreMountRule
-  restored-leaves =
+  restored-as =
       first-of (Leaves i call) _ _ (
-        λ a. plainly i call TOOLONG (λ e. omega arith) (λ e. omega arith) (λ e. omega arith),
-        λ a. (
-          λ b. restored-inval,
-          λ b. (
-            λ d. plainly i call BADINDEX (λ e. omega arith) (λ e. omega arith) (λ e. omega arith),
-            λ d. (
-              λ l. kept i call INODE (λ e. omega arith) (λ e. absurd (omega arith)) (λ e. restored-row3 (ltb-true maxIno (r .largest) l)),
-              λ l. (λ n. plainly i call NOROOM (λ e. omega arith) (λ e. omega arith) (λ e. omega arith), λ n. restored-as (ltb-false maxIno (r .largest) l)),
-            ),
-          ),
-        ),
+        λ a. unchanged i call _ (λ e. restored-row2 r k) (λ e. absurd (omega arith)) (still-refused i _ (λ e. omega arith)),
+        λ a. (λ b. restored-row7 (ltb-true maxIno (r .root) b), λ b. done i call _ refl),
       )
 
--- ---- unmount and state restore
-
-unmount-at : (i : Instance) (c : Call) → isMount c ≡ false → (x : Option ℕ) (m : Option Mount) → Leaves i c (unmountAt i x m)
-unfolding unmountAt unmounts
-unmount-at i c q none m = still i c q _ (still-refused i _ (λ e. omega arith))
-unmount-at i c q (some x) none = still i c q _ (still-refused i _ (λ e. omega arith))
-unmount-at i c q (some x) (some m) = done i c _ refl
-
-unmount-leaves : (i : Instance) (path : List ℕ) → Leaves i (umount path) (unmountRule i path)
-unfolding unmountRule
-unmount-leaves i path =
-    let c = umount path in
-    each-of (Leaves i c) _ _ (still i c refl _ (still-refused i _ (λ e. omega arith)), unmount-at i c refl (reached i path) (mountUnder i (reached i path)))
-
-restore-leaves : (i : Instance) (b : List ℕ) → Leaves i (restore b) (restoreRule i b)
-unfolding restoreRule
-restore-leaves i b =
-    let c = restore b in
-    let k₀ : (code : ℕ) → (code ≡ FULL → ⊥) → Leaves i c (refused code i) = λ code h. still i c refl (refused code i) (still-refused i code h) in
-    each-of (Leaves i c) _ _ (k₀ _ (λ e. omega arith), (k₀ _ (λ e. omega arith), (k₀ _ (λ e. omega arith), (k₀ _ (λ e. omega arith), done i c _ refl))))
+unmounted : (i : Instance) (c : Call) (x : ℕ) (m : Mount) → Leaves i c (unmounts i x m)
+unfolding unmounts
+unmounted i c x m = done i c _ refl
 
 -- the theorem
 pub leaves : EveryRefusal
 leaves = every-call Leaves (record {
   still = λ i c o q s. still i c q o s;
-  mounts = mount-leaves;
-  restores-mount = restored-leaves;
-  unmounts = unmount-leaves;
+  early = early;
+  mounts = λ i r p. mount-as i r p (allocation i .found) refl;
+  restores-mount = restored-as;
+  unmounted = λ i path x m e. unmounted i (umount path) x m;
   sets-removal = λ i. done i _ _ refl;
-  restores = restore-leaves;
+  restored = λ i b ok. done i _ _ refl;
 })

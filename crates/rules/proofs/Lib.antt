@@ -9,6 +9,7 @@ pub mod Allocation
 pub mod Laps
 pub mod Ids
 pub mod Still
+pub mod Ways
 pub mod Turn
 pub mod Trace
 pub mod Leaves
@@ -26,4 +27,7 @@ pub mod Driven
 pub mod Restored
 pub mod Restart
 pub mod Stays
+pub mod Slots
+pub mod Kept
+pub mod Wait
 pub mod Needed

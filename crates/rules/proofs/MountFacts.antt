@@ -1,5 +1,5 @@
 -- A mount, a restored mount and an unmount keep what holds of every driven instance. Assumes nothing.
-use mathlib.Core.Path.{_≡_, refl, sym, _∙_, subst}
+use mathlib.Core.Path.{_≡_, refl, _∙_}
 use mathlib.Core.Bool.{Bool, true, false, cond, not, _&&_, true≢false}
 use mathlib.Core.List.{List}
 use mathlib.Core.Option.{Option, none, some}
@@ -7,20 +7,21 @@ use Prim.Native.Nat.{ℕ, _+_, _≤_, _<_}
 use native.Mathlib.Omega.{arith}
 use lib.ListN.{length, set, length-append, length-set}
 use lib.Dec.{eqb, ltb}
-use borrow.Author.Tests.{ltb-false, not-false}
+use borrow.Author.Tests.{ltb-false}
 use Rattle.rules.specs.Numbers.{rootNumber, topNumber}
 use Rattle.rules.specs.Utf8.{wellFormed}
 use Rattle.rules.specs.Path.{tooLong, rooted}
 use Rattle.rules.specs.Round.{allocate}
 use Rattle.rules.specs.Tree.{Mount, mountAt}
-use Rattle.rules.specs.Instance.{Slot, Tree, Instance, emptySlot, heldBy, mountOf, setMount, withSlot, withTree, grown, cut, live, counterOf}
+use Rattle.rules.specs.Instance.{Slot, Tree, Instance, emptySlot, heldBy, mountOf, setMount, grown, cut, live, counterOf}
 use Rattle.rules.specs.Outcome.{Outcome}
-use Rattle.rules.specs.Mount.{Request, planned, needed, noRoom, freed, mountOn, placed, allocation, stepped, walkedTo, ended, mountAs, mountRule, restoreAs, restoreMountRule}
-use Rattle.rules.specs.Unmount.{reached, mountUnder, taken, unmounts, unmountAt, unmountRule}
+use Rattle.rules.specs.Mount.{Request, planned, needed, noRoom, freedSlots, mountOn, placed, allocation, stepped, walkedTo, ended, mountAs, restoreAs}
+use Rattle.rules.specs.Unmount.{taken, unmounts}
 use Rattle.rules.specs.Restore.{entriesFor}
 use Rattle.rules.specs.Driven.{Shape, Facts, Rooted}
 use Rattle.rules.proofs.Tests.{or-neither}
-use Rattle.rules.proofs.Rows.{first-of, each-of}
+use Rattle.rules.proofs.Rows.{first-of}
+use Rattle.rules.proofs.Ways.{Passed}
 use Rattle.rules.proofs.Shape.{entries-mount, shape-less, length-less, length-mount}
 use Rattle.rules.proofs.Walk.{Walking, planned-walking}
 use Rattle.rules.proofs.Held.{Held, freed-slots, held-grown, held-placed, held-taken}
@@ -108,27 +109,18 @@ module _ (i : Instance) (f : Facts i) (path : List ℕ) (l : tooLong path ≡ fa
       })
       (held-grown i ms (f .held))
 
--- the tree and the slots of an instance where a mount was placed
-placed-is : (k : ℕ) (r : Request) (x : ℕ) (i : Instance) (m : Option Mount)
-    → withSlot k (heldBy (r .tag)) (withTree (setMount (freed m i .tree) x (some (mountOn k r))) (freed m i))
-    ≡ with-all i (setMount (i .tree) x (some (mountOn k r))) (set (freed m i .indexes .slots) k (heldBy (r .tag))) (counterOf i)
-unfolding freed
-placed-is k r x i none = refl
-placed-is k r x i (some m) = refl
-
 placed-facts : (k : ℕ) (r : Request) (x : ℕ) (i : Instance) → Rooted (i .tree .nodes) x → Facts i → Facts (placed k r x i)
 unfolding placed
 placed-facts k r x i w f =
     let m = mountOf (i .tree) x in
-    let e = placed-is k r x i m in
-    subst Facts (sym e)
-    (changed i _ _ _ f
+    let slots = freedSlots m (i .indexes .slots) in
+    changed i (setMount (i .tree) x (some (mountOn k r))) (set slots k (heldBy (r .tag))) (counterOf i) f
     (record {
       tree = set-fine (i .fixed .capacity) (i .tree) x (some (mountOn k r)) (fine-of i f);
-      many = length-set (freed m i .indexes .slots) k (heldBy (r .tag)) ∙ (freed-slots m i ∙ f .slots);
+      many = length-set slots k (heldBy (r .tag)) ∙ (freed-slots m (i .indexes .slots) ∙ f .slots);
       low = f .counter;
     })
-    (subst Held e (held-placed k r x i w (f .held))))
+    (held-placed k r x i w (f .held))
 
 -- the instance after has them too
 abbrev pub Keeps : Outcome → Type 0
@@ -138,14 +130,13 @@ room-left : (a b : Bool) → (a && b) ≡ false → not a ≡ false → b ≡ fa
 room-left true b e f = e
 room-left false b e f = absurd (true≢false f)
 
-module _ (i : Instance) (r : Request) (f : Facts i) (l : tooLong (r .path) ≡ false) (u : wellFormed (r .path) ≡ true)
-    (room : (rooted (r .path) && noRoom i (r .path)) ≡ false) where
+module _ (i : Instance) (r : Request) (f : Facts i) (p : Passed i r) where
   -- a step of the counter leaves the room as it is
   same-room : noRoom (stepped i) (r .path) ≡ noRoom i (r .path)
   unfolding noRoom
   same-room = refl
 
-  mount-as : (k : Option ℕ) → Keeps (mountAs i r k)
+  pub mount-as : (k : Option ℕ) → Keeps (mountAs i r k)
   unfolding mountAs
   mount-as none = stepped-facts i f
   mount-as (some k) =
@@ -153,43 +144,25 @@ module _ (i : Instance) (r : Request) (f : Facts i) (l : tooLong (r .path) ≡ f
       first-of Keeps _ _ (
         λ a. s,
         λ a.
-            let n = same-room ∙ room-left (rooted (r .path)) (noRoom i (r .path)) room a in
-            let w = walked-facts (stepped i) s (r .path) l u n in
-            (λ b. w, λ b. placed-facts k r (ended i (r .path)) (walkedTo (r .path) (stepped i)) (walks (stepped i) s (r .path) l u n .reached) w),
+            let n = same-room ∙ room-left (rooted (r .path)) (noRoom i (r .path)) (p .room) a in
+            let w = walked-facts (stepped i) s (r .path) (p .short) (p .utf8) n in
+            (λ b. w, λ b. placed-facts k r (ended i (r .path)) (walkedTo (r .path) (stepped i)) (walks (stepped i) s (r .path) (p .short) (p .utf8) n .reached) w),
       )
 
-  restored-as : (k : ℕ) → Keeps (restoreAs i k r)
+  pub restored-as : (k : ℕ) → Keeps (restoreAs i k r)
   unfolding restoreAs
   restored-as k =
       first-of Keeps _ _ (
         λ a. f,
         λ a.
-            let n = room-left (rooted (r .path)) (noRoom i (r .path)) room a in
-            let w = walked-facts i f (r .path) l u n in
-            (λ b. w, λ b. placed-facts k r (ended i (r .path)) (walkedTo (r .path) i) (walks i f (r .path) l u n .reached) w),
+            let n = room-left (rooted (r .path)) (noRoom i (r .path)) (p .room) a in
+            let w = walked-facts i f (r .path) (p .short) (p .utf8) n in
+            (λ b. w, λ b. placed-facts k r (ended i (r .path)) (walkedTo (r .path) i) (walks i f (r .path) (p .short) (p .utf8) n .reached) w),
       )
 
-pub mount-facts : (i : Instance) (r : Request) → Facts i → Keeps (mountRule i r)
-unfolding mountRule
-mount-facts i r f =
-    first-of Keeps _ _ (λ a. f, λ a. (λ b. f, λ b. (λ c. f, λ c. (λ d. f, λ d. mount-as i r f a (not-false _ b) d (allocation i .found)))))
-
-pub restored-facts : (i : Instance) (k : ℕ) (r : Request) → Facts i → Keeps (restoreMountRule i k r)
-unfolding restoreMountRule
-restored-facts i k r f =
-    first-of Keeps _ _ (λ a. f, λ a. (λ b. f, λ b. (λ c. f, λ c. (λ d. f, λ d. (λ e. f, λ e. restored-as i r f a (not-false _ b) e k)))))
-
--- ---- unmount
-
-unmount-facts-at : (i : Instance) (x : Option ℕ) (m : Option Mount) → mountUnder i x ≡ m → Facts i → Keeps (unmountAt i x m)
-unfolding unmountAt unmounts
-unmount-facts-at i none m e f = f
-unmount-facts-at i (some x) none e f = f
-unmount-facts-at i (some x) (some m) e f =
+pub unmounted : (i : Instance) (x : ℕ) (m : Mount) → mountOf (i .tree) x ≡ some m → Facts i → Keeps (unmounts i x m)
+unfolding unmounts
+unmounted i x m e f =
     changed i (taken i x) (set (i .indexes .slots) (m .index) emptySlot) (counterOf i) f
     (record { tree = taken-fine i x (fine-of i f); many = length-set (i .indexes .slots) (m .index) emptySlot ∙ f .slots; low = f .counter })
     (held-taken i x m e (f .held))
-
-pub unmount-facts : (i : Instance) (path : List ℕ) → Facts i → Keeps (unmountRule i path)
-unfolding unmountRule
-unmount-facts i path f = each-of Keeps _ _ (f, unmount-facts-at i (reached i path) (mountUnder i (reached i path)) refl f)

@@ -1,26 +1,25 @@
 -- What never changes, of every call. Assumes nothing.
 use mathlib.Core.Path.{_≡_, refl, sym, ap, _∙_}
-use mathlib.Core.Bool.{not, _&&_}
+use mathlib.Core.Bool.{true, not, _&&_}
 use mathlib.Core.List.{List, [], _∷_}
 use mathlib.Core.Option.{Option, none, some}
 use Prim.Native.Nat.{ℕ, _+_, _≤_, _<_}
 use native.Mathlib.Omega.{arith}
 use lib.Dec.{eqb}
-use borrow.Author.Tests.{not-false}
 use Rattle.rules.specs.Numbers.{rootNumber}
 use Rattle.rules.specs.Tree.{Mount, Node, isNone}
-use Rattle.rules.specs.Instance.{Tree, Instance, mountOf, setMount}
-use Rattle.rules.specs.Outcome.{Outcome, refused}
-use Rattle.rules.specs.Mount.{Request, freed, placed, allocation, stepped, walkedTo, ended, mountAs, mountRule, restoreAs, restoreMountRule}
-use Rattle.rules.specs.Unmount.{reached, mountUnder, taken, unmounts, unmountAt, unmountRule}
+use Rattle.rules.specs.Instance.{Tree, Instance, setMount}
+use Rattle.rules.specs.Outcome.{nothing, Outcome, refused, says}
+use Rattle.rules.specs.Mount.{Request, placed, allocation, stepped, walkedTo, ended, mountAs, restoreAs}
+use Rattle.rules.specs.Unmount.{taken, unmounts}
 use Rattle.rules.specs.Saved.{Entry, stateOf}
-use Rattle.rules.specs.Restore.{entriesFor, nodesFrom, noNodes, fresh, restoredTo, restoreRule}
+use Rattle.rules.specs.Restore.{entriesFor, nodesFrom, noNodes, fresh, restoredTo}
 use Rattle.rules.specs.Calls.{Call, mount, restore-mount, umount, restore}
 use Rattle.rules.specs.Driven.{Rises}
 use Rattle.rules.specs.Stays.{mountsIn, mountsOf, NoMounting, Stays, EveryStays, Absent, Distinct, NumbersOnce}
 use Rattle.rules.proofs.Tests.{and-both}
-use Rattle.rules.proofs.Rows.{first-of, each-of, either}
-use Rattle.rules.proofs.Still.{Still, every-call}
+use Rattle.rules.proofs.Rows.{each-of, either}
+use Rattle.rules.proofs.Ways.{every-call}
 use Rattle.rules.proofs.Driven.{facts, no-nodes, no-root}
 
 -- ---- what a mounting call keeps
@@ -29,9 +28,6 @@ record Keeps (i : Instance) (o : Outcome) : Type 0 where
   fixed : o .after .fixed ≡ i .fixed
   removal : o .after .removal ≡ i .removal
   next : i .tree .next ≤ o .after .tree .next
-
-kept : (i : Instance) (code : ℕ) → Keeps i (refused code i)
-kept i code = record { fixed = refl; removal = refl; next = omega arith }
 
 keeps-stays : (i : Instance) (c : Call) (o : Outcome) → (NoMounting c → ⊥) → Keeps i o → Stays i c o
 keeps-stays i c o h k = record {
@@ -49,17 +45,9 @@ set-next t x m = either (λ (s : Tree). s .next ≡ t .next) (eqb x rootNumber) 
 abbrev Placed : ℕ → Request → ℕ → Instance → Type 0
 Placed k r x i = (placed k r x i .fixed ≡ i .fixed) × (placed k r x i .removal ≡ i .removal) × (placed k r x i .tree .next ≡ i .tree .next)
 
-freed-keeps : (m : Option Mount) (i : Instance) → (freed m i .fixed ≡ i .fixed) × (freed m i .removal ≡ i .removal) × (freed m i .tree .next ≡ i .tree .next)
-unfolding freed
-freed-keeps none i = (refl, refl, refl)
-freed-keeps (some m) i = (refl, refl, refl)
-
 placed-keeps : (k : ℕ) (r : Request) (x : ℕ) (i : Instance) → Placed k r x i
 unfolding placed
-placed-keeps k r x i =
-    let m = mountOf (i .tree) x in
-    let f = freed-keeps m i in
-    (f .0, f .1, set-next (freed m i .tree) x _ ∙ f .2)
+placed-keeps k r x i = (refl, refl, set-next (i .tree) x _)
 
 mount-as : (i : Instance) (r : Request) (k : Option ℕ) → Keeps i (mountAs i r k)
 unfolding mountAs
@@ -72,95 +60,62 @@ mount-as i r (some k) =
       (record { fixed = refl; removal = refl; next = omega arith }, record { fixed = p .0; removal = p .1; next = omega (arith, p .2) }),
     )
 
-mount-stays : (i : Instance) (r : Request) → Stays i (mount r) (mountRule i r)
-unfolding mountRule
-mount-stays i r =
-    keeps-stays i (mount r) _ (λ n. n .no-mount r refl)
-    (each-of (Keeps i) _ _ (kept i _, (kept i _, (kept i _, (kept i _, mount-as i r (allocation i .found))))))
-
 restored-as : (i : Instance) (k : ℕ) (r : Request) → Keeps i (restoreAs i k r)
 unfolding restoreAs
 restored-as i k r =
     let p = placed-keeps k r (ended i (r .path)) (walkedTo (r .path) i) in
-    each-of (Keeps i) _ _
-    (kept i _, (record { fixed = refl; removal = refl; next = omega arith }, record { fixed = p .0; removal = p .1; next = omega (arith, p .2) }))
-
-restored-stays : (i : Instance) (k : ℕ) (r : Request) → Stays i (restore-mount k r) (restoreMountRule i k r)
-unfolding restoreMountRule
-restored-stays i k r =
-    keeps-stays i (restore-mount k r) _ (λ n. n .no-restored k r refl)
-    (each-of (Keeps i) _ _ (kept i _, (kept i _, (kept i _, (kept i _, (kept i _, restored-as i k r))))))
+    each-of (Keeps i) _ _ (
+      record { fixed = refl; removal = refl; next = omega arith },
+      (record { fixed = refl; removal = refl; next = omega arith }, record { fixed = p .0; removal = p .1; next = omega (arith, p .2) }),
+    )
 
 taken-next : (i : Instance) (x : ℕ) → taken i x .next ≡ i .tree .next
 unfolding taken
 taken-next i x =
     either (λ (s : Tree). s .next ≡ i .tree .next) (i .removal && not (eqb x rootNumber)) (λ e. set-next (i .tree) x none) (λ e. set-next (i .tree) x none)
 
-unmount-at : (i : Instance) (x : Option ℕ) (m : Option Mount) → Keeps i (unmountAt i x m)
-unfolding unmountAt unmounts
-unmount-at i none m = kept i _
-unmount-at i (some x) none = kept i _
-unmount-at i (some x) (some m) = record { fixed = refl; removal = refl; next = omega (arith, taken-next i x) }
-
-unmount-stays : (i : Instance) (path : List ℕ) → Stays i (umount path) (unmountRule i path)
-unfolding unmountRule
-unmount-stays i path =
-    keeps-stays i (umount path) _ (λ n. n .no-unmount path refl)
-    (each-of (Keeps i) _ _ (kept i _, unmount-at i (reached i path) (mountUnder i (reached i path))))
+unmounted : (i : Instance) (x : ℕ) (m : Mount) → Keeps i (unmounts i x m)
+unfolding unmounts
+unmounted i x m = record { fixed = refl; removal = refl; next = omega (arith, taken-next i x) }
 
 -- ---- the others
 
-still-stays : (i : Instance) (c : Call) (o : Outcome) → Still i o → Stays i c o
+still-stays : (i : Instance) (c : Call) (o : Outcome) → o .after ≡ i → Stays i c o
 still-stays i c o s = record {
-  fixed = ap (λ (j : Instance). j .fixed) (s .after);
-  removal = λ e. ap (λ (j : Instance). j .removal) (s .after) ∙ e;
-  mounts = λ n. ap (λ (j : Instance). mountsOf (j .tree)) (s .after);
-  slots = λ n. ap (λ (j : Instance). j .indexes .slots) (s .after);
-  next = λ n. omega (arith, ap (λ (j : Instance). j .tree .next) (s .after));
+  fixed = ap (λ (j : Instance). j .fixed) s;
+  removal = λ e. ap (λ (j : Instance). j .removal) s ∙ e;
+  mounts = λ n. ap (λ (j : Instance). mountsOf (j .tree)) s;
+  slots = λ n. ap (λ (j : Instance). j .indexes .slots) s;
+  next = λ n. omega (arith, ap (λ (j : Instance). j .tree .next) s);
 }
-
-refused-stays : (i : Instance) (c : Call) (code : ℕ) → Stays i c (refused code i)
-refused-stays i c code = record { fixed = refl; removal = λ e. e; mounts = λ n. refl; slots = λ n. refl; next = λ n. omega arith }
 
 no-mounts : (es : List Entry) → mountsIn (nodesFrom es) ≡ []
 unfolding mountsIn nodesFrom
 no-mounts [] = refl
 no-mounts (e ∷ es) = no-mounts es
 
-restore-stays : (i : Instance) (b : List ℕ) → Stays i (restore b) (restoreRule i b)
-unfolding restoreRule restoredTo fresh mountsIn
-restore-stays i b =
-    first-of (Stays i (restore b)) _ _ (
-      λ a. refused-stays i (restore b) _,
-      λ a. (
-        λ c. refused-stays i (restore b) _,
-        λ c. (
-          λ d. refused-stays i (restore b) _,
-          λ d. (
-            λ e. refused-stays i (restore b) _,
-            λ e.
-                let f = and-both (noNodes (i .tree .nodes)) (isNone (i .tree .root)) (not-false _ a) in
-                record {
-                  fixed = refl;
-                  removal = λ g. g;
-                  mounts = λ n. no-mounts (stateOf b .nodes) ∙ sym (rw (no-nodes (i .tree .nodes) (f .0), no-root (i .tree .root) (f .1)));
-                  slots = λ n. refl;
-                  next = λ n. absurd (n b refl);
-                },
-          ),
-        ),
-      ),
-    )
+restored : (i : Instance) (b : List ℕ) → fresh i ≡ true → Stays i (restore b) (says nothing (restoredTo (stateOf b) i))
+unfolding restoredTo fresh mountsIn
+restored i b a =
+    let f = and-both (noNodes (i .tree .nodes)) (isNone (i .tree .root)) a in
+    record {
+      fixed = refl;
+      removal = λ g. g;
+      mounts = λ n. no-mounts (stateOf b .nodes) ∙ sym (rw (no-nodes (i .tree .nodes) (f .0), no-root (i .tree .root) (f .1)));
+      slots = λ n. refl;
+      next = λ n. absurd (n b refl);
+    }
 
 -- the theorem
 pub stays : EveryStays
 stays = every-call Stays (record {
-  still = λ i c o m. still-stays i c o;
-  mounts = mount-stays;
-  restores-mount = restored-stays;
-  unmounts = unmount-stays;
+  still = λ i c o m s. still-stays i c o (s .after);
+  early = λ i c code e. still-stays i c (refused code i) refl;
+  mounts = λ i r p. keeps-stays i (mount r) _ (λ n. n .no-mount r refl) (mount-as i r (allocation i .found));
+  restores-mount = λ i k r p. keeps-stays i (restore-mount k r) _ (λ n. n .no-restored k r refl) (restored-as i k r);
+  unmounted = λ i path x m e. keeps-stays i (umount path) _ (λ n. n .no-unmount path refl) (unmounted i x m);
   sets-removal = λ i. record { fixed = refl; removal = λ e. refl; mounts = λ n. refl; slots = λ n. refl; next = λ n. omega arith };
-  restores = restore-stays;
+  restored = λ i b ok. restored i b (ok .is-fresh);
 })
 
 -- ---- numbers

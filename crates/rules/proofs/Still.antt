@@ -1,4 +1,4 @@
--- Calls that change nothing, and a way to prove a thing of every call: once for all of these, and once for each that changes something. Assumes nothing.
+-- Calls that change nothing. Assumes nothing.
 use mathlib.Core.Path.{_≡_, refl}
 use mathlib.Core.Bool.{Bool, true, false}
 use mathlib.Core.Logic.{_⊎_, inl, inr}
@@ -31,7 +31,7 @@ module _ (i : Instance) where
   pub still-refused : (code : ℕ) → (code ≡ FULL → ⊥) → Still i (refused code i)
   still-refused code h = record { visits = refl; found = refl; after = refl; not-full = h; bare = inr (refl, refl) }
 
-  still-says : (a : Answer) → Still i (says a i)
+  pub still-says : (a : Answer) → Still i (says a i)
   still-says a = record { visits = refl; found = refl; after = refl; not-full = λ e. omega arith; bare = inl refl }
 
   still-writes : (bs : List ℕ) → Still i (writes bs i)
@@ -60,7 +60,7 @@ module _ (i : Instance) where
   root-at none = still-says _
   root-at (some m) = root-held (m .index) (tagOf i (m .index))
 
-  root-still : (path : List ℕ) → Still i (rootRule i path)
+  pub root-still : (path : List ℕ) → Still i (rootRule i path)
   unfolding rootRule
   root-still path = each-of (Still i) _ _ (inval-still, root-at (mountUnder i (reached i path)))
 
@@ -99,54 +99,10 @@ module _ (i : Instance) where
   unfolding lookupRule
   lookup-still x p = lookup-by-still (mountOf (i .tree)) x p
 
-  list-still : (q : ListRequest) → Still i (listRule i q)
+  pub list-still : (q : ListRequest) → Still i (listRule i q)
   unfolding listRule
   list-still q = each-of (Still i) _ _ (still-writes _, (noent-still, still-writes _))
 
-  save-still : (n : ℕ) → Still i (saveRule i n)
+  pub save-still : (n : ℕ) → Still i (saveRule i n)
   unfolding saveRule
   save-still n = each-of (Still i) _ _ (still-refused SMALL (λ e. omega arith), still-writes _)
-
--- the call is a mount or a restored mount
-abbrev pub isMount : Call → Bool
-isMount (mount r) = true
-isMount (restore-mount k r) = true
-isMount (umount path) = false
-isMount set-remove-pseudo-root = false
-isMount (path-walk path) = false
-isMount (get-rootfs path) = false
-isMount (route x) = false
-isMount (lookup x p) = false
-isMount (readdir q) = false
-isMount (remap-attr-id out uid gid) = false
-isMount options = false
-isMount initialized = false
-isMount (save n) = false
-isMount (restore b) = false
-
--- what holds of every call
-module _ (P : Instance → Call → Outcome → Type 0) where
-  pub record Cases : Type 0 where
-    pub still : (i : Instance) (c : Call) (o : Outcome) → isMount c ≡ false → Still i o → P i c o
-    pub mounts : (i : Instance) (r : Request) → P i (mount r) (mountRule i r)
-    pub restores-mount : (i : Instance) (k : ℕ) (r : Request) → P i (restore-mount k r) (restoreMountRule i k r)
-    pub unmounts : (i : Instance) (path : List ℕ) → P i (umount path) (unmountRule i path)
-    pub sets-removal : (i : Instance) → P i set-remove-pseudo-root (says nothing (removing i))
-    pub restores : (i : Instance) (b : List ℕ) → P i (restore b) (restoreRule i b)
-
-  pub every-call : Cases → (i : Instance) (c : Call) → P i c (rule i c)
-  unfolding rule remapRule
-  every-call h i (mount r) = h .mounts i r
-  every-call h i (restore-mount k r) = h .restores-mount i k r
-  every-call h i (umount path) = h .unmounts i path
-  every-call h i set-remove-pseudo-root = h .sets-removal i
-  every-call h i (path-walk path) = h .still i _ _ refl (walk-still i path)
-  every-call h i (get-rootfs path) = h .still i _ _ refl (root-still i path)
-  every-call h i (route x) = h .still i _ _ refl (route-still i x)
-  every-call h i (lookup x p) = h .still i _ _ refl (lookup-still i x p)
-  every-call h i (readdir q) = h .still i _ _ refl (list-still i q)
-  every-call h i (remap-attr-id out uid gid) = h .still i _ _ refl (still-says i _)
-  every-call h i options = h .still i _ _ refl (still-says i _)
-  every-call h i initialized = h .still i _ _ refl (still-says i _)
-  every-call h i (save n) = h .still i _ _ refl (save-still i n)
-  every-call h i (restore b) = h .restores i b

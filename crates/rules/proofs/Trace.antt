@@ -20,7 +20,7 @@ turned i h c u =
     ⊎-elim (λ q. rw (q .visits) (omega (arith, q .counter))) (λ q. rw (q .1 .visits) (q .1 .counter ∙ seen-moved i)) (only-mounts i c u)
 
 -- calls are steps of the allocator
-steps-going : (cs : List Call) (i : Instance) → counterOf i < 256 → Unrestored i cs → Going (counterOf i) (stepsOf i cs)
+pub steps-going : (cs : List Call) (i : Instance) → counterOf i < 256 → Unrestored i cs → Going (counterOf i) (stepsOf i cs)
 unfolding stepsOf Going Unrestored allocation
 steps-going [] i h u = tt
 steps-going (c ∷ cs) i h u =
@@ -41,7 +41,7 @@ pub goes-round : EveryRun
 goes-round cs i h u = record { round = runs-round (stepsOf i cs) (counterOf i) h (steps-going cs i h u); moved = all-moved cs i h u }
 
 -- a call that hands an index out is a search
-searches : (i : Instance) (c : Call) (k : ℕ) → rule i c .found ≡ some k → Searches (counterOf i) (stepOf i c) × (counterOf (rule i c .after) ≡ allocation i .counter)
+pub searches : (i : Instance) (c : Call) (k : ℕ) → rule i c .found ≡ some k → Searches (counterOf i) (stepOf i c) × (counterOf (rule i c .after) ≡ allocation i .counter)
 unfolding allocation
 searches i c k e =
     ⊎-elim (λ q. absurd (Option·none-ne-some k (sym (q .found) ∙ e))) (λ q. ((q .1 .visits, q .1 .found), q .1 .counter)) (only-mounts i c (found-no-restore i c k e))

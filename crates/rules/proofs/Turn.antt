@@ -1,8 +1,9 @@
 -- What one call does to the counter. Assumes nothing.
 use mathlib.Core.Path.{_≡_, refl, sym, ap, _∙_}
+use mathlib.Core.Bool.{true, false, true≢false}
 use mathlib.Core.Logic.{_⊎_, inl, inr}
-use mathlib.Core.List.{List}
 use mathlib.Core.Option.{Option, none, some, Option·none-ne-some}
+use mathlib.Core.List.{List}
 use Prim.Native.Nat.{ℕ, _+_, _%_, _<_}
 use native.Mathlib.Omega.{arith}
 use lib.ListN.{length}
@@ -13,28 +14,21 @@ use Rattle.rules.specs.Round.{after, allocate}
 use Rattle.rules.specs.Tree.{Mount}
 use Rattle.rules.specs.Instance.{Instance, counterOf, emptySlot, heldBy, tagOf, mountOf}
 use Rattle.rules.specs.Outcome.{Answer, Outcome, refused, firstOf}
-use Rattle.rules.specs.Mount.{Request, freed, placed, allocation, stepped, allocated, walkedTo, ended, mountAs, mountRule, restoreAs, restoreMountRule}
-use Rattle.rules.specs.Unmount.{unmounts, unmountAt, unmountRule, reached, mountUnder}
+use Rattle.rules.specs.Mount.{Request, freed, placed, allocation, stepped, allocated, walkedTo, ended, mountAs, mountRule, restoreAs}
+use Rattle.rules.specs.Unmount.{unmounts}
 use Rattle.rules.specs.Restore.{restoreRule}
 use Rattle.rules.specs.Calls.{Call, mount, rule}
 use Rattle.rules.specs.Trace.{NoRestore, Moves, Keeps, MountAnswers, EveryMount, OnlyMounts}
 use Rattle.rules.proofs.Rows.{each-of}
-use Rattle.rules.proofs.Still.{every-call}
+use Rattle.rules.proofs.Still.{Still}
+use Rattle.rules.proofs.Ways.{every-call}
 use Rattle.rules.proofs.Held.{freed-slots}
 
-keeps-refused : (i : Instance) (code : ℕ) → Keeps i (refused code i)
-keeps-refused i code = record { visits = refl; found = refl; counter = refl }
-
-freed-counter : (m : Option Mount) (i : Instance) → counterOf (freed m i) ≡ counterOf i
-unfolding freed
-freed-counter none i = refl
-freed-counter (some m) i = refl
+-- ---- mount
 
 placed-counter : (k : ℕ) (r : Request) (x : ℕ) (i : Instance) → counterOf (placed k r x i) ≡ counterOf i
 unfolding placed
-placed-counter k r x i = freed-counter (mountOf (i .tree) x) i
-
--- ---- mount
+placed-counter k r x i = refl
 
 moves : (i j : Instance) (r : Request) (code : ℕ) (a : Answer) → counterOf j ≡ counterOf (stepped i) → Moves i (mount r) (allocated i code a j) r
 moves i j r code a e = record { call = refl; visits = refl; found = refl; counter = e }
@@ -43,7 +37,7 @@ placed-tag : (k : ℕ) (r : Request) (x : ℕ) (i : Instance) → k < length (i 
 unfolding placed
 placed-tag k r x i h =
     let j = freed (mountOf (i .tree) x) i in
-    rw (getD-set-same (j .indexes .slots) k (heldBy (r .tag)) emptySlot (rw (freed-slots (mountOf (i .tree) x) i) h))
+    rw (getD-set-same (j .indexes .slots) k (heldBy (r .tag)) emptySlot (rw (freed-slots (mountOf (i .tree) x) (i .indexes .slots)) h))
 
 mount-as : (i : Instance) (r : Request) (k : Option ℕ) → Moves i (mount r) (mountAs i r k) r
 unfolding mountAs
@@ -83,13 +77,10 @@ mounts-allocate i r = record {
 abbrev Turns : Instance → Call → Outcome → Type 0
 Turns i c o = NoRestore c o → Keeps i o ⊎ ((r : Request) × Moves i c o r)
 
-mount-turns : (i : Instance) (r : Request) → Turns i (mount r) (mountRule i r)
-unfolding mountRule
-mount-turns i r un =
-    each-of (λ (o : Outcome). Keeps i o ⊎ ((q : Request) × Moves i (mount r) o q)) _ _
-    (inl (keeps-refused i _), (inl (keeps-refused i _), (inl (keeps-refused i _), (inl (keeps-refused i _), inr (r, mount-as i r (allocation i .found))))))
-
 -- ---- the others
+
+keeps-refused : (i : Instance) (code : ℕ) → Keeps i (refused code i)
+keeps-refused i code = record { visits = refl; found = refl; counter = refl }
 
 restored-as : (i : Instance) (k : ℕ) (r : Request) → Keeps i (restoreAs i k r)
 unfolding restoreAs
@@ -102,38 +93,20 @@ restored-as i k r =
       ),
     )
 
-restored-keeps : (i : Instance) (k : ℕ) (r : Request) → Keeps i (restoreMountRule i k r)
-unfolding restoreMountRule
-restored-keeps i k r =
-    let k₀ : (code : ℕ) → Keeps i (refused code i) = keeps-refused i in
-    each-of (Keeps i) _ _ (k₀ _, (k₀ _, (k₀ _, (k₀ _, (k₀ _, restored-as i k r)))))
-
-unmount-at : (i : Instance) (x : Option ℕ) (m : Option Mount) → Keeps i (unmountAt i x m)
-unfolding unmountAt unmounts
-unmount-at i none m = keeps-refused i _
-unmount-at i (some x) none = keeps-refused i _
-unmount-at i (some x) (some m) = record { visits = refl; found = refl; counter = refl }
-
-unmount-keeps : (i : Instance) (path : List ℕ) → Keeps i (unmountRule i path)
-unfolding unmountRule
-unmount-keeps i path = each-of (Keeps i) _ _ (keeps-refused i _, unmount-at i (reached i path) (mountUnder i (reached i path)))
-
--- a restore that is refused
-restore-keeps : (i : Instance) (b : List ℕ) → (restoreRule i b .code ≡ 0 → ⊥) → Keeps i (restoreRule i b)
-unfolding restoreRule
-restore-keeps i b =
-    each-of (λ (o : Outcome). (o .code ≡ 0 → ⊥) → Keeps i o) _ _
-    (λ h. keeps-refused i _, (λ h. keeps-refused i _, (λ h. keeps-refused i _, (λ h. keeps-refused i _, λ h. absurd (h refl)))))
+unmounted : (i : Instance) (x : ℕ) (m : Mount) → Keeps i (unmounts i x m)
+unfolding unmounts
+unmounted i x m = record { visits = refl; found = refl; counter = refl }
 
 -- the theorem: no call but an allocation, and a done state restore, moves the counter
 pub only-mounts : OnlyMounts
 only-mounts = every-call Turns (record {
   still = λ i c o m s un. inl (record { visits = s .visits; found = s .found; counter = ap counterOf (s .after) });
-  mounts = mount-turns;
-  restores-mount = λ i k r un. inl (restored-keeps i k r);
-  unmounts = λ i path un. inl (unmount-keeps i path);
+  early = λ i c code e un. inl (keeps-refused i code);
+  mounts = λ i r p un. inr (r, mount-as i r (allocation i .found));
+  restores-mount = λ i k r p un. inl (restored-as i k r);
+  unmounted = λ i path x m e un. inl (unmounted i x m);
   sets-removal = λ i un. inl (record { visits = refl; found = refl; counter = refl });
-  restores = λ i b un. inl (restore-keeps i b (un b refl));
+  restored = λ i b ok un. absurd (un b refl refl);
 })
 
 -- a search moves the counter by as many as it visits

@@ -95,9 +95,13 @@ tagOf i k = tagIn (slotOf i k)
 abbrev pub heldIn : Instance → ℕ → Bool
 heldIn i k = slotOf i k .held
 
+-- the slots changed
+abbrev pub withSlots : List Slot → Instance → Instance
+withSlots ss i = withIndexes (record { slots = ss; counter = i .indexes .counter }) i
+
 -- the slot of an index changed
 abbrev pub withSlot : ℕ → Slot → Instance → Instance
-withSlot k s i = withIndexes (record { slots = set (i .indexes .slots) k s; counter = i .indexes .counter }) i
+withSlot k s i = withSlots (set (i .indexes .slots) k s) i
 
 -- a new instance's: 256 empty slots, counter 1 (R31)
 abbrev pub newIndexes : Indexes

@@ -30,4 +30,6 @@ pub mod Driven
 pub mod Restored
 pub mod Restart
 pub mod Stays
+pub mod Kept
+pub mod Wait
 pub mod Needed

@@ -3,14 +3,14 @@ use Prim.Native.Nat.{ℕ, _+_}
 use mathlib.Core.Bool.{Bool, not, _&&_, _||_}
 use mathlib.Core.List.{List, [], _∷_}
 use mathlib.Core.Option.{Option, none, some}
-use lib.ListN.{length}
+use lib.ListN.{length, set}
 use lib.Dec.{eqb, ltb}
 use Rattle.rules.specs.Numbers.{maxIno, topNumber, TOOLONG, INVAL, INODE, FULL, NOROOM, BADINDEX}
 use Rattle.rules.specs.Utf8.{wellFormed}
 use Rattle.rules.specs.Path.{components, rooted, tooLong}
 use Rattle.rules.specs.Tree.{Mount, Made, makes, atRoot}
 use Rattle.rules.specs.Round.{Allocation, allocate}
-use Rattle.rules.specs.Instance.{Tree, Instance, withTree, withCounter, withSlot, emptySlot, heldBy, tagOf, heldIn, mountOf, setMount, grown, live}
+use Rattle.rules.specs.Instance.{Slot, Tree, Instance, withTree, withCounter, withSlots, withSlot, emptySlot, heldBy, tagOf, heldIn, mountOf, setMount, grown, live}
 use Rattle.rules.specs.Outcome.{Answer, nothing, mounted, restored, Outcome, refused, says, _⇒_, firstOf}
 
 -- a mount request: a path, a tag, the root number, the largest number, uid, gid and mode (R3)
@@ -52,9 +52,13 @@ mountThere i path = mountOf (walkedTo path i .tree) (ended i path)
 -- ---- the change
 
 -- a mount that was there loses its index: its slot is emptied (R56, R76)
-unfoldable pub freed : Option Mount → Instance → Instance
-freed none i = i
-freed (some m) i = withSlot (m .index) emptySlot i
+unfoldable pub freedSlots : Option Mount → List Slot → List Slot
+freedSlots none slots = slots
+freedSlots (some m) slots = set slots (m .index) emptySlot
+
+-- in an instance
+abbrev pub freed : Option Mount → Instance → Instance
+freed m i = withSlots (freedSlots m (i .indexes .slots)) i
 
 -- the tag that a mount's index holds, whoever put it there (R78)
 unfoldable pub tagAt : Option Mount → Instance → Option ℕ

@@ -1,0 +1,134 @@
+-- A kept number leads into its own mount or nowhere until its index is handed out again. Assumes nothing.
+use mathlib.Core.Path.{_≡_, refl, sym, ap, _∙_, subst}
+use mathlib.Core.Bool.{Bool, true, false, cond, not, _&&_, true≢false}
+use mathlib.Core.Logic.{_⊎_, inl, inr, ⊎-elim}
+use mathlib.Core.List.{List, [], _∷_}
+use mathlib.Core.Option.{Option, none, some, Option·none-ne-some}
+use Prim.Native.Nat.{ℕ, zero, suc, _+_, _%_, _≤_, _<_}
+use native.Mathlib.Omega.{arith}
+use native.Mathlib.Decide.{ℕ-discrete}
+use lib.ListN.{length}
+use lib.Dec.{eqb}
+use borrow.Author.Tests.{ne-eqb}
+use Rattle.rules.specs.Numbers.{indexOf, numberOf, NOENT}
+use Rattle.rules.specs.Round.{allocate}
+use Rattle.rules.specs.Instance.{Slot, Instance, counterOf, emptySlot, slotOf, tagIn, tagOf, heldIn}
+use Rattle.rules.specs.Outcome.{Outcome, refused, says, toBackend}
+use Rattle.rules.specs.Mount.{Request, allocation}
+use Rattle.rules.specs.Lookup.{routeTag, routeRule}
+use Rattle.rules.specs.Calls.{Call, mount, route, rule}
+use Rattle.rules.specs.Laps.{Step, Searches, Going, total, lastFound, Has, Met}
+use Rattle.rules.specs.Trace.{Unrestored, afterAll, stepOf, stepsOf}
+use Rattle.rules.specs.Kept.{named, before, namedIn, handedOut, SlotAfter, stays, emptied, handed-out, put-back, LeadsTo, MountedAt, EveryOwn, EveryKept}
+use Rattle.rules.proofs.Tests.{known, le-or-lt}
+use Rattle.rules.proofs.Allocation.{exact}
+use Rattle.rules.proofs.Laps.{every-allocator, last-append}
+use Rattle.rules.proofs.Turn.{mounts-allocate}
+use Rattle.rules.proofs.Trace.{searches, steps-going, laps}
+use Rattle.rules.proofs.Slots.{every-slot}
+
+-- ---- lists of indexes
+
+-- one stands before others, or among them
+pub has-first : (x : Option ℕ) (j : ℕ) (ks : List ℕ) → x ≡ some j → Has j (before x ks)
+has-first none j ks e = absurd (Option·none-ne-some j e)
+has-first (some k) j ks e = let s : k ≡ j = cc in inl s
+
+pub has-later : (x : Option ℕ) (j : ℕ) (ks : List ℕ) → Has j ks → Has j (before x ks)
+has-later none j ks h = h
+has-later (some k) j ks h = inr h
+
+has-split : (x : Option ℕ) (j : ℕ) (ks : List ℕ) → Has j (before x ks) → (x ≡ some j) ⊎ Has j ks
+has-split none j ks h = inr h
+has-split (some k) j ks (inl e) = inl (ap {B = Option ℕ} some e)
+has-split (some k) j ks (inr h) = inr h
+
+-- ---- the slot of an index that no call gives away
+
+own-slot : (cs : List Call) (i : Instance) (k : ℕ) → (Has k (handedOut (stepsOf i cs)) → ⊥) → (Has k (namedIn cs) → ⊥)
+    → (slotOf (afterAll i cs) k ≡ slotOf i k) ⊎ (slotOf (afterAll i cs) k ≡ emptySlot)
+unfolding stepsOf afterAll handedOut namedIn
+own-slot [] i k h n = inl refl
+own-slot (c ∷ cs) i k h n =
+    let on = own-slot cs (rule i c .after) k (λ w. h (has-later (rule i c .found) k _ w)) (λ w. n (has-later (named c) k _ w)) in
+    elim (every-slot i c k) [
+      | stays e ↦ ⊎-elim (λ a. inl (a ∙ e)) (λ a. inr a) on
+      | emptied e ↦ inr (⊎-elim (λ a. a ∙ e) (λ a. a) on)
+      | handed-out e ↦ absurd (h (has-first (rule i c .found) k _ e))
+      | put-back e ↦ absurd (n (has-first (named c) k _ e))
+    ]
+
+-- ---- where a number leads
+
+routed : (i : Instance) (k n t : ℕ) (y : Option ℕ) → (y ≡ some t) ⊎ (y ≡ none) → (routeTag i k n y ≡ refused NOENT i) ⊎ (routeTag i k n y ≡ says (toBackend t k n) i)
+unfolding routeTag
+routed i k n t y (inl e) = rw e (inr refl)
+routed i k n t y (inr e) = rw e (inl refl)
+
+-- by what stands in the slot of its index
+leads : (i : Instance) (x k t : ℕ) → indexOf x ≡ k → 0 < k → (tagOf i k ≡ some t) ⊎ (tagOf i k ≡ none) → LeadsTo i x t
+unfolding rule routeRule
+leads i x k t e p w =
+    let n : eqb (indexOf x) 0 ≡ false = ne-eqb (indexOf x) 0 (λ z. omega arith) in
+    rw n (routed i (indexOf x) (numberOf x) t (tagOf i (indexOf x)) (rw e w))
+
+-- the index that a done mount handed out, and the tag in its slot
+mounted-tag : (i : Instance) (r : Request) (k : ℕ) → MountedAt i r k → (0 < k) × (tagOf (rule i (mount r) .after) k ≡ some (r .tag))
+unfolding rule allocation
+mounted-tag i r k m =
+    let s = searches i (mount r) k (m .found) .0 in
+    let first = exact (heldIn i) (counterOf i) (m .counter) .handed-out k .0 (sym (s .1) ∙ m .found) in
+    let a = mounts-allocate i r .answers (m .done) in
+    let same : a .0 ≡ k = let e = sym (a .1 .found) ∙ m .found in cc in
+    (first .1 .least, subst (λ (j : ℕ). tagOf (rule i (mount r) .after) j ≡ some (r .tag)) same (a .1 .holds (omega (arith, m .slots, first .1 .most))))
+
+-- the theorem: until its index is handed out again or named
+pub every-own : EveryOwn
+every-own i r k m cs h n x e =
+    let a = rule i (mount r) .after in
+    let t = mounted-tag i r k m in
+    leads (afterAll a cs) x k (r .tag) e (t .0) (⊎-elim (λ (s : slotOf (afterAll a cs) k ≡ slotOf a k). inl (ap tagIn s ∙ t .1)) (λ (s : slotOf (afterAll a cs) k ≡ emptySlot). inr (ap tagIn s)) (own-slot cs a k h n))
+
+-- ---- not before a lap is over
+
+-- steps up to one that hands k out
+record UpTo (c k : ℕ) (ss : List Step) : Type 0 where
+  steps : List Step
+  going : Going c steps
+  last : lastFound none steps ≡ some k
+  few : total steps ≤ total ss
+
+module _ (s : Step) (ss : List Step) (c k : ℕ) where
+  -- the first of them does
+  first-one : s .found ≡ some k → Going c (s ∷ []) → UpTo c k (s ∷ ss)
+  unfolding total lastFound
+  first-one e g = record { steps = s ∷ []; going = g; last = e; few = omega arith }
+
+  -- a later one does
+  one-more : (d : ℕ) (u : UpTo d k ss) → Going c (s ∷ u .steps) → UpTo c k (s ∷ ss)
+  unfolding total lastFound
+  one-more d u g = record { steps = s ∷ u .steps; going = g; last = last-append [] (u .steps) (s .found) k (u .last); few = omega (arith, u .few) }
+
+up-to : (ss : List Step) (c k : ℕ) → c < 256 → Going c ss → Has k (handedOut ss) → UpTo c k ss
+unfolding Going handedOut allocate
+up-to [] c k l g h = absurd h
+up-to (s ∷ ss) c k l (inl (i, g)) h =
+    ⊎-elim (λ e. first-one s ss c k e (inl (i, tt))) (λ w. let u = up-to ss c k l g w in one-more s ss c k c u (inl (i, u .going))) (has-split (s .found) k (handedOut ss) h)
+up-to (s ∷ ss) c k l (inr (a, g)) h =
+    ⊎-elim (λ e. first-one s ss c k e (inr (a, tt))) (λ w. let u = up-to ss _ k (omega arith) g w in one-more s ss c k _ u (inr (a, u .going)))
+    (has-split (s .found) k (handedOut ss) h)
+
+not-sooner : (i : Instance) (r : Request) (k : ℕ) → MountedAt i r k → (cs : List Call) → Unrestored (rule i (mount r) .after) cs
+    → Has k (handedOut (stepsOf (rule i (mount r) .after) cs)) → 256 ≤ total (stepsOf (rule i (mount r) .after) cs)
+unfolding allocation allocate
+not-sooner i r k m cs u h =
+    let a = rule i (mount r) .after in
+    let s = searches i (mount r) k (m .found) in
+    let low : counterOf a < 256 = omega (arith, s .1) in
+    let w = up-to (stepsOf a cs) (counterOf a) k low (steps-going cs a low u) h in
+    let lap = every-allocator (counterOf i) (m .counter) (stepOf i (mount r)) k (s .0) (m .found) (w .steps) (subst (λ n. Going n (w .steps)) (s .1) (w .going)) (w .last) in
+    omega (arith, w .few, lap .positive, lap .whole)
+
+-- the theorem: within a lap
+pub every-kept : EveryKept
+every-kept i r k m cs u n few = every-own i r k m cs (λ h. omega (arith, not-sooner i r k m cs u h)) n

@@ -1,0 +1,98 @@
+-- What changes a slot, of every call. Assumes nothing.
+use mathlib.Core.Path.{_≡_, refl, sym, ap, _∙_}
+use mathlib.Core.Logic.{_⊎_, inl, inr, ⊎-elim}
+use mathlib.Core.List.{List}
+use mathlib.Core.Option.{Option, none, some}
+use Prim.Native.Nat.{ℕ, _≤_, _<_}
+use native.Mathlib.Decide.{ℕ-discrete}
+use lib.ListN.{length, getD, set, List·getD-eq-default}
+use lib.Seq.{getD-set-same, getD-set-other, set-out}
+use Rattle.rules.specs.Tree.{Mount}
+use Rattle.rules.specs.Instance.{Slot, Instance, emptySlot, heldBy, slotOf, mountOf}
+use Rattle.rules.specs.Outcome.{nothing, says}
+use Rattle.rules.specs.Mount.{Request, freedSlots, placed, allocation, walkedTo, stepped, ended, mountAs, restoreAs}
+use Rattle.rules.specs.Unmount.{unmounts}
+use Rattle.rules.specs.Saved.{stateOf}
+use Rattle.rules.specs.Restore.{restoredTo}
+use Rattle.rules.specs.Calls.{Call, mount, restore-mount, umount, restore}
+use Rattle.rules.specs.Kept.{SlotAfter, stays, emptied, handed-out, put-back, EverySlot}
+use Rattle.rules.proofs.Tests.{le-or-lt}
+use Rattle.rules.proofs.Rows.{each-of}
+use Rattle.rules.proofs.Ways.{every-call}
+
+-- ---- lists of slots
+
+-- a slot that was emptied is empty, within the list or behind it
+pub emptied-slot : (slots : List Slot) (k : ℕ) → getD (set slots k emptySlot) k emptySlot ≡ emptySlot
+emptied-slot slots k =
+    ⊎-elim (λ (l : length slots ≤ k). ap (λ (x : List Slot). getD x k emptySlot) (set-out slots k emptySlot l) ∙ List·getD-eq-default slots emptySlot l)
+    (λ (l : k < length slots). getD-set-same slots k emptySlot emptySlot l) (le-or-lt (length slots) k)
+
+-- where one slot was emptied each is as it was, or empty
+cleared : (slots : List Slot) (k j : ℕ) → (getD (set slots k emptySlot) j emptySlot ≡ getD slots j emptySlot) ⊎ (getD (set slots k emptySlot) j emptySlot ≡ emptySlot)
+cleared slots k j =
+    elim (ℕ-discrete j k) [ yes e ↦ inr (ap (λ (x : ℕ). getD (set slots k emptySlot) x emptySlot) e ∙ emptied-slot slots k) | no e ↦ inl (getD-set-other slots k j emptySlot emptySlot e) ]
+
+freed : (m : Option Mount) (slots : List Slot) (j : ℕ) → (getD (freedSlots m slots) j emptySlot ≡ getD slots j emptySlot) ⊎ (getD (freedSlots m slots) j emptySlot ≡ emptySlot)
+unfolding freedSlots
+freed none slots j = inl refl
+freed (some m) slots j = cleared slots (m .index) j
+
+-- ---- calls
+
+-- another slot than the one that a mount was placed in
+other-slot : (k : ℕ) (r : Request) (x : ℕ) (i : Instance) (j : ℕ) → (j ≡ k → ⊥) → (slotOf (placed k r x i) j ≡ slotOf i j) ⊎ (slotOf (placed k r x i) j ≡ emptySlot)
+unfolding placed
+other-slot k r x i j n =
+    let slots = freedSlots (mountOf (i .tree) x) (i .indexes .slots) in
+    let e = getD-set-other slots k j (heldBy (r .tag)) emptySlot n in
+    ⊎-elim (λ a. inl (e ∙ a)) (λ a. inr (e ∙ a)) (freed (mountOf (i .tree) x) (i .indexes .slots) j)
+
+mount-as : (i : Instance) (r : Request) (k : Option ℕ) → allocation i .found ≡ k → (j : ℕ) → SlotAfter i (mount r) (mountAs i r k) j
+unfolding mountAs
+mount-as i r none e j = stays refl
+mount-as i r (some k) e j =
+    each-of (λ o. SlotAfter i (mount r) o j) _ _ (
+      stays refl,
+      (
+        stays refl,
+        elim (ℕ-discrete j k) [
+          | yes s ↦ handed-out (e ∙ ap {B = Option ℕ} some (sym s))
+          | no n ↦ ⊎-elim stays emptied (other-slot k r (ended i (r .path)) (walkedTo (r .path) (stepped i)) j n)
+        ],
+      ),
+    )
+
+restored-as : (i : Instance) (k : ℕ) (r : Request) (j : ℕ) → SlotAfter i (restore-mount k r) (restoreAs i k r) j
+unfolding restoreAs
+restored-as i k r j =
+    each-of (λ o. SlotAfter i (restore-mount k r) o j) _ _ (
+      stays refl,
+      (
+        stays refl,
+        elim (ℕ-discrete j k) [
+          | yes s ↦ put-back (ap {B = Option ℕ} some (sym s))
+          | no n ↦ ⊎-elim stays emptied (other-slot k r (ended i (r .path)) (walkedTo (r .path) i) j n)
+        ],
+      ),
+    )
+
+unmounted : (i : Instance) (c : Call) (x : ℕ) (m : Mount) (j : ℕ) → SlotAfter i c (unmounts i x m) j
+unfolding unmounts
+unmounted i c x m j = ⊎-elim stays emptied (cleared (i .indexes .slots) (m .index) j)
+
+restored : (i : Instance) (b : List ℕ) (j : ℕ) → SlotAfter i (restore b) (says nothing (restoredTo (stateOf b) i)) j
+unfolding restoredTo
+restored i b j = stays refl
+
+-- the theorem
+pub every-slot : EverySlot
+every-slot = every-call (λ i c o. (j : ℕ) → SlotAfter i c o j) (record {
+  still = λ i c o q s j. stays (ap (λ (a : Instance). slotOf a j) (s .after));
+  early = λ i c code e j. stays refl;
+  mounts = λ i r p j. mount-as i r (allocation i .found) refl j;
+  restores-mount = λ i k r p j. restored-as i k r j;
+  unmounted = λ i path x m e j. unmounted i (umount path) x m j;
+  sets-removal = λ i j. stays refl;
+  restored = λ i b ok j. restored i b j;
+})

@@ -1,0 +1,208 @@
+-- A way to prove a thing of every call: once for all that change nothing, once for a mount or a restored mount that an early row refuses, and once for each that can
+-- change something. Assumes nothing.
+use mathlib.Core.Path.{_≡_, refl, sym}
+use mathlib.Core.Bool.{Bool, true, false, _&&_}
+use mathlib.Core.Logic.{inl, inr}
+use mathlib.Core.List.{List}
+use mathlib.Core.Option.{Option, none, some}
+use Prim.Native.Nat.{ℕ, _+_, _≤_, _<_}
+use native.Mathlib.Omega.{arith}
+use lib.ListN.{length}
+use lib.Dec.{ltb}
+use borrow.Author.Tests.{not-true, not-false, ltb-true, ltb-false}
+use Rattle.rules.specs.Numbers.{maxIno, TOOLONG, INVAL, INODE, FULL, NOROOM, BADINDEX}
+use Rattle.rules.specs.Utf8.{wellFormed}
+use Rattle.rules.specs.Path.{rooted, tooLong}
+use Rattle.rules.specs.Tree.{Mount}
+use Rattle.rules.specs.Instance.{Instance, mountOf, removing}
+use Rattle.rules.specs.Outcome.{nothing, Outcome, refused, says}
+use Rattle.rules.specs.Create.{unknown}
+use Rattle.rules.specs.Mount.{Request, noRoom, allocation, mountAs, mountRule, restoreAs, restoreMountRule}
+use Rattle.rules.specs.Unmount.{reached, mountUnder, unmounts, unmountAt, unmountRule}
+use Rattle.rules.specs.Lookup.{remapRule}
+use Rattle.rules.specs.Saved.{accepted, stateOf}
+use Rattle.rules.specs.Restore.{fresh, restoredTo, restoreRule}
+use Rattle.rules.specs.Calls.{Call, mount, restore-mount, umount, set-remove-pseudo-root, path-walk, get-rootfs, route, lookup, readdir, remap-attr-id, options, initialized, save, restore, rule}
+use Rattle.rules.specs.Leaves.{ByRow2, ByRow3}
+use Rattle.rules.proofs.Rows.{first-of}
+use Rattle.rules.proofs.Still.{Still, still-refused, still-says, walk-still, root-still, route-still, lookup-still, list-still, save-still}
+
+-- the call is a mount or a restored mount
+abbrev pub isMount : Call → Bool
+isMount (mount r) = true
+isMount (restore-mount k r) = true
+isMount (umount path) = false
+isMount set-remove-pseudo-root = false
+isMount (path-walk path) = false
+isMount (get-rootfs path) = false
+isMount (route x) = false
+isMount (lookup x p) = false
+isMount (readdir q) = false
+isMount (remap-attr-id out uid gid) = false
+isMount options = false
+isMount initialized = false
+isMount (save n) = false
+isMount (restore b) = false
+
+-- a request that rows 1 to 4 let pass
+pub record Passed (i : Instance) (r : Request) : Type 0 where
+  pub short : tooLong (r .path) ≡ false
+  pub utf8 : wellFormed (r .path) ≡ true
+  pub largest : r .largest ≤ maxIno
+  pub room : (rooted (r .path) && noRoom i (r .path)) ≡ false
+
+-- a mount or a restored mount that an early row refuses with this number
+pub record Early (c : Call) (code : ℕ) : Type 0 where
+  pub not-full : code ≡ FULL → ⊥
+  pub inval : code ≡ INVAL → ByRow2 c
+  pub inode : code ≡ INODE → ByRow3 c
+
+-- bytes that a restore accepts
+pub record Restorable (i : Instance) (b : List ℕ) : Type 0 where
+  pub is-fresh : fresh i ≡ true
+  pub is-accepted : accepted b ≡ true
+  pub options : unknown (i .fixed .known) (stateOf b .options) ≡ false
+  pub room : ltb (i .fixed .capacity) (1 + length (stateOf b .nodes)) ≡ false
+
+-- ---- early rows
+
+plainly : (c : Call) (code : ℕ) → (code ≡ FULL → ⊥) → (code ≡ INVAL → ⊥) → (code ≡ INODE → ⊥) → Early c code
+plainly c code f v n = record { not-full = f; inval = λ e. absurd (v e); inode = λ e. absurd (n e) }
+
+too-long : (c : Call) → Early c TOOLONG
+too-long c = plainly c TOOLONG (λ e. omega arith) (λ e. omega arith) (λ e. omega arith)
+
+no-room : (c : Call) → Early c NOROOM
+no-room c = plainly c NOROOM (λ e. omega arith) (λ e. omega arith) (λ e. omega arith)
+
+bad-index : (c : Call) → Early c BADINDEX
+bad-index c = plainly c BADINDEX (λ e. omega arith) (λ e. omega arith) (λ e. omega arith)
+
+not-utf8 : (c : Call) → ByRow2 c → Early c INVAL
+not-utf8 c v = record { not-full = λ e. omega arith; inval = λ e. v; inode = λ e. absurd (omega arith) }
+
+too-large : (c : Call) → ByRow3 c → Early c INODE
+too-large c n = record { not-full = λ e. omega arith; inval = λ e. absurd (omega arith); inode = λ e. n }
+
+module _ (r : Request) where
+  mount-row2 : wellFormed (r .path) ≡ false → ByRow2 (mount r)
+  mount-row2 u q e = let s : r ≡ q = cc in rw (sym s) u
+
+  mount-row3 : maxIno < r .largest → ByRow3 (mount r)
+  mount-row3 l q (inl e) = let s : r ≡ q = cc in rw (sym s) l
+  mount-row3 l q (inr (k, e)) = let z : _≡_ {A = ℕ} 0 1 = cc in absurd (omega arith)
+
+  -- it is no mount
+  pub restored-row2 : (k : ℕ) → ByRow2 (restore-mount k r)
+  restored-row2 k q e = let z : _≡_ {A = ℕ} 0 1 = cc in absurd (omega arith)
+
+  restored-row3 : (k : ℕ) → maxIno < r .largest → ByRow3 (restore-mount k r)
+  restored-row3 k l q (inl e) = let z : _≡_ {A = ℕ} 0 1 = cc in absurd (omega arith)
+  restored-row3 k l q (inr (j, e)) = let s : r ≡ q = cc in rw (sym s) l
+
+-- ---- every call
+
+-- what is to be proved of a call and its outcome
+module _ (P : Instance → Call → Outcome → Type 0) where
+  pub record Cases : Type 0 where
+    pub still : (i : Instance) (c : Call) (o : Outcome) → isMount c ≡ false → Still i o → P i c o
+    pub early : (i : Instance) (c : Call) (code : ℕ) → Early c code → P i c (refused code i)
+    pub mounts : (i : Instance) (r : Request) → Passed i r → P i (mount r) (mountAs i r (allocation i .found))
+    pub restores-mount : (i : Instance) (k : ℕ) (r : Request) → Passed i r → P i (restore-mount k r) (restoreAs i k r)
+    pub unmounted : (i : Instance) (path : List ℕ) (x : ℕ) (m : Mount) → mountOf (i .tree) x ≡ some m → P i (umount path) (unmounts i x m)
+    pub sets-removal : (i : Instance) → P i set-remove-pseudo-root (says nothing (removing i))
+    pub restored : (i : Instance) (b : List ℕ) → Restorable i b → P i (restore b) (says nothing (restoredTo (stateOf b) i))
+
+  module _ (h : Cases) (i : Instance) where
+    mount-case : (r : Request) → P i (mount r) (mountRule i r)
+    unfolding mountRule
+    mount-case r =
+        let early = h .early i (mount r) in
+        first-of (P i (mount r)) _ _ (
+          λ a. early _ (too-long (mount r)),
+          λ a. (
+            λ b. early _ (not-utf8 (mount r) (mount-row2 r (not-true _ b))),
+            λ b. (
+              λ d. early _ (too-large (mount r) (mount-row3 r (ltb-true maxIno (r .largest) d))),
+              λ d. (
+                λ n. early _ (no-room (mount r)),
+                λ n. h .mounts i r (record { short = a; utf8 = not-false _ b; largest = ltb-false maxIno (r .largest) d; room = n }),
+              ),
+            ),
+          ),
+        )
+
+    restore-mount-case : (k : ℕ) (r : Request) → P i (restore-mount k r) (restoreMountRule i k r)
+    unfolding restoreMountRule
+    restore-mount-case k r =
+        let c = restore-mount k r in
+        let early = h .early i c in
+        first-of (P i c) _ _ (
+          λ a. early _ (too-long c),
+          λ a. (
+            λ b. early _ (not-utf8 c (restored-row2 r k)),
+            λ b. (
+              λ z. early _ (bad-index c),
+              λ z. (
+                λ d. early _ (too-large c (restored-row3 r k (ltb-true maxIno (r .largest) d))),
+                λ d. (
+                  λ n. early _ (no-room c),
+                  λ n. h .restores-mount i k r (record { short = a; utf8 = not-false _ b; largest = ltb-false maxIno (r .largest) d; room = n }),
+                ),
+              ),
+            ),
+          ),
+        )
+
+    -- refused, with all as it was
+    refusal : (c : Call) → isMount c ≡ false → (code : ℕ) → (code ≡ FULL → ⊥) → P i c (refused code i)
+    refusal c q code f = h .still i c (refused code i) q (still-refused i code f)
+
+    unmount-at : (path : List ℕ) (x : Option ℕ) (m : Option Mount) → mountUnder i x ≡ m → P i (umount path) (unmountAt i x m)
+    unfolding unmountAt
+    unmount-at path none m e = refusal (umount path) refl _ (λ f. omega arith)
+    unmount-at path (some x) none e = refusal (umount path) refl _ (λ f. omega arith)
+    unmount-at path (some x) (some m) e = h .unmounted i path x m e
+
+    unmount-case : (path : List ℕ) → P i (umount path) (unmountRule i path)
+    unfolding unmountRule
+    unmount-case path =
+        first-of (P i (umount path)) _ _ (
+          λ a. refusal (umount path) refl _ (λ f. omega arith),
+          λ a. unmount-at path (reached i path) (mountUnder i (reached i path)) refl,
+        )
+
+    restore-case : (b : List ℕ) → P i (restore b) (restoreRule i b)
+    unfolding restoreRule
+    restore-case b =
+        let refuse = refusal (restore b) refl in
+        first-of (P i (restore b)) _ _ (
+          λ a. refuse _ (λ f. omega arith),
+          λ a. (
+            λ c. refuse _ (λ f. omega arith),
+            λ c. (
+              λ d. refuse _ (λ f. omega arith),
+              λ d. (
+                λ e. refuse _ (λ f. omega arith),
+                λ e. h .restored i b (record { is-fresh = not-false _ a; is-accepted = not-false _ c; options = d; room = e }),
+              ),
+            ),
+          ),
+        )
+
+  pub every-call : Cases → (i : Instance) (c : Call) → P i c (rule i c)
+  unfolding rule remapRule
+  every-call h i (mount r) = mount-case h i r
+  every-call h i (restore-mount k r) = restore-mount-case h i k r
+  every-call h i (umount path) = unmount-case h i path
+  every-call h i set-remove-pseudo-root = h .sets-removal i
+  every-call h i (path-walk path) = h .still i _ _ refl (walk-still i path)
+  every-call h i (get-rootfs path) = h .still i _ _ refl (root-still i path)
+  every-call h i (route x) = h .still i _ _ refl (route-still i x)
+  every-call h i (lookup x p) = h .still i _ _ refl (lookup-still i x p)
+  every-call h i (readdir q) = h .still i _ _ refl (list-still i q)
+  every-call h i (remap-attr-id out uid gid) = h .still i _ _ refl (still-says i _)
+  every-call h i options = h .still i _ _ refl (still-says i _)
+  every-call h i initialized = h .still i _ _ refl (still-says i _)
+  every-call h i (save n) = h .still i _ _ refl (save-still i n)
+  every-call h i (restore b) = restore-case h i b

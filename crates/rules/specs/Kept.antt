@@ -1,0 +1,86 @@
+-- What becomes of a number that a session keeps: it leads into its own mount or nowhere until its index is handed out again.
+use Prim.Native.Nat.{ℕ, _<_}
+use mathlib.Core.Logic.{_⊎_}
+use mathlib.Core.List.{List, [], _∷_}
+use mathlib.Core.Option.{Option, none, some}
+use mathlib.Core.Path.{_≡_}
+use lib.ListN.{length}
+use Rattle.rules.specs.Numbers.{indexOf, numberOf, NOENT}
+use Rattle.rules.specs.Instance.{Instance, counterOf, emptySlot, slotOf}
+use Rattle.rules.specs.Outcome.{toBackend, Outcome, refused, says}
+use Rattle.rules.specs.Mount.{Request}
+use Rattle.rules.specs.Calls.{Call, mount, restore-mount, umount, set-remove-pseudo-root, path-walk, get-rootfs, route, lookup, readdir, remap-attr-id, options, initialized, save, restore, rule}
+use Rattle.rules.specs.Laps.{Step, total, Has}
+use Rattle.rules.specs.Trace.{Unrestored, afterAll, stepsOf}
+
+-- ---- indexes that calls give away
+
+-- the index that a restored mount names (R91)
+abbrev pub named : Call → Option ℕ
+named (restore-mount k r) = some k
+named (mount r) = none
+named (umount path) = none
+named set-remove-pseudo-root = none
+named (path-walk path) = none
+named (get-rootfs path) = none
+named (route x) = none
+named (lookup x p) = none
+named (readdir q) = none
+named (remap-attr-id out uid gid) = none
+named options = none
+named initialized = none
+named (save buffer) = none
+named (restore b) = none
+
+-- an index before others, if there is one
+abbrev pub before : Option ℕ → List ℕ → List ℕ
+before none ks = ks
+before (some k) ks = k ∷ ks
+
+-- the indexes that the calls name in restored mounts, one after another
+unfoldable pub namedIn : List Call → List ℕ
+namedIn [] = []
+namedIn (c ∷ cs) = before (named c) (namedIn cs)
+
+-- the indexes that the steps hand out, one after another (R85)
+unfoldable pub handedOut : List Step → List ℕ
+handedOut [] = []
+handedOut (s ∷ ss) = before (s .found) (handedOut ss)
+
+-- ---- what changes a slot
+
+-- the slot of j after a call: as it was, or emptied; or the call hands j out, or names it in a restored mount (R56, R76, R85, R93, R98)
+pub data SlotAfter (i : Instance) (c : Call) (o : Outcome) (j : ℕ) : Type 0 where
+  stays : slotOf (o .after) j ≡ slotOf i j → SlotAfter i c o j
+  emptied : slotOf (o .after) j ≡ emptySlot → SlotAfter i c o j
+  handed-out : o .found ≡ some j → SlotAfter i c o j
+  put-back : named c ≡ some j → SlotAfter i c o j
+
+-- of every call on every instance
+abbrev pub EverySlot : Type 0
+EverySlot = (i : Instance) (c : Call) (j : ℕ) → SlotAfter i c (rule i c) j
+
+-- ---- where a kept number leads
+
+-- the full number x leads into the backend of the tag t, or nowhere (R105, R106)
+abbrev pub LeadsTo : Instance → ℕ → ℕ → Type 0
+LeadsTo i x t = (rule i (route x) ≡ refused NOENT i) ⊎ (rule i (route x) ≡ says (toBackend t (indexOf x) (numberOf x)) i)
+
+-- on tables with a counter that is a byte and 256 slots, a mount was done, and handed k out (R31, R75, R85)
+pub record MountedAt (i : Instance) (r : Request) (k : ℕ) : Type 0 where
+  pub counter : counterOf i < 256
+  pub slots : length (i .indexes .slots) ≡ 256
+  pub done : rule i (mount r) .code ≡ 0
+  pub found : rule i (mount r) .found ≡ some k
+
+-- a number of its index leads into that mount's backend or nowhere, as long as no call hands the index out again or names it in a restored mount (R85, R105, R106)
+abbrev pub EveryOwn : Type 0
+EveryOwn = (i : Instance) (r : Request) (k : ℕ) → MountedAt i r k → (cs : List Call)
+    → (Has k (handedOut (stepsOf (rule i (mount r) .after) cs)) → ⊥) → (Has k (namedIn cs) → ⊥)
+    → (x : ℕ) → indexOf x ≡ k → LeadsTo (afterAll (rule i (mount r) .after) cs) x (r .tag)
+
+-- and so as long as the counts sum to less than 256, with no state restore and no restored mount that names the index (R82, R87, R105, R106)
+abbrev pub EveryKept : Type 0
+EveryKept = (i : Instance) (r : Request) (k : ℕ) → MountedAt i r k → (cs : List Call) → Unrestored (rule i (mount r) .after) cs
+    → (Has k (namedIn cs) → ⊥) → total (stepsOf (rule i (mount r) .after) cs) < 256
+    → (x : ℕ) → indexOf x ≡ k → LeadsTo (afterAll (rule i (mount r) .after) cs) x (r .tag)
