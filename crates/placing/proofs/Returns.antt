@@ -10,7 +10,6 @@ use Rattle.rules.specs.Numbers.{rootNumber}
 use Rattle.rules.specs.Tree.{Mount, Node, mountAt, withMount}
 use Rattle.rules.specs.Instance.{Tree, Instance, tagIn as tagInSlot, tagOf, mountOf, setMount}
 use Rattle.rules.specs.Mount.{tagAt}
-use Rattle.rules.proofs.Held.{freed-tree}
 use Rattle.tables.specs.View.{flag, headOf, slotAt, nodesOf, view}
 use Rattle.tables.specs.Rule.{laid}
 use Rattle.tables.specs.Write.{setSlot, removeRow}
@@ -92,7 +91,7 @@ place-set t x m y = go (eqb x rootNumber)
 pub row-freed : (mem m₁ : List ℕ) (old : MountOn) (r : Tag) → laid mem ≡ true → Frees mem old r m₁ → (x : ℕ) (w : Row) → RowOf mem x w → RowOf m₁ x w
 unfolding view rowFor
 row-freed mem m₁ old r e f x w p =
-    let v : view m₁ .tree ≡ view mem .tree = (λ i. (ap view (f .bytes) ∙ view-freed mem e (mountIn old) (f .within)) i .tree) ∙ freed-tree (mountIn old) (view mem) in
+    let v : view m₁ .tree ≡ view mem .tree = (λ i. (ap view (f .bytes) ∙ view-freed mem e (mountIn old) (f .within)) i .tree) in
     p ∙ sym (ap (λ (t : Tree). rowFor (t .nodes) x) v)
 
 pub row-mounted : (mem m₁ : List ℕ) (x : ℕ) → laid mem ≡ true → m₁ ≡ nodeMountMem (nodesOf mem) none x mem → (w : Row) → RowOf mem x w → RowOf m₁ x w

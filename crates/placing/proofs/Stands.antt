@@ -10,7 +10,7 @@ use lib.Dec.{eqb}
 use Rattle.rules.specs.Numbers.{rootNumber}
 use Rattle.rules.specs.Tree.{Mount}
 use Rattle.rules.specs.Instance.{Tree, Instance, emptySlot, heldBy, slotOf, tagIn as tagInSlot, tagOf, mountOf, setMount, withSlot, withTree, cut}
-use Rattle.rules.specs.Mount.{Request, mountOn, freed, placed}
+use Rattle.rules.specs.Mount.{Request, mountOn, freedSlots, freed, placed}
 use Rattle.rules.specs.Unmount.{taken}
 use Rattle.tables.specs.View.{flag, headOf, slotAt, slotsOf, nodesOf, view}
 use Rattle.tables.specs.Rule.{laid}
@@ -32,7 +32,7 @@ tag-of-is mem k t h e = e ∙ ap tagInSlot (sym (slot-of mem k h))
 
 module _ (mem : List ℕ) (e : laid mem ≡ true) where
   pub view-freed : (m : Option Mount) → InSlots m → view (freedMem m mem) ≡ freed m (view mem)
-  unfolding freedMem freed
+  unfolding freedMem freedSlots
   view-freed none h = refl
   view-freed (some m) h = view-slot (m .index) h false 0 mem (omega arith) (laid-long mem e)
 

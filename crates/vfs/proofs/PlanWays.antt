@@ -99,9 +99,7 @@ tag-kept none i j e = refl
 tag-kept (some m) i j e = rw e
 
 freed-kept : (m : Option Mount) (i j : Instance) (k : ℕ) → i .indexes .slots ≡ j .indexes .slots → tagOf (freed m i) k ≡ tagOf (freed m j) k
-unfolding freed
-freed-kept none i j k e = rw e
-freed-kept (some m) i j k e = rw e
+freed-kept m i j k e = rw e
 
 -- ---- mount
 
