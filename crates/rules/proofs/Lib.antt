@@ -27,6 +27,7 @@ pub mod Driven
 pub mod Restored
 pub mod Restart
 pub mod Stays
+pub mod Again
 pub mod Slots
 pub mod Kept
 pub mod Wait

@@ -136,7 +136,7 @@ module _ (i : Instance) (f : Facts i) where
   few : length (entriesFor (i .tree .nodes)) ≤ 1023
   few = omega (arith, entries-length (i .tree .nodes), f .room, f .capacity)
 
-  saved-fits : Fits (saved i)
+  pub saved-fits : Fits (saved i)
   unfolding saved
   saved-fits =
       let es = entriesFor (i .tree .nodes) in

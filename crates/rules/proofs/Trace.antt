@@ -1,17 +1,18 @@
 -- Runs of calls from any instance: demand 3 over every call. Assumes nothing.
 use mathlib.Core.Path.{_≡_, refl, sym, _∙_, subst}
 use mathlib.Core.Logic.{inl, inr, ⊎-elim}
-use mathlib.Core.List.{List, [], _∷_, _++_}
+use mathlib.Core.List.{List, [], _∷_}
 use mathlib.Core.Option.{none, some, Option·none-ne-some}
 use Prim.Native.Nat.{ℕ, _+_, _%_, _<_}
 use native.Mathlib.Omega.{arith}
 use lib.ListN.{length}
+use Rattle.rules.specs.Round.{allocate}
 use Rattle.rules.specs.Instance.{Instance, counterOf}
 use Rattle.rules.specs.Mount.{allocation}
 use Rattle.rules.specs.Calls.{Call, rule}
 use Rattle.rules.specs.Laps.{Searches, Going, total}
-use Rattle.rules.specs.Trace.{NoRestore, Unrestored, afterAll, stepOf, stepsOf, EveryRun, EveryLap, EveryRestart}
-use Rattle.rules.proofs.Laps.{runs-round, every-allocator, going-append, last-append}
+use Rattle.rules.specs.Trace.{NoRestore, Unrestored, afterAll, stepOf, stepsOf, EveryRun, EveryLap}
+use Rattle.rules.proofs.Laps.{runs-round, every-allocator}
 use Rattle.rules.proofs.Turn.{only-mounts, seen-moved, found-no-restore}
 
 -- the counter moves by what a call visits
@@ -29,7 +30,7 @@ steps-going (c ∷ cs) i h u =
     ⊎-elim (λ q. inl ((q .visits, q .found), subst (λ n. Going n (stepsOf (rule i c .after) cs)) (q .counter) on))
     (λ q. inr ((q .1 .visits, q .1 .found), subst (λ n. Going n (stepsOf (rule i c .after) cs)) (q .1 .counter) on)) (only-mounts i c (u .0))
 
-all-moved : (cs : List Call) (i : Instance) → counterOf i < 256 → Unrestored i cs → counterOf (afterAll i cs) ≡ (counterOf i + total (stepsOf i cs)) % 256
+pub all-moved : (cs : List Call) (i : Instance) → counterOf i < 256 → Unrestored i cs → counterOf (afterAll i cs) ≡ (counterOf i + total (stepsOf i cs)) % 256
 unfolding stepsOf afterAll total Unrestored
 all-moved [] i h u = omega arith
 all-moved (c ∷ cs) i h u =
@@ -46,20 +47,11 @@ unfolding allocation
 searches i c k e =
     ⊎-elim (λ q. absurd (Option·none-ne-some k (sym (q .found) ∙ e))) (λ q. ((q .1 .visits, q .1 .found), q .1 .counter)) (only-mounts i c (found-no-restore i c k e))
 
--- the theorem: after a call that handed k out, calls, and then calls on another instance with the counter carried over, up to one that hands k out again
-pub laps-over : EveryRestart
-unfolding allocation
-laps-over i h c k first cs u j same ds w last =
+-- the theorem: after a call that handed k out, calls up to one that hands k out again
+pub laps : EveryLap
+unfolding allocation allocate
+laps i h c k first cs u last =
     let a = rule i c .after in
     let s = searches i c k first in
-    let low : counterOf a < 256 = omega (arith, turned i h c (found-no-restore i c k first)) in
-    let here : counterOf j ≡ (counterOf a + total (stepsOf a cs)) % 256 = same ∙ all-moved cs a low u in
-    let there : Going ((counterOf a + total (stepsOf a cs)) % 256) (stepsOf j ds) = subst (λ n. Going n (stepsOf j ds)) here (steps-going ds j (omega arith) w) in
-    let both : Going (counterOf a) (stepsOf a cs ++ stepsOf j ds) = going-append (stepsOf a cs) (stepsOf j ds) (counterOf a) low (steps-going cs a low u) there in
-    every-allocator (counterOf i) h (stepOf i c) k (s .0) first (stepsOf a cs ++ stepsOf j ds) (subst (λ n. Going n (stepsOf a cs ++ stepsOf j ds)) (s .1) both)
-    (last-append (stepsOf a cs) (stepsOf j ds) none k last)
-
--- the theorem: the same on one instance
-pub laps : EveryLap
-unfolding stepsOf afterAll Unrestored
-laps i h c k first cs u last = laps-over i h c k first [] tt (rule i c .after) refl cs u last
+    let going = steps-going cs a (omega (arith, s .1)) u in
+    every-allocator (counterOf i) h (stepOf i c) k (s .0) first (stepsOf a cs) (subst (λ n. Going n (stepsOf a cs)) (s .1) going) last

@@ -1,31 +1,52 @@
--- Demand 3 over a save and a restore: the lap goes on where the newest state is restored.
-use Prim.Native.Nat.{ℕ, _≤_, _<_}
-use mathlib.Core.Bool.{true}
-use mathlib.Core.List.{List, _++_}
+-- Demand 3 over restarts: the lap goes on where the counter is carried over, as a save and a restore do.
+use Prim.Native.Nat.{ℕ, _<_}
+use mathlib.Core.List.{List, [], _∷_, _++_}
 use mathlib.Core.Option.{none, some}
 use mathlib.Core.Path.{_≡_}
-use Rattle.rules.specs.Instance.{Instance, counterOf, live}
+use Rattle.rules.specs.Instance.{Instance, counterOf}
 use Rattle.rules.specs.Saved.{encode}
-use Rattle.rules.specs.Restore.{saved, fresh, restoreRule}
+use Rattle.rules.specs.Restore.{saved, restoreRule}
 use Rattle.rules.specs.Calls.{Call, rule}
-use Rattle.rules.specs.Driven.{Driven, Present}
-use Rattle.rules.specs.Laps.{lastFound, Laps}
+use Rattle.rules.specs.Driven.{Driven}
+use Rattle.rules.specs.Laps.{Step, lastFound, Laps}
 use Rattle.rules.specs.Trace.{Unrestored, afterAll, stepsOf}
 
--- what j is once the saved bytes of i are restored into it (R134, R135)
-abbrev pub restarted : Instance → Instance → Instance
-restarted j i = restoreRule j (encode (saved i)) .after
+-- an instance, and calls on it: what runs from one restart to the next
+pub record Life : Type 0 where
+  pub start : Instance
+  pub calls : List Call
 
--- the saved bytes of i give i back in j: i is driven with every parent present, j is fresh, with room and the same mask (R135)
-pub record CanRestart (i j : Instance) : Type 0 where
-  pub driven : Driven i
-  pub present : Present (i .tree .nodes) (i .tree .nodes)
-  pub fresh-one : fresh j ≡ true
-  pub mask : j .fixed .known ≡ i .fixed .known
-  pub room : live i ≤ j .fixed .capacity
+-- what it leaves
+abbrev pub left : Life → Instance
+left l = afterAll (l .start) (l .calls)
 
--- a call handed k out; after more calls the state is saved, restored into a fresh instance, and there the last of the calls hands k out again (R87, R88, R135)
+-- the steps of lives, one life after another
+unfoldable pub stepsIn : List Life → List Step
+stepsIn [] = []
+stepsIn (l ∷ ls) = stepsOf (l .start) (l .calls) ++ stepsIn ls
+
+-- lives after the instance i: each begins with the counter that was left, and has no done state restore among its calls (R87)
+unfoldable pub Carried : Instance → List Life → Type 0
+Carried i [] = Unit {0}
+Carried i (l ∷ ls) = (counterOf (l .start) ≡ counterOf i) × (Unrestored (l .start) (l .calls) × Carried (left l) ls)
+
+-- a call handed k out; lives follow, and the last call of all hands k out again (R87, R88)
+abbrev pub EveryRestart : Type 0
+EveryRestart = (i : Instance) → counterOf i < 256 → (c : Call) (k : ℕ) → rule i c .found ≡ some k → (ls : List Life) → Carried (rule i c .after) ls
+    → lastFound none (stepsIn ls) ≡ some k → Laps (stepsIn ls)
+
+-- what the saved bytes of i leave of the instance f by a restore that is done is j (R119, R128, R134)
+pub record Restarted (i f j : Instance) : Type 0 where
+  pub done : restoreRule f (encode (saved i)) .code ≡ 0
+  pub gives : restoreRule f (encode (saved i)) .after ≡ j
+
+-- lives after the instance i: each begins with a done restore of the state that was left, of an instance that calls have made (R87, R134)
+unfoldable pub Restarts : Instance → List Life → Type 0
+Restarts i [] = Unit {0}
+Restarts i (l ∷ ls) = Driven i × (((f : Instance) × Restarted i f (l .start)) × (Unrestored (l .start) (l .calls) × Restarts (left l) ls))
+
+-- a call handed k out; after more calls come restarts, and the last call of all hands k out again (R87, R88, R135)
 abbrev pub EverySavedRestart : Type 0
 EverySavedRestart = (i : Instance) → counterOf i < 256 → (c : Call) (k : ℕ) → rule i c .found ≡ some k → (cs : List Call) → Unrestored (rule i c .after) cs
-    → (j : Instance) → CanRestart (afterAll (rule i c .after) cs) j → (ds : List Call) → Unrestored (restarted j (afterAll (rule i c .after) cs)) ds
-    → lastFound none (stepsOf (restarted j (afterAll (rule i c .after) cs)) ds) ≡ some k → Laps (stepsOf (rule i c .after) cs ++ stepsOf (restarted j (afterAll (rule i c .after) cs)) ds)
+    → (ls : List Life) → Restarts (afterAll (rule i c .after) cs) ls → lastFound none (stepsOf (rule i c .after) cs ++ stepsIn ls) ≡ some k
+    → Laps (stepsOf (rule i c .after) cs ++ stepsIn ls)

@@ -1,16 +1,17 @@
 -- What no call changes, and what only some calls change.
-use Prim.Native.Nat.{ℕ, _≤_}
+use Prim.Native.Nat.{ℕ, _≤_, _<_}
 use mathlib.Core.Bool.{true}
 use mathlib.Core.List.{List, [], _∷_}
 use mathlib.Core.Option.{Option, none, some}
 use mathlib.Core.Path.{_≡_}
 use Rattle.rules.specs.Numbers.{rootNumber}
-use Rattle.rules.specs.Tree.{Mount, Node}
+use Rattle.rules.specs.Tree.{Mount, Node, nodeIn}
 use Rattle.rules.specs.Instance.{Tree, Instance}
 use Rattle.rules.specs.Outcome.{Outcome}
 use Rattle.rules.specs.Mount.{Request}
 use Rattle.rules.specs.Calls.{Call, mount, restore-mount, umount, restore, rule}
 use Rattle.rules.specs.Driven.{Driven}
+use Rattle.rules.specs.Trace.{Unrestored, afterAll}
 
 -- the mount of a node, if it has one, put before others
 abbrev pub mounted : ℕ → Option Mount → List (ℕ × Mount) → List (ℕ × Mount)
@@ -63,3 +64,8 @@ Distinct (n ∷ ns) = (n .number ≡ rootNumber → ⊥) × Absent (n .number) n
 -- of every driven instance (R49)
 abbrev pub NumbersOnce : Type 0
 NumbersOnce = (i : Instance) → Driven i → Distinct (i .tree .nodes)
+
+-- a number below the next one that no node has is given to no node again, on any tables, over any calls without a done state restore (R49)
+abbrev pub NeverAgain : Type 0
+NeverAgain = (i : Instance) (x : ℕ) → x < i .tree .next → nodeIn (i .tree .nodes) x ≡ none → (cs : List Call) → Unrestored i cs
+    → nodeIn (afterAll i cs .tree .nodes) x ≡ none

@@ -3,7 +3,7 @@ use Prim.Native.Nat.{ℕ, _+_, _%_, _≤_, _<_}
 use mathlib.Core.Bool.{true, false, _&&_}
 use mathlib.Core.Path.{_≡_}
 use mathlib.Core.Logic.{_⊎_}
-use mathlib.Core.List.{List, [], _∷_, _++_}
+use mathlib.Core.List.{List, [], _∷_}
 use mathlib.Core.Option.{Option, none, some}
 use lib.ListN.{length}
 use Rattle.rules.specs.Numbers.{maxIno}
@@ -85,10 +85,3 @@ EveryRun = (cs : List Call) (i : Instance) → counterOf i < 256 → Unrestored 
 abbrev pub EveryLap : Type 0
 EveryLap = (i : Instance) → counterOf i < 256 → (c : Call) (k : ℕ) → rule i c .found ≡ some k
     → (cs : List Call) → Unrestored (rule i c .after) cs → lastFound none (stepsOf (rule i c .after) cs) ≡ some k → Laps (stepsOf (rule i c .after) cs)
-
--- a call handed k out; after more calls the counter is carried over to another instance, as a save and a restore do, and there the last of the calls hands k out
--- again (R87, R88, R135)
-abbrev pub EveryRestart : Type 0
-EveryRestart = (i : Instance) → counterOf i < 256 → (c : Call) (k : ℕ) → rule i c .found ≡ some k → (cs : List Call) → Unrestored (rule i c .after) cs
-    → (j : Instance) → counterOf j ≡ counterOf (afterAll (rule i c .after) cs) → (ds : List Call) → Unrestored j ds → lastFound none (stepsOf j ds) ≡ some k
-    → Laps (stepsOf (rule i c .after) cs ++ stepsOf j ds)
