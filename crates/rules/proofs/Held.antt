@@ -4,10 +4,10 @@ use mathlib.Core.Bool.{Bool, true, false, cond, not, _&&_, true≢false}
 use mathlib.Core.Logic.{_⊎_, inl, inr, ⊎-elim}
 use mathlib.Core.List.{List, [], _∷_, _++_}
 use mathlib.Core.Option.{Option, none, some, Option·none-ne-some}
-use Prim.Native.Nat.{ℕ, _≤_, _<_}
+use Prim.Native.Nat.{ℕ}
 use native.Mathlib.Decide.{ℕ-discrete}
-use lib.ListN.{length, getD, set, length-set, List·getD-eq-default}
-use lib.Seq.{getD-set-same, getD-set-other, set-out}
+use lib.ListN.{length, getD, set, length-set}
+use lib.Seq.{getD-set-other}
 use lib.Dec.{eqb}
 use borrow.Author.Tests.{eqb-true, eqb-false}
 use Rattle.rules.specs.Numbers.{rootNumber}
@@ -16,7 +16,6 @@ use Rattle.rules.specs.Instance.{Slot, Tree, Instance, emptySlot, heldBy
 use Rattle.rules.specs.Mount.{Request, freedSlots, freed, mountOn, placed}
 use Rattle.rules.specs.Unmount.{taken}
 use Rattle.rules.specs.Driven.{IsAt, MountIn, Mounted, Rooted}
-use Rattle.rules.proofs.Tests.{le-or-lt}
 use Rattle.rules.proofs.Walk.{reached-live}
 use Rattle.rules.proofs.Slots.{emptied-slot}
 

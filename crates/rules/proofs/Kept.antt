@@ -1,30 +1,27 @@
 -- A kept number leads into its own mount or nowhere until its index is handed out again. Assumes nothing.
 use mathlib.Core.Path.{_≡_, refl, sym, ap, _∙_, subst}
-use mathlib.Core.Bool.{Bool, true, false, cond, not, _&&_, true≢false}
+use mathlib.Core.Bool.{false}
 use mathlib.Core.Logic.{_⊎_, inl, inr, ⊎-elim}
 use mathlib.Core.List.{List, [], _∷_}
 use mathlib.Core.Option.{Option, none, some, Option·none-ne-some}
-use Prim.Native.Nat.{ℕ, zero, suc, _+_, _%_, _≤_, _<_}
+use Prim.Native.Nat.{ℕ, _≤_, _<_}
 use native.Mathlib.Omega.{arith}
-use native.Mathlib.Decide.{ℕ-discrete}
-use lib.ListN.{length}
 use lib.Dec.{eqb}
 use borrow.Author.Tests.{ne-eqb}
 use Rattle.rules.specs.Numbers.{indexOf, numberOf, NOENT}
 use Rattle.rules.specs.Round.{allocate}
-use Rattle.rules.specs.Instance.{Slot, Instance, counterOf, emptySlot, slotOf, tagIn, tagOf, heldIn}
-use Rattle.rules.specs.Outcome.{Outcome, refused, says, toBackend}
+use Rattle.rules.specs.Instance.{Instance, counterOf, emptySlot, slotOf, tagIn, tagOf, heldIn}
+use Rattle.rules.specs.Outcome.{refused, says, toBackend}
 use Rattle.rules.specs.Mount.{Request, allocation}
 use Rattle.rules.specs.Lookup.{routeTag, routeRule}
-use Rattle.rules.specs.Calls.{Call, mount, route, rule}
-use Rattle.rules.specs.Laps.{Step, Searches, Going, total, lastFound, Has, Met}
+use Rattle.rules.specs.Calls.{Call, mount, rule}
+use Rattle.rules.specs.Laps.{Step, Going, total, lastFound, Has}
 use Rattle.rules.specs.Trace.{Unrestored, afterAll, stepOf, stepsOf}
-use Rattle.rules.specs.Kept.{named, before, namedIn, handedOut, SlotAfter, stays, emptied, handed-out, put-back, LeadsTo, MountedAt, EveryOwn, EveryKept}
-use Rattle.rules.proofs.Tests.{known, le-or-lt}
+use Rattle.rules.specs.Kept.{named, before, namedIn, handedOut, stays, emptied, handed-out, put-back, LeadsTo, MountedAt, EveryOwn, EveryKept}
 use Rattle.rules.proofs.Allocation.{exact}
 use Rattle.rules.proofs.Laps.{every-allocator, last-append}
 use Rattle.rules.proofs.Turn.{mounts-allocate}
-use Rattle.rules.proofs.Trace.{searches, steps-going, laps}
+use Rattle.rules.proofs.Trace.{searches, steps-going}
 use Rattle.rules.proofs.Slots.{every-slot}
 
 -- ---- lists of indexes

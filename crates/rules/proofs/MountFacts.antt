@@ -1,13 +1,13 @@
 -- A mount, a restored mount and an unmount keep what holds of every driven instance. Assumes nothing.
 use mathlib.Core.Path.{_≡_, refl, _∙_}
-use mathlib.Core.Bool.{Bool, true, false, cond, not, _&&_, true≢false}
+use mathlib.Core.Bool.{Bool, true, false, cond, not, _&&_}
 use mathlib.Core.List.{List}
 use mathlib.Core.Option.{Option, none, some}
 use Prim.Native.Nat.{ℕ, _+_, _≤_, _<_}
 use native.Mathlib.Omega.{arith}
 use lib.ListN.{length, set, length-append, length-set}
 use lib.Dec.{eqb, ltb}
-use borrow.Author.Tests.{ltb-false}
+use borrow.Author.Tests.{ltb-false, not-false}
 use Rattle.rules.specs.Numbers.{rootNumber, topNumber}
 use Rattle.rules.specs.Utf8.{wellFormed}
 use Rattle.rules.specs.Path.{tooLong, rooted}
@@ -19,7 +19,7 @@ use Rattle.rules.specs.Mount.{Request, planned, needed, noRoom, freedSlo
 use Rattle.rules.specs.Unmount.{taken, unmounts}
 use Rattle.rules.specs.Restore.{entriesFor}
 use Rattle.rules.specs.Driven.{Shape, Facts, Rooted}
-use Rattle.rules.proofs.Tests.{or-neither}
+use Rattle.rules.proofs.Tests.{and-rest, or-neither}
 use Rattle.rules.proofs.Rows.{first-of}
 use Rattle.rules.proofs.Ways.{Passed}
 use Rattle.rules.proofs.Shape.{entries-mount, shape-less, length-less, length-mount}
@@ -126,10 +126,6 @@ placed-facts k r x i w f =
 abbrev pub Keeps : Outcome → Type 0
 Keeps o = Facts (o .after)
 
-room-left : (a b : Bool) → (a && b) ≡ false → not a ≡ false → b ≡ false
-room-left true b e f = e
-room-left false b e f = absurd (true≢false f)
-
 module _ (i : Instance) (r : Request) (f : Facts i) (p : Passed i r) where
   -- a step of the counter leaves the room as it is
   same-room : noRoom (stepped i) (r .path) ≡ noRoom i (r .path)
@@ -144,7 +140,7 @@ module _ (i : Instance) (r : Request) (f : Facts i) (p : Passed i r) where
       first-of Keeps _ _ (
         λ a. s,
         λ a.
-            let n = same-room ∙ room-left (rooted (r .path)) (noRoom i (r .path)) (p .room) a in
+            let n = same-room ∙ and-rest (rooted (r .path)) (noRoom i (r .path)) (p .room) (not-false _ a) in
             let w = walked-facts (stepped i) s (r .path) (p .short) (p .utf8) n in
             (λ b. w, λ b. placed-facts k r (ended i (r .path)) (walkedTo (r .path) (stepped i)) (walks (stepped i) s (r .path) (p .short) (p .utf8) n .reached) w),
       )
@@ -155,7 +151,7 @@ module _ (i : Instance) (r : Request) (f : Facts i) (p : Passed i r) where
       first-of Keeps _ _ (
         λ a. f,
         λ a.
-            let n = room-left (rooted (r .path)) (noRoom i (r .path)) (p .room) a in
+            let n = and-rest (rooted (r .path)) (noRoom i (r .path)) (p .room) (not-false _ a) in
             let w = walked-facts i f (r .path) (p .short) (p .utf8) n in
             (λ b. w, λ b. placed-facts k r (ended i (r .path)) (walkedTo (r .path) i) (walks i f (r .path) (p .short) (p .utf8) n .reached) w),
       )

@@ -1,7 +1,6 @@
 -- The lap over restarts: a done restore carries the counter over. Assumes nothing.
 use mathlib.Core.Path.{_≡_, refl, sym, ap, _∙_, subst}
-use mathlib.Core.List.{List, [], _∷_, _++_}
-use mathlib.Core.Option.{none, some}
+use mathlib.Core.List.{List, [], _∷_}
 use Prim.Native.Nat.{ℕ, _+_, _%_, _<_}
 use native.Mathlib.Omega.{arith}
 use Rattle.rules.specs.Instance.{Instance, counterOf}
@@ -10,10 +9,10 @@ use Rattle.rules.specs.Outcome.{Outcome}
 use Rattle.rules.specs.Round.{allocate}
 use Rattle.rules.specs.Saved.{State, encode, stateOf}
 use Rattle.rules.specs.Restore.{saved, restoredTo, restoreRule}
-use Rattle.rules.specs.Calls.{Call, rule}
+use Rattle.rules.specs.Calls.{rule}
 use Rattle.rules.specs.Driven.{Driven}
 use Rattle.rules.specs.Laps.{Going, total}
-use Rattle.rules.specs.Trace.{Unrestored, afterAll, stepOf, stepsOf}
+use Rattle.rules.specs.Trace.{afterAll, stepOf, stepsOf}
 use Rattle.rules.specs.Restart.{Life, left, stepsIn, Carried, Restarted, Restarts, EveryRestart, EverySavedRestart}
 use Rattle.rules.proofs.Rows.{each-of}
 use Rattle.rules.proofs.Laps.{every-allocator, going-append}

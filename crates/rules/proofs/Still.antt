@@ -1,6 +1,5 @@
 -- Calls that change nothing. Assumes nothing.
 use mathlib.Core.Path.{_≡_, refl}
-use mathlib.Core.Bool.{Bool, true, false}
 use mathlib.Core.Logic.{_⊎_, inl, inr}
 use mathlib.Core.List.{List, []}
 use mathlib.Core.Option.{Option, none, some}
@@ -9,14 +8,12 @@ use native.Mathlib.Omega.{arith}
 use lib.Dec.{eqb}
 use Rattle.rules.specs.Numbers.{rootNumber, indexOf, numberOf, NOENT, INVAL, FULL, NOTFOUND, SMALL}
 use Rattle.rules.specs.Tree.{Mount, parentIn, childIn}
-use Rattle.rules.specs.Instance.{Instance, mountOf, tagOf, removing}
+use Rattle.rules.specs.Instance.{Instance, mountOf, tagOf}
 use Rattle.rules.specs.Outcome.{Answer, nothing, Outcome, refused, says, writes}
-use Rattle.rules.specs.Mount.{Request, mountRule, restoreMountRule}
-use Rattle.rules.specs.Unmount.{reached, mountUnder, walkRule, unmountRule, rootHeld, rootAt, rootRule}
-use Rattle.rules.specs.Lookup.{routeTag, routeTree, routeRule, entryOf, entryAt, lookupBy, lookupRule, remapRule}
+use Rattle.rules.specs.Unmount.{reached, mountUnder, walkRule, rootHeld, rootAt, rootRule}
+use Rattle.rules.specs.Lookup.{routeTag, routeTree, routeRule, entryOf, entryAt, lookupBy, lookupRule}
 use Rattle.rules.specs.Listing.{ListRequest, listRule}
-use Rattle.rules.specs.Restore.{saveRule, restoreRule}
-use Rattle.rules.specs.Calls.{Call, mount, restore-mount, umount, set-remove-pseudo-root, path-walk, get-rootfs, route, lookup, readdir, remap-attr-id, options, initialized, save, restore, rule}
+use Rattle.rules.specs.Restore.{saveRule}
 use Rattle.rules.proofs.Rows.{each-of, either}
 
 -- nothing is visited, and the instance stays; a refusal has no values

@@ -20,6 +20,11 @@ pub and-both : (a b : Bool) → (a && b) ≡ true → (a ≡ true) × (b ≡ tru
 and-both true b e = (refl, e)
 and-both false b e = absurd (false≢true e)
 
+-- the second of two that do not hold both, where the first does
+pub and-rest : (a b : Bool) → (a && b) ≡ false → a ≡ true → b ≡ false
+and-rest true b e f = e
+and-rest false b e f = absurd (false≢true f)
+
 pub or-neither : (a b : Bool) → (a || b) ≡ false → (a ≡ false) × (b ≡ false)
 or-neither true b e = absurd (true≢false e)
 or-neither false b e = (refl, e)

@@ -16,7 +16,6 @@ use Rattle.rules.specs.Laps.{Step, lastFound, Has, Met}
 use Rattle.rules.specs.Trace.{stepsOf}
 use Rattle.rules.specs.Kept.{named, namedIn, handedOut, stays, emptied, handed-out, put-back}
 use Rattle.rules.specs.Wait.{othersHeld, EveryWait}
-use Rattle.rules.proofs.Tests.{known}
 use Rattle.rules.proofs.Trace.{laps}
 use Rattle.rules.proofs.Slots.{every-slot}
 use Rattle.rules.proofs.Kept.{has-first, has-later}

@@ -6,3 +6,4 @@ pub mod FirstRows
 pub mod MountCalls
 pub mod RestoreCalls
 pub mod Runs
+pub mod Refused

@@ -2,24 +2,31 @@
 use mathlib.Core.Path.{_≡_, refl, sym, ap, _∙_, subst}
 use mathlib.Core.Bool.{true}
 use mathlib.Core.List.{List, [], _∷_}
-use mathlib.Core.Option.{none, some}
-use Prim.Native.Nat.{ℕ, _+_}
+use mathlib.Core.Logic.{_⊎_, inl, inr, ⊎-elim}
+use mathlib.Core.Option.{Option, none, some}
+use Prim.Native.Nat.{ℕ, _+_, _<_}
+use lib.ListN.{length}
+use Rattle.rules.specs.Bytes.{Bytes}
+use Rattle.rules.specs.Numbers.{indexOf, numberOf, NOENT}
 use Rattle.rules.specs.Instance.{Instance}
-use Rattle.rules.specs.Outcome.{Outcome, count}
+use Rattle.rules.specs.Outcome.{mounted, toBackend, Outcome, count, refused, says}
 use Rattle.rules.specs.Mount.{Request, mountRule, restoreMountRule}
 use Rattle.rules.specs.Unmount.{unmountRule}
 use Rattle.rules.specs.Restore.{restoreRule}
-use Rattle.rules.specs.Calls.{Call, mount, restore-mount, umount, restore, rule}
+use Rattle.rules.specs.Calls.{Call, mount, restore-mount, umount, route, restore, rule}
 use Rattle.rules.specs.Driven.{call as by-call}
 use Rattle.rules.specs.Laps.{total, lastFound, LapsBy, Laps}
-use Rattle.rules.specs.Trace.{Unrestored, stepsOf}
+use Rattle.rules.specs.Trace.{Unrestored, afterAll, stepsOf}
+use Rattle.rules.specs.Kept.{LeadsTo, MountedAt}
 use Rattle.rules.proofs.Turn.{mounts-allocate}
 use Rattle.rules.proofs.Trace.{laps}
-use Rattle.tables.specs.View.{view}
+use Rattle.rules.proofs.Kept.{every-kept}
+use Rattle.tables.specs.View.{view, slotsOf}
 use Rattle.tables.specs.Rule.{laid}
-use Rattle.tables.specs.Call.{Told, toldBy, answeredBy, Does}
+use Rattle.tables.specs.Call.{Told, toldBy, tells, answeredBy, Does}
+use Rattle.tables.proofs.Tab.{length-tab}
 use Rattle.storage.proofs.Laid.{told-by}
-use Rattle.vfs.specs.Runs.{Step, Allowed, Run, callsOf, counts, EveryLapOfBytes, EveryMountOfBytes, StaysDriven}
+use Rattle.vfs.specs.Runs.{Step, Allowed, Run, callsOf, counts, EveryLapOfBytes, EveryMountOfBytes, lastOf, EveryKeptOfBytes, StaysDriven}
 use Rattle.vfs.proofs.MountWays.{counter-in}
 
 -- the counts that are told are those of the rules
@@ -53,6 +60,54 @@ mounts-of-bytes s a l r e z =
     let o : f (view (s .before)) ≡ mountRule (view (s .before)) r = ap (rule (view (s .before))) e in
     let m = mounts-allocate (view (s .before)) r .answers (sym (λ i. o i .code) ∙ (sym (λ i. t i .code) ∙ z)) in
     (m .0, m .1 .told .0, (λ i. t i .answer) ∙ ((λ i. o i .answer) ∙ m .1 .told .1), (λ i. o i .found) ∙ m .1 .found)
+
+-- ---- a kept number
+
+-- the steps leave bytes that stand for what the calls leave, and keep the layout rule
+run-leaves : (ss : List Step) (mem : List ℕ) → laid mem ≡ true → Run mem ss → (laid (lastOf mem ss) ≡ true) × (view (lastOf mem ss) ≡ afterAll (view mem) (callsOf ss))
+unfolding Run callsOf lastOf afterAll
+run-leaves [] mem l r = (l, refl)
+run-leaves (s ∷ ss) mem l (b, (a, r)) =
+    let on : laid (s .before) ≡ true = ap laid b ∙ l in
+    let w = run-leaves ss (s .after) (a .keeps on) r in
+    (w .0, w .1 ∙ (λ i. afterAll (a .stands on i) (callsOf ss)) ∙ (λ i. afterAll (rule (view (b i)) (s .call) .after) (callsOf ss)))
+
+-- 256 slots are seen in the bytes
+slots-many : (mem : List ℕ) → length (view mem .indexes .slots) ≡ 256
+unfolding view slotsOf
+slots-many mem = length-tab _ 0 256
+
+-- a step that tells a done mount
+mounted-at : (s : Step) → Allowed s → laid (s .before) ≡ true → Bytes (s .before) → (r : Request) → s .call ≡ mount r → s .told .code ≡ 0 → (k : ℕ) (t : Option ℕ) → s .told .answer ≡ mounted k t
+    → MountedAt (view (s .before)) r k
+mounted-at s a l bytes r e z k t m =
+    let i = view (s .before) in
+    let told : s .told ≡ toldBy (rule i (s .call)) = a .answer ∙ told-by (s .before) (λ (j : Instance). rule j (s .call)) l in
+    let by : rule i (s .call) ≡ rule i (mount r) = ap (rule i) e in
+    let w = mounts-of-bytes s a l r e z in
+    let same : w .0 ≡ k = let q = sym (w .2) ∙ m in cc in
+    record {
+      counter = counter-in (s .before) bytes;
+      slots = slots-many (s .before);
+      done = sym (λ j. by j .code) ∙ (sym (λ j. told j .code) ∙ z);
+      found = sym (λ j. by j .found) ∙ (w .3 ∙ ap {B = Option ℕ} some same);
+    }
+
+-- the theorem
+pub kept-of-bytes : EveryKeptOfBytes
+kept-of-bytes s a l bytes r e z k t m ss run u n few q b at x c ix =
+    let i = view (s .before) in
+    let stands : view (s .after) ≡ rule i (mount r) .after = a .stands l ∙ ap (λ (y : Call). rule i y .after) e in
+    let w = run-leaves ss (s .after) (a .keeps l) run in
+    let on : laid (q .before) ≡ true = ap laid at ∙ w .0 in
+    let end : view (q .before) ≡ afterAll (rule i (mount r) .after) (callsOf ss) = ap view at ∙ (w .1 ∙ ap (λ (j : Instance). afterAll j (callsOf ss)) stands) in
+    let sum : counts ss ≡ total (stepsOf (rule i (mount r) .after) (callsOf ss)) = same-total ss (s .after) (a .keeps l) run ∙ ap (λ (j : Instance). total (stepsOf j (callsOf ss))) stands in
+    let told : q .told ≡ toldBy (rule (view (q .before)) (route x)) = b .answer ∙ (told-by (q .before) (λ (j : Instance). rule j (q .call)) on ∙ ap (λ (y : Call). toldBy (rule (view (q .before)) y)) c) in
+    let leads : LeadsTo (view (q .before)) x (r .tag) = subst (λ (j : Instance). LeadsTo j x (r .tag)) (sym end)
+    (every-kept i r k (mounted-at s a l bytes r e z k t m) (callsOf ss) (subst (λ (j : Instance). Unrestored j (callsOf ss)) stands u) n (subst (λ (y : ℕ). y < 256) sum few) x ix) in
+    ⊎-elim (λ (y : rule (view (q .before)) (route x) ≡ refused NOENT (view (q .before))). inl (told ∙ ap toldBy y))
+    (λ (y : rule (view (q .before)) (route x) ≡ says (toBackend (r .tag) (indexOf x) (numberOf x)) (view (q .before))). inr (told ∙ (ap toldBy y ∙ ap (λ (j : ℕ). tells (toBackend (r .tag) j (numberOf x))) ix)))
+    leads
 
 -- driven bytes stay driven
 pub stays-driven : StaysDriven

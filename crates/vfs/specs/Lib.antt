@@ -4,3 +4,4 @@ pub mod Unmounting
 pub mod Mounting
 pub mod Restoring
 pub mod Runs
+pub mod Refused

@@ -1,19 +1,22 @@
--- Demand 3 of the bytes: steps that the contracts allow, each on what the last one left, and what is claimed of the counts in their answers.
-use Prim.Native.Nat.{ℕ, _+_}
+-- Demand 3 of the bytes: steps that the contracts allow, each on what the last one left, and what is claimed of the counts in their answers and of a kept number.
+use Prim.Native.Nat.{ℕ, _+_, _<_}
 use mathlib.Core.Bool.{true}
 use mathlib.Core.List.{List, [], _∷_}
 use mathlib.Core.Option.{Option, none, some}
 use mathlib.Core.Path.{_≡_}
+use mathlib.Core.Logic.{_⊎_}
 use Rattle.rules.specs.Bytes.{Bytes}
-use Rattle.rules.specs.Outcome.{mounted}
+use Rattle.rules.specs.Numbers.{indexOf, numberOf, NOENT}
+use Rattle.rules.specs.Outcome.{mounted, toBackend}
 use Rattle.rules.specs.Mount.{Request}
-use Rattle.rules.specs.Calls.{Call, mount, rule}
+use Rattle.rules.specs.Calls.{Call, mount, route, rule}
 use Rattle.rules.specs.Driven.{Typed, Driven}
-use Rattle.rules.specs.Laps.{lastFound, LapsBy}
+use Rattle.rules.specs.Laps.{lastFound, Has, LapsBy}
 use Rattle.rules.specs.Trace.{Unrestored, stepsOf}
+use Rattle.rules.specs.Kept.{namedIn}
 use Rattle.tables.specs.View.{view}
 use Rattle.tables.specs.Rule.{laid}
-use Rattle.tables.specs.Call.{Told, answeredBy}
+use Rattle.tables.specs.Call.{Told, tells, refuses, answeredBy}
 
 -- a call on lent bytes: the bytes before, the call, what its answer tells, and the bytes after
 pub record Step : Type 0 where
@@ -53,6 +56,20 @@ EveryLapOfBytes = (s : Step) → Allowed s → laid (s .before) ≡ true → Byt
 abbrev pub EveryMountOfBytes : Type 0
 EveryMountOfBytes = (s : Step) → Allowed s → laid (s .before) ≡ true → (r : Request) → s .call ≡ mount r → s .told .code ≡ 0
     → (k : ℕ) × (t : Option ℕ) × (s .told .answer ≡ mounted k t) × (rule (view (s .before)) (s .call) .found ≡ some k)
+
+-- the bytes that the steps leave
+unfoldable pub lastOf : List ℕ → List Step → List ℕ
+lastOf mem [] = mem
+lastOf mem (s ∷ ss) = lastOf (s .after) ss
+
+-- a mount tells that it is done, with the index k; steps follow whose counts sum to less than 256, with no done state restore and no restored mount at k; then a number
+-- of that index is routed: to the tag of that mount, or it is refused NOENT (R82, R87, R105, R106)
+abbrev pub EveryKeptOfBytes : Type 0
+EveryKeptOfBytes = (s : Step) → Allowed s → laid (s .before) ≡ true → Bytes (s .before) → (r : Request) → s .call ≡ mount r → s .told .code ≡ 0
+    → (k : ℕ) (t : Option ℕ) → s .told .answer ≡ mounted k t
+    → (ss : List Step) → Run (s .after) ss → Unrestored (view (s .after)) (callsOf ss) → (Has k (namedIn (callsOf ss)) → ⊥) → counts ss < 256
+    → (q : Step) → Allowed q → q .before ≡ lastOf (s .after) ss → (x : ℕ) → q .call ≡ route x → indexOf x ≡ k
+    → (q .told ≡ refuses NOENT) ⊎ (q .told ≡ tells (toBackend (r .tag) k (numberOf x)))
 
 -- a step that a contract allows, from bytes that keep the layout rule and are driven, leaves driven bytes
 abbrev pub StaysDriven : Type 0

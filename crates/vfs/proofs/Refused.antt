@@ -1,0 +1,192 @@
+-- What a refused mount, restored mount or unmount leaves of the bytes, from the bytes that the contracts name. Assumes nothing.
+use mathlib.Core.Path.{_≡_, refl, ap, _∙_}
+use mathlib.Core.Bool.{Bool, true, false, cond, _&&_}
+use mathlib.Core.Logic.{inl, inr, ⊎-elim}
+use mathlib.Core.List.{List}
+use mathlib.Core.Option.{Option, none, some}
+use Prim.Native.Nat.{ℕ, _<_}
+use native.Mathlib.Omega.{arith}
+use lib.ListN.{length}
+use lib.Dec.{ltb}
+use borrow.Author.Tests.{not-true, not-false}
+use Rattle.rules.specs.Numbers.{maxIno, INODE}
+use Rattle.rules.specs.Path.{rooted}
+use Rattle.rules.specs.Round.{goingRound, untilTwice, visited, allocate}
+use Rattle.rules.specs.Tree.{Mount}
+use Rattle.rules.specs.Outcome.{Outcome, count}
+use Rattle.rules.specs.Mount.{Request, noRoom, allocation, mountAs, mountRule, restoreAs, restoreMountRule}
+use Rattle.rules.specs.Unmount.{badPath, reached, mountUnder, unmounts, unmountAt, unmountRule}
+use Rattle.rules.proofs.Tests.{known, and-both, and-rest}
+use Rattle.rules.proofs.Rows.{first-of}
+use Rattle.rules.proofs.Turn.{seen-moved}
+use Rattle.tables.specs.View.{view}
+use Rattle.tables.specs.Rule.{laid}
+use Rattle.tables.specs.Write.{setCounter}
+use Rattle.tables.specs.Call.{Told, toldBy, answeredBy}
+use Rattle.vfs.specs.Mounting.{allocMem, endMem, walkMem, plannedMem, foundMem, rootedMem, early, mountMem}
+use Rattle.vfs.specs.Restoring.{restoredMem, stopped, restoreMem}
+use Rattle.vfs.specs.Unmounting.{offMem, unmountMem}
+use Rattle.vfs.specs.Refused.{movedMem, MountLeaves, RestoredLeaves, EveryRefusedCall}
+
+-- what is told and what is left, by one test
+split : (Q : Told → List ℕ → Type 0) (b : Bool) {t u : Told} {m n : List ℕ} → (b ≡ true → Q t m) → (b ≡ false → Q u n) → Q (cond b t u) (cond b m n)
+split Q true h k = h refl
+split Q false h k = k refl
+
+-- ---- mount
+
+module _ (r : Request) (mem : List ℕ) where
+  -- an allocation visits an index
+  visits-some : 0 < length (allocation (view mem) .visits)
+  unfolding allocation allocate untilTwice goingRound visited
+  visits-some = omega arith
+
+  counter-moved : allocMem mem ≡ movedMem (length (allocation (view mem) .visits)) mem
+  unfolding allocMem
+  counter-moved = ap (λ (c : ℕ). setCounter c mem) (seen-moved (view mem))
+
+  module _ (t : Told) (after : List ℕ) where
+    kept : t .count ≡ 0 → after ≡ mem → MountLeaves r mem t after
+    kept z e = record { unvisited = λ f n. e; visited = λ f g p. absurd (omega arith); row7 = λ f p. absurd (omega arith) }
+
+    done : t .code ≡ 0 → MountLeaves r mem t after
+    done z = record { unvisited = λ f n. absurd (f z); visited = λ f g p. absurd (f z); row7 = λ f p. absurd (omega arith) }
+
+    module _ (n : t .count ≡ length (allocation (view mem) .visits)) where
+      moved : (t .code ≡ INODE → ⊥) → after ≡ allocMem mem → MountLeaves r mem t after
+      moved i e = record {
+        unvisited = λ f z. absurd (omega (arith, visits-some));
+        visited = λ f g p. rw n (e ∙ counter-moved);
+        row7 = λ f p. absurd (i f);
+      }
+
+      walked : t .code ≡ INODE → after ≡ walkMem (r .path) (allocMem mem) → MountLeaves r mem t after
+      walked i e = record {
+        unvisited = λ f z. absurd (omega (arith, visits-some));
+        visited = λ f g p. absurd (g i);
+        row7 = λ f p. rw n (e ∙ ap (walkMem (r .path)) counter-moved);
+      }
+
+  -- behind rows 1 to 3
+  abbrev later : List ℕ
+  later = cond (rooted (r .path)) (rootedMem r mem) (allocMem mem)
+
+  unrooted : rooted (r .path) ≡ false → later ≡ allocMem mem
+  unrooted e = rw e
+
+  roomy : rooted (r .path) ≡ true → noRoom (view mem) (r .path) ≡ false → later ≡ foundMem (allocation (view mem) .found) r mem
+  unfolding rootedMem
+  roomy e n = rw (e, n)
+
+  row7-mem : (k : ℕ) → ltb maxIno (r .root) ≡ true → foundMem (some k) r mem ≡ walkMem (r .path) (allocMem mem)
+  unfolding foundMem plannedMem endMem
+  row7-mem k e = rw e
+
+  full-mem : allocation (view mem) .found ≡ none → (rooted (r .path) && noRoom (view mem) (r .path)) ≡ false → later ≡ allocMem mem
+  unfolding foundMem
+  full-mem f n =
+      ⊎-elim (λ (a : rooted (r .path) ≡ true). roomy a (and-rest _ _ n a) ∙ ap (λ (o : Option ℕ). foundMem o r mem) f) unrooted (known (rooted (r .path)))
+
+  rows : (o : Option ℕ) → allocation (view mem) .found ≡ o → (rooted (r .path) && noRoom (view mem) (r .path)) ≡ false → MountLeaves r mem (toldBy (mountAs (view mem) r o)) later
+  unfolding mountAs
+  rows none f n = moved _ later refl (λ e. omega arith) (full-mem f n)
+  rows (some k) f n =
+      first-of (λ (o : Outcome). MountLeaves r mem (toldBy o) later) _ _ (
+        λ a. moved _ later refl (λ e. omega arith) (unrooted (not-true _ a)),
+        λ a.
+            let up = not-false _ a in
+            (λ b. walked _ later refl refl (roomy up (and-rest _ _ n up) ∙ (ap (λ (o : Option ℕ). foundMem o r mem) f ∙ row7-mem k b)), λ b. done _ later refl),
+      )
+
+  tests : MountLeaves r mem (toldBy (mountRule (view mem) r)) (cond (early r) mem later)
+  unfolding mountRule early rootedMem
+  tests =
+      first-of (λ (o : Outcome). MountLeaves r mem (toldBy o) (cond (early r) mem later)) _ _ (
+        λ a. kept _ _ refl (rw a),
+        λ a. (
+          λ b. kept _ _ refl (rw (a, b)),
+          λ b. (
+            λ d. kept _ _ refl (rw (a, b, d)),
+            λ d. (
+              λ n. let w = and-both (rooted (r .path)) (noRoom (view mem) (r .path)) n in kept _ _ refl (rw (a, b, d, w .0, w .1)),
+              λ n. rw (a, b, d) (rows (allocation (view mem) .found) refl n),
+            ),
+          ),
+        ),
+      )
+
+  mount-leaves : MountLeaves r mem (answeredBy mem (λ i. mountRule i r)) (mountMem r mem)
+  unfolding answeredBy mountMem
+  mount-leaves = split (MountLeaves r mem) (laid mem) (λ l. tests) (λ l. kept _ _ refl refl)
+
+-- ---- restored mount
+
+module _ (k : ℕ) (r : Request) (mem : List ℕ) where
+  module _ (t : Told) (after : List ℕ) where
+    restored-kept : after ≡ mem → RestoredLeaves r mem t after
+    restored-kept e = record { most = λ f g. e; inode = λ f. inl e }
+
+    restored-done : t .code ≡ 0 → RestoredLeaves r mem t after
+    restored-done z = record { most = λ f g. absurd (f z); inode = λ f. absurd (omega arith) }
+
+    restored-walked : t .code ≡ INODE → after ≡ walkMem (r .path) mem → RestoredLeaves r mem t after
+    restored-walked i e = record { most = λ f g. absurd (g i); inode = λ f. inr e }
+
+  abbrev left : List ℕ
+  left = cond (stopped k r) mem (restoredMem k r mem)
+
+  restored-tests : RestoredLeaves r mem (toldBy (restoreMountRule (view mem) k r)) left
+  unfolding restoreMountRule restoreAs stopped restoredMem plannedMem endMem
+  restored-tests =
+      first-of (λ (o : Outcome). RestoredLeaves r mem (toldBy o) left) _ _ (
+        λ a. restored-kept _ _ (rw a),
+        λ a. (
+          λ b. restored-kept _ _ (rw (a, b)),
+          λ b. (
+            λ z. restored-kept _ _ (rw (a, b, z)),
+            λ z. (
+              λ d. restored-kept _ _ (rw (a, b, z, d)),
+              λ d. (
+                λ n. let w = and-both (rooted (r .path)) (noRoom (view mem) (r .path)) n in restored-kept _ _ (rw (a, b, z, d, w .0, w .1)),
+                λ n.
+                    first-of (λ (o : Outcome). RestoredLeaves r mem (toldBy o) left) _ _ (
+                      λ s. restored-kept _ _ (rw (a, b, z, d, s)),
+                      λ s.
+                          let m = and-rest (rooted (r .path)) (noRoom (view mem) (r .path)) n (not-false _ s) in
+                          (λ c. restored-walked _ _ refl (rw (a, b, z, d, s, m, c)), λ c. restored-done _ _ refl),
+                    ),
+              ),
+            ),
+          ),
+        ),
+      )
+
+  restored-leaves : RestoredLeaves r mem (answeredBy mem (λ i. restoreMountRule i k r)) (restoreMem k r mem)
+  unfolding answeredBy restoreMem
+  restored-leaves = split (RestoredLeaves r mem) (laid mem) (λ l. restored-tests) (λ l. restored-kept _ _ refl)
+
+-- ---- unmount
+
+module _ (path mem : List ℕ) where
+  abbrev Keeps : Told → List ℕ → Type 0
+  Keeps t after = (t .code ≡ 0 → ⊥) → after ≡ mem
+
+  off : (x : Option ℕ) (m : Option Mount) → Keeps (toldBy (unmountAt (view mem) x m)) (offMem x m mem)
+  unfolding unmountAt unmounts offMem
+  off none m f = refl
+  off (some x) none f = refl
+  off (some x) (some m) f = absurd (f refl)
+
+  unmount-tests : Keeps (toldBy (unmountRule (view mem) path)) (cond (badPath path) mem (offMem (reached (view mem) path) (mountUnder (view mem) (reached (view mem) path)) mem))
+  unfolding unmountRule
+  unmount-tests =
+      first-of (λ (o : Outcome). Keeps (toldBy o) (cond (badPath path) mem (offMem (reached (view mem) path) (mountUnder (view mem) (reached (view mem) path)) mem))) _ _
+      (λ a f. rw a, λ a. rw a (off (reached (view mem) path) (mountUnder (view mem) (reached (view mem) path))))
+
+  unmount-leaves : Keeps (answeredBy mem (λ i. unmountRule i path)) (unmountMem path mem)
+  unfolding answeredBy unmountMem
+  unmount-leaves = split Keeps (laid mem) (λ l. unmount-tests) (λ l f. refl)
+
+-- the theorem
+pub refused-leaves : EveryRefusedCall
+refused-leaves = record { mounts = mount-leaves; restores = restored-leaves; unmounts = unmount-leaves }
