@@ -255,7 +255,7 @@ impl Vfs {
         self.storage.into_vec()
     }
 
-    /// From now on a done unmount takes its node out of the tree, unless it is the root. Nothing unsets this.
+    /// From now on a done unmount also removes its node; the root always stays. Nothing unsets this.
     ///
     /// ```
     /// use galdovar::{Backend, Tag, Vfs, VfsOptions};
