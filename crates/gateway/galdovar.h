@@ -41,7 +41,7 @@ extern "C" {
 #define GALDOVAR_BADINDEX 8u  /* a restored mount at index 0 */
 #define GALDOVAR_BADMAP 9u    /* a start plus the range is above 2^32 - 1 */
 #define GALDOVAR_BADSAVE 10u  /* saved bytes break the layout */
-#define GALDOVAR_NOTFRESH 11u /* a restore into an instance with a node besides the root, or with a mount */
+#define GALDOVAR_NOTFRESH 11u /* a restore where a node stands besides the root, or anything is mounted */
 #define GALDOVAR_SMALL 12u    /* N outside its limits; storage too short or against the layout rule; output too short for a save */
 #define GALDOVAR_BADOPT 13u   /* option bits outside the mask or, at creation, flags above bit 5 */
 
@@ -178,7 +178,7 @@ typedef struct GaldovarStep {
  * known: the mask of known option bits; internal, external, range: the mapping in force, range 0 for none. */
 GaldovarCodeAnswer galdovar_create(uint8_t *storage, size_t storage_len, size_t n, uint64_t known, uint64_t in_opts, uint64_t out_opts, uint8_t flags, uint32_t internal, uint32_t external, uint32_t range);
 
-/* From now on a done unmount takes its node out of the tree, unless it is the root; nothing unsets it (R32, R100). */
+/* From now on a done unmount also removes its node; the root always stays. Nothing unsets this (R32, R100). */
 GaldovarCodeAnswer galdovar_set_remove_pseudo_root(uint8_t *storage, size_t storage_len);
 
 /* Whether the instance is initialized: not before a restore, and then if its in_opts is not 0 (R33, R134). */

@@ -255,7 +255,7 @@ impl Vfs {
         self.storage.into_vec()
     }
 
-    /// From now on a done unmount takes its node out of the tree, unless it is the root. Nothing unsets this.
+    /// From now on a done unmount also removes its node; the root always stays. Nothing unsets this.
     ///
     /// ```
     /// use galdovar::{Backend, Tag, Vfs, VfsOptions};
@@ -470,6 +470,9 @@ impl Vfs {
     }
 
     /// Where a full number goes: to the tree, to a backend, or NOENT where nothing is mounted at its index.
+    ///
+    /// An index comes round again, so this does not say whether a number that was kept belongs to the mount that is
+    /// there now. The host tells by the counts of its mounts: README.md of this crate, "How old a kept number may be".
     ///
     /// ```
     /// use galdovar::{convert_inode, Backend, BackendNumber, Route, Tag, Vfs, VfsError, VfsOptions};

@@ -1,4 +1,4 @@
--- The theorem: bytes behind those of an instance are neither read nor written (R23). Assumes nothing.
+-- The theorem: no answer depends on bytes behind those of an instance, and no call changes them (R23). Assumes nothing.
 use Rattle.tables.proofs.Keeps.{laid-is}
 use Rattle.behind.specs.Behind.{EveryStorage, EveryInstance, EveryCreation}
 use Rattle.behind.proofs.Front.{view-front, laid-front, first-laid}

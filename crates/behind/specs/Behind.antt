@@ -1,4 +1,4 @@
--- Bytes behind those of an instance are never read and never written (R23).
+-- Bytes behind those of an instance: no answer depends on them, and no call changes them (R23).
 use mathlib.Core.Bool.{true}
 use mathlib.Core.List.{List, _++_}
 use mathlib.Core.Path.{_≡_}

@@ -40,7 +40,7 @@ pub extern "C" fn galdovar_create(
     flat::created(storage::create(storage, n, known, in_opts, out_opts, flags, mapping))
 }
 
-// From now on a done unmount takes its node out of the tree, unless it is the root (R32, R100).
+// From now on a done unmount also removes its node; the root always stays (R32, R100).
 #[no_mangle]
 pub extern "C" fn galdovar_set_remove_pseudo_root(storage: &mut [u8]) -> CodeAnswer
     ensures { λ r. ⌜ DoesBy codeNumbers (now (storage .entry)) removeCall r (now (storage .exit)) (cond (laid (now (storage .entry))) (setRemoval (now (storage .entry))) (now (storage .entry))) ⌝ }

@@ -81,7 +81,7 @@ fn child_in(s: &[u8], x: u64, name: &[u8]) -> Finding
     }
 }
 
-// In a directory: unknown parent NOENT, then byte 0 or bad UTF-8 INVAL, then `.`, `..`, the child or NOENT (R57, R58, R59). Of a plain name only the first test and the slash are left to ask.
+// In a directory: NOENT where it is no node; INVAL where the name has byte 0 or is not UTF-8; then `.`, `..`, the child or NOENT (R57, R58, R59). Of a plain name only the first test and the slash are left to ask.
 pub fn find(s: &[u8], x: u64, name: &[u8]) -> Finding
     requires { ⌜ Laid (now s) ⌝ }
     ensures { λ r. ⌜ Finds (nodesOf (now (s .entry))) x (now (name .entry)) r ⌝ }

@@ -73,7 +73,7 @@ mapped-out : (m : Mapping) (x : ℕ) → inside m x ≡ false → mapped m x ≡
 unfolding mapped
 mapped-out m x e = rw e
 
--- the theorem: on ids in the internal range or in neither
+-- the theorem, for an id of the internal range and for one of neither
 pub out-and-back : OutAndBack
 unfolding unmapped
 out-and-back m x (inl e) =

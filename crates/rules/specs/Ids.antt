@@ -45,7 +45,7 @@ unwrapped m id = wrapped (turned m) id
 abbrev pub WrappedIsWhole : Type 0
 WrappedIsWhole = (m : Mapping) (id : ℕ) → badMapping m ≡ false → id < 2 ^ 32 → (wrapped m id ≡ mapped m id) × (unwrapped m id ≡ unmapped m id)
 
--- out and back is the identity on ids in the internal range or in neither (R116)
+-- mapped out and then back, an id of the internal range, or of neither range, is what it was (R116)
 abbrev pub OutAndBack : Type 0
 OutAndBack = (m : Mapping) (id : ℕ) → (inside m id ≡ true) ⊎ ((inside m id ≡ false) × (inside (turned m) id ≡ false)) → unmapped m (mapped m id) ≡ id
 

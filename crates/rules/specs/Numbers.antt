@@ -109,7 +109,7 @@ BADMAP = 9
 abbrev pub BADSAVE : ℕ
 BADSAVE = 10
 
--- a restore into an instance with a node besides the root, or with a mount (R15, R132)
+-- a restore where a node stands besides the root, or anything is mounted (R15, R132)
 abbrev pub NOTFRESH : ℕ
 NOTFRESH = 11
 

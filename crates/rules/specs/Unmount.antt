@@ -47,7 +47,7 @@ unmountAt i none m = refused NOTFOUND i
 unmountAt i (some x) none = refused NOTFOUND i
 unmountAt i (some x) (some m) = unmounts i x m
 
--- INVAL, NOTFOUND for an unknown path, NOTFOUND for no mount, or done (R96)
+-- a bad path is INVAL; where no node or no mount stands it is NOTFOUND; else done (R96)
 unfoldable pub unmountRule : Instance → List ℕ → Outcome
 unmountRule i path =
     firstOf ((badPath path ⇒ refused INVAL i) ∷ []) (unmountAt i (reached i path) (mountUnder i (reached i path)))

@@ -1,4 +1,4 @@
--- UTF-8 as in the Unicode standard, table 3-7: the well-formed byte sequences, and where the well-formed part of a byte string ends.
+-- UTF-8 by table 3-7 of the Unicode standard: the well-formed byte sequences, and where the well-formed part of a byte string ends.
 use Prim.Native.Nat.{ℕ, zero, suc}
 use mathlib.Core.Bool.{Bool, true, false, cond, _&&_}
 use mathlib.Core.List.{List, [], _∷_}

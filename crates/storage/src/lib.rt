@@ -228,7 +228,7 @@ pub fn create(
     Created::Done
 }
 
-// From now on a done unmount takes its node out of the tree, unless it is the root (R32, R100).
+// From now on a done unmount also removes its node; the root always stays (R32, R100).
 pub fn set_remove_pseudo_root(s: &mut [u8]) -> Removal
     ensures { λ r. ⌜ Does (now (s .entry)) removeCall (removalTold r) (now (s .exit)) (cond (laid (now (s .entry))) (setRemoval (now (s .entry))) (now (s .entry))) ⌝ }
 {

@@ -79,7 +79,7 @@ fn route_tag(s: &[u8], index: u8, number: u64) -> Routed
     }
 }
 
-// Where a full number goes, the Rust's get_real_rootfs: index 0 to the tree, except number 1 with a mount on the root; any other index to its tag, or NOENT (R105, R106, R107).
+// Where a full number goes, the Rust's get_real_rootfs: index 0 to the tree, but number 1 to what is mounted on the root, if anything is; any other index to its tag; NOENT where a slot is empty (R105, R106, R107).
 pub fn route(s: &[u8], x: VfsInode) -> Routed
     ensures { λ r. ⌜ routedTold r ≡ answeredBy (now (s .entry)) (λ (i : Instance). routeRule i (x .0)) ⌝ }
 {
