@@ -51,8 +51,8 @@ own-slot (c ∷ cs) i k h n =
     elim (every-slot i c k) [
       | stays e ↦ ⊎-elim (λ a. inl (a ∙ e)) (λ a. inr a) on
       | emptied e ↦ inr (⊎-elim (λ a. a ∙ e) (λ a. a) on)
-      | handed-out e ↦ absurd (h (has-first (rule i c .found) k _ e))
-      | put-back e ↦ absurd (n (has-first (named c) k _ e))
+      | handed-out z e ↦ absurd (h (has-first (rule i c .found) k _ e))
+      | put-back z e ↦ absurd (n (has-first (named c) k _ e))
     ]
 
 -- ---- where a number leads

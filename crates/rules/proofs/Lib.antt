@@ -31,4 +31,5 @@ pub mod Again
 pub mod Slots
 pub mod Kept
 pub mod Wait
+pub mod Ledger
 pub mod Needed

@@ -57,7 +57,7 @@ mount-as i r (some k) e j =
       (
         stays refl,
         elim (ℕ-discrete j k) [
-          | yes s ↦ handed-out (e ∙ ap {B = Option ℕ} some (sym s))
+          | yes s ↦ handed-out refl (e ∙ ap {B = Option ℕ} some (sym s))
           | no n ↦ ⊎-elim stays emptied (other-slot k r (ended i (r .path)) (walkedTo (r .path) (stepped i)) j n)
         ],
       ),
@@ -71,7 +71,7 @@ restored-as i k r j =
       (
         stays refl,
         elim (ℕ-discrete j k) [
-          | yes s ↦ put-back (ap {B = Option ℕ} some (sym s))
+          | yes s ↦ put-back refl (ap {B = Option ℕ} some (sym s))
           | no n ↦ ⊎-elim stays emptied (other-slot k r (ended i (r .path)) (walkedTo (r .path) i) j n)
         ],
       ),

@@ -9,7 +9,7 @@ use lib.ListN.{length}
 use lib.Seq.{getD-set-same}
 use borrow.Author.Tests.{le-ltb}
 use Rattle.rules.specs.Numbers.{maxIno}
-use Rattle.rules.specs.Round.{after, allocate}
+use Rattle.rules.specs.Round.{after, goingRound, untilTwice, visited, allocate}
 use Rattle.rules.specs.Tree.{Mount}
 use Rattle.rules.specs.Instance.{Instance, counterOf, emptySlot, heldBy, tagOf, mountOf}
 use Rattle.rules.specs.Outcome.{Answer, Outcome, refused, firstOf}
@@ -111,6 +111,11 @@ only-mounts = every-call Turns (record {
 pub seen-moved : (i : Instance) → allocation i .counter ≡ (counterOf i + length (allocation i .visits)) % 256
 unfolding allocation allocate
 seen-moved i = refl
+
+-- and it visits one at least
+pub visits-some : (i : Instance) → 0 < length (allocation i .visits)
+unfolding allocation allocate untilTwice goingRound visited
+visits-some i = omega arith
 
 -- a call that handed an index out is no state restore
 restore-finds : (i : Instance) (b : List ℕ) → restoreRule i b .found ≡ none

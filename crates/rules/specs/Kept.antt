@@ -49,12 +49,12 @@ handedOut (s ∷ ss) = before (s .found) (handedOut ss)
 
 -- ---- what changes a slot
 
--- the slot of j after a call: as it was, or emptied; or the call hands j out, or names it in a restored mount (R56, R76, R85, R93, R98)
+-- the slot of j after a call: as it was, or emptied; or the call is done, and hands j out or names it in a restored mount (R56, R76, R85, R93, R98)
 pub data SlotAfter (i : Instance) (c : Call) (o : Outcome) (j : ℕ) : Type 0 where
   stays : slotOf (o .after) j ≡ slotOf i j → SlotAfter i c o j
   emptied : slotOf (o .after) j ≡ emptySlot → SlotAfter i c o j
-  handed-out : o .found ≡ some j → SlotAfter i c o j
-  put-back : named c ≡ some j → SlotAfter i c o j
+  handed-out : o .code ≡ 0 → o .found ≡ some j → SlotAfter i c o j
+  put-back : o .code ≡ 0 → named c ≡ some j → SlotAfter i c o j
 
 -- of every call on every instance
 abbrev pub EverySlot : Type 0

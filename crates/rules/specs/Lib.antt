@@ -32,4 +32,5 @@ pub mod Restart
 pub mod Stays
 pub mod Kept
 pub mod Wait
+pub mod Ledger
 pub mod Needed

@@ -4,21 +4,21 @@ use mathlib.Core.Bool.{Bool, true, false, cond, _&&_}
 use mathlib.Core.Logic.{inl, inr, ⊎-elim}
 use mathlib.Core.List.{List}
 use mathlib.Core.Option.{Option, none, some}
-use Prim.Native.Nat.{ℕ, _<_}
+use Prim.Native.Nat.{ℕ}
 use native.Mathlib.Omega.{arith}
 use lib.ListN.{length}
 use lib.Dec.{ltb}
 use borrow.Author.Tests.{not-true, not-false}
 use Rattle.rules.specs.Numbers.{maxIno, INODE}
 use Rattle.rules.specs.Path.{rooted}
-use Rattle.rules.specs.Round.{goingRound, untilTwice, visited, allocate}
+use Rattle.rules.specs.Round.{visited}
 use Rattle.rules.specs.Tree.{Mount}
 use Rattle.rules.specs.Outcome.{Outcome, count}
 use Rattle.rules.specs.Mount.{Request, noRoom, allocation, mountAs, mountRule, restoreAs, restoreMountRule}
 use Rattle.rules.specs.Unmount.{badPath, reached, mountUnder, unmounts, unmountAt, unmountRule}
 use Rattle.rules.proofs.Tests.{known, and-both, and-rest}
 use Rattle.rules.proofs.Rows.{first-of}
-use Rattle.rules.proofs.Turn.{seen-moved}
+use Rattle.rules.proofs.Turn.{seen-moved, visits-some}
 use Rattle.tables.specs.View.{view}
 use Rattle.tables.specs.Rule.{laid}
 use Rattle.tables.specs.Write.{setCounter}
@@ -36,11 +36,6 @@ split Q false h k = k refl
 -- ---- mount
 
 module _ (r : Request) (mem : List ℕ) where
-  -- an allocation visits an index
-  visits-some : 0 < length (allocation (view mem) .visits)
-  unfolding allocation allocate untilTwice goingRound visited
-  visits-some = omega arith
-
   counter-moved : allocMem mem ≡ movedMem (length (allocation (view mem) .visits)) mem
   unfolding allocMem
   counter-moved = ap (λ (c : ℕ). setCounter c mem) (seen-moved (view mem))
@@ -55,14 +50,14 @@ module _ (r : Request) (mem : List ℕ) where
     module _ (n : t .count ≡ length (allocation (view mem) .visits)) where
       moved : (t .code ≡ INODE → ⊥) → after ≡ allocMem mem → MountLeaves r mem t after
       moved i e = record {
-        unvisited = λ f z. absurd (omega (arith, visits-some));
+        unvisited = λ f z. absurd (omega (arith, visits-some (view mem)));
         visited = λ f g p. rw n (e ∙ counter-moved);
         row7 = λ f p. absurd (i f);
       }
 
       walked : t .code ≡ INODE → after ≡ walkMem (r .path) (allocMem mem) → MountLeaves r mem t after
       walked i e = record {
-        unvisited = λ f z. absurd (omega (arith, visits-some));
+        unvisited = λ f z. absurd (omega (arith, visits-some (view mem)));
         visited = λ f g p. absurd (g i);
         row7 = λ f p. rw n (e ∙ ap (walkMem (r .path)) counter-moved);
       }
