@@ -1,6 +1,7 @@
 -- What is proved of the rules.
 pub mod Tests
 pub mod Same
+pub mod Sequences
 pub mod Fields
 pub mod Worked
 pub mod Rows

@@ -1,6 +1,7 @@
 -- The rules of docs/RULES.md as definitions, and the statements that are proved of them.
 pub mod Bytes
 pub mod Utf8
+pub mod Sequences
 pub mod Path
 pub mod Numbers
 pub mod Fields
