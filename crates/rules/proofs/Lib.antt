@@ -25,6 +25,7 @@ pub mod Walk
 pub mod Held
 pub mod MountFacts
 pub mod Driven
+pub mod Proper
 pub mod Restored
 pub mod Restart
 pub mod Stays

@@ -1,100 +1,33 @@
 -- A driven instance whose parents are all present is saved as a valid state, and comes back. Assumes nothing.
 use mathlib.Core.Path.{_≡_, refl, sym, ap, _∙_}
-use mathlib.Core.Bool.{Bool, true, false, cond, not, _||_, true≢false, or-true}
-use mathlib.Core.Logic.{_⊎_, inl, inr, ⊎-elim}
+use mathlib.Core.Bool.{Bool, true, false, cond, not, _||_, true≢false}
+use mathlib.Core.Logic.{_⊎_, inl, inr}
 use mathlib.Core.List.{List, [], _∷_}
 use mathlib.Core.Option.{some}
 use Prim.Native.Nat.{ℕ, _+_, _≤_}
 use native.Mathlib.Omega.{arith}
 use lib.ListN.{length}
 use lib.Dec.{eqb, ltb}
-use borrow.Author.Tests.{eqb-true, eq-eqb, leb-true, le-leb, le-ltb, not-true, not-false}
+use borrow.Author.Tests.{eqb-true, leb-true, le-leb, le-ltb, not-true, not-false}
 use Rattle.rules.specs.Numbers.{rootNumber, topNumber}
 use Rattle.rules.specs.Bytes.{Bytes}
 use Rattle.rules.specs.Tree.{Node, isNone, nodeIn, isKnown}
 use Rattle.rules.specs.Instance.{Instance}
 use Rattle.rules.specs.Outcome.{Outcome}
 use Rattle.rules.specs.Create.{unknown}
-use Rattle.rules.specs.Saved.{Entry, lastNumber, present, used, goodName, goodNodes, valid, encode, accepted, stateOf}
+use Rattle.rules.specs.Saved.{Entry, present, goodName, valid, encode, accepted, stateOf}
 use Rattle.rules.specs.Restore.{entriesFor, nodesFrom, saved, restoredTo, restoreRule}
 use Rattle.rules.specs.RoundTrip.{EntriesFit, Fits, NamesTo}
-use Rattle.rules.specs.Driven.{Rises, Below, Named, Unique, Facts, Present}
+use Rattle.rules.specs.Driven.{Rises, Below, Named, Facts, Present}
 use Rattle.rules.specs.Restored.{GivesBack, SaveThenRestore, RestoreThenSave, NoLonger}
-use Rattle.rules.proofs.Tests.{known, or-neither, pass, passed}
+use Rattle.rules.proofs.Tests.{pass, passed}
 use Rattle.rules.proofs.Rows.{first-of}
 use Rattle.rules.proofs.RoundTrip.{there-and-back, no-other, longest, most-bytes}
-use Rattle.rules.proofs.Shape.{entries-from, entries-length, beside, beside-sym, rises-end}
-use Rattle.rules.proofs.Good.{Good, is-good}
+use Rattle.rules.proofs.Shape.{entries-from, entries-length, rises-end}
+use Rattle.rules.proofs.Good.{In, Parents, shape-good}
 use Rattle.rules.proofs.Driven.{facts}
 
--- ---- the parents of those left are before, or among those left
-
-unfoldable In : ℕ → List Entry → Type 0
-In x [] = ⊥
-In x (e ∷ es) = (e .number ≡ x) ⊎ In x es
-
-unfoldable Parents : List Entry → List Entry → List Entry → Type 0
-Parents before left [] = Unit {0}
-Parents before left (e ∷ es) = ((present (e .above) before ≡ true) ⊎ In (e .above) left) × Parents before left es
-
-in-above : (low high x : ℕ) (es : List Entry) → Rises low es high → In x es → low ≤ x
-unfolding In Rises
-in-above low high x [] r h = absurd h
-in-above low high x (e ∷ es) r (inl h) = omega (arith, r .0)
-in-above low high x (e ∷ es) r (inr h) = omega (arith, r .0, in-above (e .number + 1) high x es (r .1) h)
-
-present-more : (x : ℕ) (e : Entry) (before : List Entry) → present x before ≡ true → present x (e ∷ before) ≡ true
-unfolding present
-present-more x e before h = rw (h, or-true)
-
-present-first : (x : ℕ) (e : Entry) (before : List Entry) → e .number ≡ x → present x (e ∷ before) ≡ true
-unfolding present
-present-first x e before h = rw (eq-eqb (e .number) x h)
-
-parents-on : (e : Entry) (before left es : List Entry) → Parents before (e ∷ left) es → Parents (e ∷ before) left es
-unfolding Parents In
-parents-on e before left [] p = tt
-parents-on e before left (d ∷ es) p = (
-  ⊎-elim (λ h. inl (present-more (d .above) e before h)) (λ (h : (e .number ≡ d .above) ⊎ In (d .above) left). ⊎-elim (λ q. inl (present-first (d .above) e before q)) (λ q. inr q) h) (p .0),
-  parents-on e before left es (p .1),
-)
-
--- ---- the names of those left are not used before
-
-unfoldable Unused : List Entry → List Entry → Type 0
-Unused before [] = Unit {0}
-Unused before (e ∷ es) = (used (e .above) (e .called) before ≡ false) × Unused before es
-
-unused-on : (e : Entry) (before es : List Entry) → Unused before es → used (e .above) (e .called) es ≡ false → Unused (e ∷ before) es
-unfolding Unused used
-unused-on e before [] u h = tt
-unused-on e before (d ∷ es) u h =
-    let o = or-neither (beside d e) (used (e .above) (e .called) es) h in
-    (rw (beside-sym e d ∙ o .0) (u .0), unused-on e before es (u .1) (o .1))
-
--- ---- so they are good
-
-shape-good : (next : ℕ) (es before : List Entry) → Rises (lastNumber before + 1) es next → Below es → Named es → Unique es → Unused before es → Parents before es es
-    → goodNodes next before es ≡ true
-unfolding goodNodes Rises Below Named Unique Unused Parents lastNumber
-shape-good next [] before r b n u v p = refl
-shape-good next (e ∷ es) before r b n u v p =
-    let here : present (e .above) before ≡ true =
-    ⊎-elim (λ h. h) (λ h. absurd (omega (arith, b .1, in-above (e .number) next (e .above) (e ∷ es) (omega arith, r .1) h))) (p .0) in
-    let g : Good next before e = record {
-      rises = omega (arith, r .0);
-      under = omega (arith, rises-end (e .number + 1) next es (r .1));
-      named = n .0;
-      parent = here;
-      alone = v .0;
-    } in
-    rw (is-good next before e g)
-    (shape-good next es (e ∷ before) (r .1) (b .2) (n .1) (u .1) (unused-on e before es (v .1) (u .0)) (parents-on e before es es (p .1)))
-
-none-unused : (es : List Entry) → Unused [] es
-unfolding Unused used
-none-unused [] = tt
-none-unused (e ∷ es) = (refl, none-unused es)
+-- ---- the parents
 
 node-in : (ns : List Node) (x : ℕ) → isNone (nodeIn ns x) ≡ false → In x (entriesFor ns)
 unfolding nodeIn entriesFor In
@@ -150,15 +83,14 @@ module _ (i : Instance) (f : Facts i) where
       }
 
   saved-valid : Present (i .tree .nodes) (i .tree .nodes) → valid (saved i) ≡ true
-  unfolding valid saved lastNumber
+  unfolding valid saved
   saved-valid p =
       let es = entriesFor (i .tree .nodes) in
-      let s = f .shape in
       pass _ (
-        le-leb 2 (i .tree .next) (rises-end 2 (i .tree .next) es (s .rises)),
+        le-leb 2 (i .tree .next) (rises-end 2 (i .tree .next) es (f .shape .rises)),
         (
           le-leb (i .tree .next) topNumber (f .top),
-          (shape-good (i .tree .next) es [] (s .rises) (s .below) (s .named) (s .unique) (none-unused es) (all-parents (i .tree .nodes) (i .tree .nodes) p), tt),
+          (shape-good (i .tree .next) es (f .shape) (all-parents (i .tree .nodes) (i .tree .nodes) p), tt),
         ),
       )
 

@@ -28,6 +28,7 @@ pub mod Leaves
 pub mod Exactly
 pub mod RoundTrip
 pub mod Driven
+pub mod Proper
 pub mod Restored
 pub mod Restart
 pub mod Stays
