@@ -216,7 +216,7 @@ module _ (s : State) (p : Proper s) where
     unique = unique-from es (t .apart);
   }
 
-  proper-parents : Parents [] es es
+  pub proper-parents : Parents [] es es
   proper-parents =
       parents-from es es (λ k e a.
       ⊎-elim (λ q. inl q) (λ (w : Earlier es k (e .above)). inr (subst (λ (x : ℕ). In x es) (w .4) (in-at es (w .0) (w .1) (w .3)))) (p .parents k e a))

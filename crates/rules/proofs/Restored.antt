@@ -1,14 +1,14 @@
--- A driven instance whose parents are all present is saved as a valid state, and comes back. Assumes nothing.
+-- A driven instance is saved as a valid state exactly if its parents are all present, and then comes back. Assumes nothing.
 use mathlib.Core.Path.{_≡_, refl, sym, ap, _∙_}
-use mathlib.Core.Bool.{Bool, true, false, cond, not, _||_, true≢false}
-use mathlib.Core.Logic.{_⊎_, inl, inr}
+use mathlib.Core.Bool.{Bool, true, false, cond, not, _||_, true≢false, or-true}
+use mathlib.Core.Logic.{_⊎_, inl, inr, ⊎-elim}
 use mathlib.Core.List.{List, [], _∷_}
 use mathlib.Core.Option.{some}
 use Prim.Native.Nat.{ℕ, _+_, _≤_}
 use native.Mathlib.Omega.{arith}
 use lib.ListN.{length}
 use lib.Dec.{eqb, ltb}
-use borrow.Author.Tests.{eqb-true, leb-true, le-leb, le-ltb, not-true, not-false}
+use borrow.Author.Tests.{eqb-true, eq-eqb, leb-true, le-leb, le-ltb, not-true, not-false}
 use Rattle.rules.specs.Numbers.{rootNumber, topNumber}
 use Rattle.rules.specs.Bytes.{Bytes}
 use Rattle.rules.specs.Tree.{Node, isNone, nodeIn, isKnown}
@@ -19,13 +19,16 @@ use Rattle.rules.specs.Saved.{Entry, present, goodName, valid, encode, a
 use Rattle.rules.specs.Restore.{entriesFor, nodesFrom, saved, restoredTo, restoreRule}
 use Rattle.rules.specs.RoundTrip.{EntriesFit, Fits, NamesTo}
 use Rattle.rules.specs.Driven.{Rises, Below, Named, Facts, Present}
-use Rattle.rules.specs.Restored.{GivesBack, SaveThenRestore, RestoreThenSave, NoLonger}
-use Rattle.rules.proofs.Tests.{pass, passed}
+use Rattle.rules.specs.Restored.{GivesBack, SaveThenRestore, GoneIsBadSave, RestoreThenSave, NoLonger}
+use Rattle.rules.proofs.Tests.{known, pass, passed}
 use Rattle.rules.proofs.Rows.{first-of}
+use Rattle.rules.proofs.Encoded.{state-read}
+use Rattle.rules.proofs.Accepted.{clauses}
 use Rattle.rules.proofs.RoundTrip.{there-and-back, no-other, longest, most-bytes}
 use Rattle.rules.proofs.Shape.{entries-from, entries-length, rises-end}
 use Rattle.rules.proofs.Good.{In, Parents, shape-good}
 use Rattle.rules.proofs.Driven.{facts}
+use Rattle.rules.proofs.Proper.{proper-parents, every-valid, is-bad-save}
 
 -- ---- the parents
 
@@ -38,6 +41,16 @@ node-in (n ∷ ns) x h = go (eqb (n .number) x) refl h (node-in ns x)
     go true e f k = inl (eqb-true (n .number) x e)
     go false e f k = inr (k f)
 
+in-node : (ns : List Node) (x : ℕ) → In x (entriesFor ns) → isNone (nodeIn ns x) ≡ false
+unfolding nodeIn entriesFor In
+in-node [] x h = absurd h
+in-node (n ∷ ns) x (inl h) = rw (eq-eqb (n .number) x h)
+in-node (n ∷ ns) x (inr h) = go (eqb (n .number) x) (in-node ns x h)
+  where
+    go : (b : Bool) → isNone (nodeIn ns x) ≡ false → isNone (cond b (some n) (nodeIn ns x)) ≡ false
+    go true k = refl
+    go false k = k
+
 all-parents : (all ns : List Node) → Present all ns → Parents [] (entriesFor all) (entriesFor ns)
 unfolding Present Parents entriesFor isKnown present
 all-parents all [] p = tt
@@ -46,6 +59,11 @@ all-parents all (n ∷ ns) p = (go (eqb (n .above) rootNumber) refl (p .0), all-
     go : (b : Bool) → eqb (n .above) rootNumber ≡ b → (b || not (isNone (nodeIn all (n .above)))) ≡ true → (eqb (n .above) rootNumber ≡ true) ⊎ In (n .above) (entriesFor all)
     go true e f = inl e
     go false e f = inr (node-in all (n .above) (not-true _ f))
+
+parents-all : (all ns : List Node) → Parents [] (entriesFor all) (entriesFor ns) → Present all ns
+unfolding Present Parents entriesFor isKnown present
+parents-all all [] p = tt
+parents-all all (n ∷ ns) p = (⊎-elim (λ h. rw h) (λ h. rw (in-node all (n .above) h, or-true)) (p .0), parents-all all ns (p .1))
 
 -- ---- and fit
 
@@ -94,6 +112,12 @@ module _ (i : Instance) (f : Facts i) where
         ),
       )
 
+  accepted-present : accepted (encode (saved i)) ≡ true → Present (i .tree .nodes) (i .tree .nodes)
+  unfolding saved
+  accepted-present a =
+      let v : valid (saved i) ≡ true = rw (state-read (saved i) saved-fits) at (clauses (encode (saved i)) a .1) in
+      parents-all (i .tree .nodes) (i .tree .nodes) (proper-parents (saved i) (every-valid (saved i) .0 v))
+
 -- the theorem: no state is longer than 279,335 bytes
 pub no-longer : NoLonger
 unfolding saved
@@ -125,6 +149,12 @@ save-then-restore i j d p fr mask room =
         ),
       ),
     )
+
+-- the theorem: where a parent is gone it is BADSAVE
+pub gone-is-bad-save : GoneIsBadSave
+gone-is-bad-save i j d n fr =
+    let b = encode (saved i) in
+    is-bad-save j b fr (⊎-elim (λ (a : accepted b ≡ true). absurd (n (accepted-present i (facts i d) a))) (λ a. a) (known (accepted b)))
 
 -- ---- what was restored is saved again
 
