@@ -1,17 +1,18 @@
--- Records that are good among those before them have the shape of a driven instance's nodes. Assumes nothing.
+-- Records that are good among those before them have the shape of a driven instance's nodes; and back, where their parents are there. Assumes nothing.
 use mathlib.Core.Path.{_≡_, refl, _∙_}
-use mathlib.Core.Bool.{Bool, true, false, _&&_, _||_}
+use mathlib.Core.Bool.{Bool, true, false, _&&_, _||_, or-true}
+use mathlib.Core.Logic.{_⊎_, inl, inr, ⊎-elim}
 use mathlib.Core.List.{List, [], _∷_}
 use Prim.Native.Nat.{ℕ, _+_, _≤_, _<_}
 use native.Mathlib.Omega.{arith}
 use lib.Dec.{eqb}
-use borrow.Author.Tests.{eqb-true, not-true, ltb-true, lt-ltb}
+use borrow.Author.Tests.{eqb-true, eq-eqb, not-true, ltb-true, lt-ltb}
 use Rattle.rules.specs.Numbers.{rootNumber}
 use Rattle.rules.specs.Bytes.{same}
 use Rattle.rules.specs.Saved.{Entry, lastNumber, present, used, goodName, goodNode, goodNodes}
 use Rattle.rules.specs.Driven.{Rises, Below, Named, Unique, Shape}
 use Rattle.rules.proofs.Tests.{and-both, or-neither, pass, passed}
-use Rattle.rules.proofs.Shape.{beside-sym}
+use Rattle.rules.proofs.Shape.{beside, beside-sym, rises-end}
 
 -- the tests of a good record, one by one
 pub record Good (next : ℕ) (before : List Entry) (e : Entry) : Type 0 where
@@ -21,7 +22,7 @@ pub record Good (next : ℕ) (before : List Entry) (e : Entry) : Type 0 where
   pub parent : present (e .above) before ≡ true
   pub alone : used (e .above) (e .called) before ≡ false
 
-good-is : (next : ℕ) (before : List Entry) (e : Entry) → goodNode next before e ≡ true → Good next before e
+pub good-is : (next : ℕ) (before : List Entry) (e : Entry) → goodNode next before e ≡ true → Good next before e
 unfolding goodNode
 good-is next before e h =
     let t = passed _ h in
@@ -33,7 +34,7 @@ good-is next before e h =
       alone = not-true _ (t .1 .1 .1 .1 .0);
     }
 
-pub is-good : (next : ℕ) (before : List Entry) (e : Entry) → Good next before e → goodNode next before e ≡ true
+is-good : (next : ℕ) (before : List Entry) (e : Entry) → Good next before e → goodNode next before e ≡ true
 unfolding goodNode
 is-good next before e g =
     pass _ (lt-ltb (lastNumber before) (e .number) (g .rises), (lt-ltb (e .number) next (g .under), (g .named, (g .parent, (rw (g .alone), tt)))))
@@ -101,3 +102,77 @@ unfolding lastNumber
 good-shape next es l h =
     let r = good-rest next es [] (falling-nil next) h (omega arith) in
     record { rises = r .rises; below = r .below; named = r .named; unique = r .unique }
+
+-- ---- the parents of those left are before, or among those left
+
+unfoldable pub In : ℕ → List Entry → Type 0
+In x [] = ⊥
+In x (e ∷ es) = (e .number ≡ x) ⊎ In x es
+
+unfoldable pub Parents : List Entry → List Entry → List Entry → Type 0
+Parents before left [] = Unit {0}
+Parents before left (e ∷ es) = ((present (e .above) before ≡ true) ⊎ In (e .above) left) × Parents before left es
+
+in-above : (low high x : ℕ) (es : List Entry) → Rises low es high → In x es → low ≤ x
+unfolding In Rises
+in-above low high x [] r h = absurd h
+in-above low high x (e ∷ es) r (inl h) = omega (arith, r .0)
+in-above low high x (e ∷ es) r (inr h) = omega (arith, r .0, in-above (e .number + 1) high x es (r .1) h)
+
+present-more : (x : ℕ) (e : Entry) (before : List Entry) → present x before ≡ true → present x (e ∷ before) ≡ true
+unfolding present
+present-more x e before h = rw (h, or-true)
+
+present-first : (x : ℕ) (e : Entry) (before : List Entry) → e .number ≡ x → present x (e ∷ before) ≡ true
+unfolding present
+present-first x e before h = rw (eq-eqb (e .number) x h)
+
+parents-on : (e : Entry) (before left es : List Entry) → Parents before (e ∷ left) es → Parents (e ∷ before) left es
+unfolding Parents In
+parents-on e before left [] p = tt
+parents-on e before left (d ∷ es) p = (
+  ⊎-elim (λ h. inl (present-more (d .above) e before h)) (λ (h : (e .number ≡ d .above) ⊎ In (d .above) left). ⊎-elim (λ q. inl (present-first (d .above) e before q)) (λ q. inr q) h) (p .0),
+  parents-on e before left es (p .1),
+)
+
+-- ---- the names of those left are not used before
+
+unfoldable Unused : List Entry → List Entry → Type 0
+Unused before [] = Unit {0}
+Unused before (e ∷ es) = (used (e .above) (e .called) before ≡ false) × Unused before es
+
+unused-on : (e : Entry) (before es : List Entry) → Unused before es → used (e .above) (e .called) es ≡ false → Unused (e ∷ before) es
+unfolding Unused used
+unused-on e before [] u h = tt
+unused-on e before (d ∷ es) u h =
+    let o = or-neither (beside d e) (used (e .above) (e .called) es) h in
+    (rw (beside-sym e d ∙ o .0) (u .0), unused-on e before es (u .1) (o .1))
+
+-- ---- so they are good
+
+left-good : (next : ℕ) (es before : List Entry) → Rises (lastNumber before + 1) es next → Below es → Named es → Unique es → Unused before es → Parents before es es
+    → goodNodes next before es ≡ true
+unfolding goodNodes Rises Below Named Unique Unused Parents lastNumber
+left-good next [] before r b n u v p = refl
+left-good next (e ∷ es) before r b n u v p =
+    let here : present (e .above) before ≡ true =
+    ⊎-elim (λ h. h) (λ h. absurd (omega (arith, b .1, in-above (e .number) next (e .above) (e ∷ es) (omega arith, r .1) h))) (p .0) in
+    let g : Good next before e = record {
+      rises = omega (arith, r .0);
+      under = omega (arith, rises-end (e .number + 1) next es (r .1));
+      named = n .0;
+      parent = here;
+      alone = v .0;
+    } in
+    rw (is-good next before e g)
+    (left-good next es (e ∷ before) (r .1) (b .2) (n .1) (u .1) (unused-on e before es (v .1) (u .0)) (parents-on e before es es (p .1)))
+
+none-unused : (es : List Entry) → Unused [] es
+unfolding Unused used
+none-unused [] = tt
+none-unused (e ∷ es) = (refl, none-unused es)
+
+-- records of that shape, each with its parent among them
+pub shape-good : (next : ℕ) (es : List Entry) → Shape es next → Parents [] es es → goodNodes next [] es ≡ true
+unfolding lastNumber
+shape-good next es s p = left-good next es [] (s .rises) (s .below) (s .named) (s .unique) (none-unused es) p

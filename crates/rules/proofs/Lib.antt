@@ -1,6 +1,7 @@
 -- What is proved of the rules.
 pub mod Tests
 pub mod Same
+pub mod Sequences
 pub mod Fields
 pub mod Worked
 pub mod Rows
@@ -24,6 +25,7 @@ pub mod Walk
 pub mod Held
 pub mod MountFacts
 pub mod Driven
+pub mod Proper
 pub mod Restored
 pub mod Restart
 pub mod Stays

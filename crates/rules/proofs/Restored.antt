@@ -1,4 +1,4 @@
--- A driven instance whose parents are all present is saved as a valid state, and comes back. Assumes nothing.
+-- A driven instance is saved as a valid state exactly if its parents are all present, and then comes back. Assumes nothing.
 use mathlib.Core.Path.{_≡_, refl, sym, ap, _∙_}
 use mathlib.Core.Bool.{Bool, true, false, cond, not, _||_, true≢false, or-true}
 use mathlib.Core.Logic.{_⊎_, inl, inr, ⊎-elim}
@@ -15,86 +15,22 @@ use Rattle.rules.specs.Tree.{Node, isNone, nodeIn, isKnown}
 use Rattle.rules.specs.Instance.{Instance}
 use Rattle.rules.specs.Outcome.{Outcome}
 use Rattle.rules.specs.Create.{unknown}
-use Rattle.rules.specs.Saved.{Entry, lastNumber, present, used, goodName, goodNodes, valid, encode, accepted, stateOf}
+use Rattle.rules.specs.Saved.{Entry, present, goodName, valid, encode, accepted, stateOf}
 use Rattle.rules.specs.Restore.{entriesFor, nodesFrom, saved, restoredTo, restoreRule}
 use Rattle.rules.specs.RoundTrip.{EntriesFit, Fits, NamesTo}
-use Rattle.rules.specs.Driven.{Rises, Below, Named, Unique, Facts, Present}
-use Rattle.rules.specs.Restored.{GivesBack, SaveThenRestore, RestoreThenSave, NoLonger}
-use Rattle.rules.proofs.Tests.{known, or-neither, pass, passed}
+use Rattle.rules.specs.Driven.{Rises, Below, Named, Facts, Present}
+use Rattle.rules.specs.Restored.{GivesBack, SaveThenRestore, GoneIsBadSave, RestoreThenSave, NoLonger}
+use Rattle.rules.proofs.Tests.{known, pass, passed}
 use Rattle.rules.proofs.Rows.{first-of}
+use Rattle.rules.proofs.Encoded.{state-read}
+use Rattle.rules.proofs.Accepted.{clauses}
 use Rattle.rules.proofs.RoundTrip.{there-and-back, no-other, longest, most-bytes}
-use Rattle.rules.proofs.Shape.{entries-from, entries-length, beside, beside-sym, rises-end}
-use Rattle.rules.proofs.Good.{Good, is-good}
+use Rattle.rules.proofs.Shape.{entries-from, entries-length, rises-end}
+use Rattle.rules.proofs.Good.{In, Parents, shape-good}
 use Rattle.rules.proofs.Driven.{facts}
+use Rattle.rules.proofs.Proper.{proper-parents, every-valid, is-bad-save}
 
--- ---- the parents of those left are before, or among those left
-
-unfoldable In : ℕ → List Entry → Type 0
-In x [] = ⊥
-In x (e ∷ es) = (e .number ≡ x) ⊎ In x es
-
-unfoldable Parents : List Entry → List Entry → List Entry → Type 0
-Parents before left [] = Unit {0}
-Parents before left (e ∷ es) = ((present (e .above) before ≡ true) ⊎ In (e .above) left) × Parents before left es
-
-in-above : (low high x : ℕ) (es : List Entry) → Rises low es high → In x es → low ≤ x
-unfolding In Rises
-in-above low high x [] r h = absurd h
-in-above low high x (e ∷ es) r (inl h) = omega (arith, r .0)
-in-above low high x (e ∷ es) r (inr h) = omega (arith, r .0, in-above (e .number + 1) high x es (r .1) h)
-
-present-more : (x : ℕ) (e : Entry) (before : List Entry) → present x before ≡ true → present x (e ∷ before) ≡ true
-unfolding present
-present-more x e before h = rw (h, or-true)
-
-present-first : (x : ℕ) (e : Entry) (before : List Entry) → e .number ≡ x → present x (e ∷ before) ≡ true
-unfolding present
-present-first x e before h = rw (eq-eqb (e .number) x h)
-
-parents-on : (e : Entry) (before left es : List Entry) → Parents before (e ∷ left) es → Parents (e ∷ before) left es
-unfolding Parents In
-parents-on e before left [] p = tt
-parents-on e before left (d ∷ es) p = (
-  ⊎-elim (λ h. inl (present-more (d .above) e before h)) (λ (h : (e .number ≡ d .above) ⊎ In (d .above) left). ⊎-elim (λ q. inl (present-first (d .above) e before q)) (λ q. inr q) h) (p .0),
-  parents-on e before left es (p .1),
-)
-
--- ---- the names of those left are not used before
-
-unfoldable Unused : List Entry → List Entry → Type 0
-Unused before [] = Unit {0}
-Unused before (e ∷ es) = (used (e .above) (e .called) before ≡ false) × Unused before es
-
-unused-on : (e : Entry) (before es : List Entry) → Unused before es → used (e .above) (e .called) es ≡ false → Unused (e ∷ before) es
-unfolding Unused used
-unused-on e before [] u h = tt
-unused-on e before (d ∷ es) u h =
-    let o = or-neither (beside d e) (used (e .above) (e .called) es) h in
-    (rw (beside-sym e d ∙ o .0) (u .0), unused-on e before es (u .1) (o .1))
-
--- ---- so they are good
-
-shape-good : (next : ℕ) (es before : List Entry) → Rises (lastNumber before + 1) es next → Below es → Named es → Unique es → Unused before es → Parents before es es
-    → goodNodes next before es ≡ true
-unfolding goodNodes Rises Below Named Unique Unused Parents lastNumber
-shape-good next [] before r b n u v p = refl
-shape-good next (e ∷ es) before r b n u v p =
-    let here : present (e .above) before ≡ true =
-    ⊎-elim (λ h. h) (λ h. absurd (omega (arith, b .1, in-above (e .number) next (e .above) (e ∷ es) (omega arith, r .1) h))) (p .0) in
-    let g : Good next before e = record {
-      rises = omega (arith, r .0);
-      under = omega (arith, rises-end (e .number + 1) next es (r .1));
-      named = n .0;
-      parent = here;
-      alone = v .0;
-    } in
-    rw (is-good next before e g)
-    (shape-good next es (e ∷ before) (r .1) (b .2) (n .1) (u .1) (unused-on e before es (v .1) (u .0)) (parents-on e before es es (p .1)))
-
-none-unused : (es : List Entry) → Unused [] es
-unfolding Unused used
-none-unused [] = tt
-none-unused (e ∷ es) = (refl, none-unused es)
+-- ---- the parents
 
 node-in : (ns : List Node) (x : ℕ) → isNone (nodeIn ns x) ≡ false → In x (entriesFor ns)
 unfolding nodeIn entriesFor In
@@ -105,6 +41,16 @@ node-in (n ∷ ns) x h = go (eqb (n .number) x) refl h (node-in ns x)
     go true e f k = inl (eqb-true (n .number) x e)
     go false e f k = inr (k f)
 
+in-node : (ns : List Node) (x : ℕ) → In x (entriesFor ns) → isNone (nodeIn ns x) ≡ false
+unfolding nodeIn entriesFor In
+in-node [] x h = absurd h
+in-node (n ∷ ns) x (inl h) = rw (eq-eqb (n .number) x h)
+in-node (n ∷ ns) x (inr h) = go (eqb (n .number) x) (in-node ns x h)
+  where
+    go : (b : Bool) → isNone (nodeIn ns x) ≡ false → isNone (cond b (some n) (nodeIn ns x)) ≡ false
+    go true k = refl
+    go false k = k
+
 all-parents : (all ns : List Node) → Present all ns → Parents [] (entriesFor all) (entriesFor ns)
 unfolding Present Parents entriesFor isKnown present
 all-parents all [] p = tt
@@ -113,6 +59,11 @@ all-parents all (n ∷ ns) p = (go (eqb (n .above) rootNumber) refl (p .0), all-
     go : (b : Bool) → eqb (n .above) rootNumber ≡ b → (b || not (isNone (nodeIn all (n .above)))) ≡ true → (eqb (n .above) rootNumber ≡ true) ⊎ In (n .above) (entriesFor all)
     go true e f = inl e
     go false e f = inr (node-in all (n .above) (not-true _ f))
+
+parents-all : (all ns : List Node) → Parents [] (entriesFor all) (entriesFor ns) → Present all ns
+unfolding Present Parents entriesFor isKnown present
+parents-all all [] p = tt
+parents-all all (n ∷ ns) p = (⊎-elim (λ h. rw h) (λ h. rw (in-node all (n .above) h, or-true)) (p .0), parents-all all ns (p .1))
 
 -- ---- and fit
 
@@ -150,17 +101,22 @@ module _ (i : Instance) (f : Facts i) where
       }
 
   saved-valid : Present (i .tree .nodes) (i .tree .nodes) → valid (saved i) ≡ true
-  unfolding valid saved lastNumber
+  unfolding valid saved
   saved-valid p =
       let es = entriesFor (i .tree .nodes) in
-      let s = f .shape in
       pass _ (
-        le-leb 2 (i .tree .next) (rises-end 2 (i .tree .next) es (s .rises)),
+        le-leb 2 (i .tree .next) (rises-end 2 (i .tree .next) es (f .shape .rises)),
         (
           le-leb (i .tree .next) topNumber (f .top),
-          (shape-good (i .tree .next) es [] (s .rises) (s .below) (s .named) (s .unique) (none-unused es) (all-parents (i .tree .nodes) (i .tree .nodes) p), tt),
+          (shape-good (i .tree .next) es (f .shape) (all-parents (i .tree .nodes) (i .tree .nodes) p), tt),
         ),
       )
+
+  accepted-present : accepted (encode (saved i)) ≡ true → Present (i .tree .nodes) (i .tree .nodes)
+  unfolding saved
+  accepted-present a =
+      let v : valid (saved i) ≡ true = rw (state-read (saved i) saved-fits) at (clauses (encode (saved i)) a .1) in
+      parents-all (i .tree .nodes) (i .tree .nodes) (proper-parents (saved i) (every-valid (saved i) .0 v))
 
 -- the theorem: no state is longer than 279,335 bytes
 pub no-longer : NoLonger
@@ -193,6 +149,12 @@ save-then-restore i j d p fr mask room =
         ),
       ),
     )
+
+-- the theorem: where a parent is gone it is BADSAVE
+pub gone-is-bad-save : GoneIsBadSave
+gone-is-bad-save i j d n fr =
+    let b = encode (saved i) in
+    is-bad-save j b fr (⊎-elim (λ (a : accepted b ≡ true). absurd (n (accepted-present i (facts i d) a))) (λ a. a) (known (accepted b)))
 
 -- ---- what was restored is saved again
 

@@ -25,6 +25,17 @@ same-eq (x ∷ p) (y ∷ q) e =
     let b = and-both (eqb x y) (same p q) e in
     rw (eqb-true x y (b .0), same-eq p q (b .1))
 
+-- two that differ
+pub ne-same : (p q : List ℕ) → (p ≡ q → ⊥) → same p q ≡ false
+ne-same p q h = go (same p q) refl
+  where
+    go : (t : Bool) → same p q ≡ t → t ≡ false
+    go true e = absurd (h (same-eq p q e))
+    go false e = refl
+
+pub same-false : (p q : List ℕ) → same p q ≡ false → p ≡ q → ⊥
+same-false p q e h = true≢false (sym (same-refl q) ∙ (ap (λ (x : List ℕ). same x q) (sym h) ∙ e))
+
 -- ---- either way round
 
 pub eqb-sym : (a b : ℕ) → eqb a b ≡ eqb b a

@@ -91,6 +91,7 @@ abbrev pub diverted : Instance → ℕ → Bool
 diverted i x = eqb (numberOf x) rootNumber && not (isNone (i .tree .root))
 
 -- the tests of each call (R47, R57 to R59, R63, R68 to R74, R91, R96, R103, R105, R106, R125, R128 to R131)
+-- which saved bytes are accepted is said without tests in Proper.antt (R129)
 abbrev pub tests : Instance → Call → List Test
 tests i (mount r) = mountTests i r
 tests i (restore-mount k r) = restoreMountTests i k r

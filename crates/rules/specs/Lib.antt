@@ -1,6 +1,7 @@
 -- The rules of docs/RULES.md as definitions, and the statements that are proved of them.
 pub mod Bytes
 pub mod Utf8
+pub mod Sequences
 pub mod Path
 pub mod Numbers
 pub mod Fields
@@ -27,6 +28,7 @@ pub mod Leaves
 pub mod Exactly
 pub mod RoundTrip
 pub mod Driven
+pub mod Proper
 pub mod Restored
 pub mod Restart
 pub mod Stays

@@ -1,13 +1,14 @@
--- Demand 2 of save and restore on instances: what comes back, that no other bytes are accepted for it, and how long it can be.
+-- Demand 2 of save and restore on instances: what comes back and what does not, that no other bytes are accepted for it, and how long it can be.
 use Prim.Native.Nat.{ℕ, _≤_}
 use mathlib.Core.Bool.{true}
 use mathlib.Core.List.{List}
 use mathlib.Core.Option.{none}
 use mathlib.Core.Path.{_≡_}
 use lib.ListN.{length}
+use Rattle.rules.specs.Numbers.{BADSAVE}
 use Rattle.rules.specs.Bytes.{Bytes}
 use Rattle.rules.specs.Instance.{Tree, Instance, counterOf, live}
-use Rattle.rules.specs.Outcome.{Outcome}
+use Rattle.rules.specs.Outcome.{Outcome, refused}
 use Rattle.rules.specs.Saved.{encode}
 use Rattle.rules.specs.Restore.{entriesFor, nodesFrom, saved, fresh, restoreRule}
 use Rattle.rules.specs.Driven.{Driven, Present}
@@ -27,6 +28,10 @@ pub record GivesBack (i : Instance) (o : Outcome) : Type 0 where
 abbrev pub SaveThenRestore : Type 0
 SaveThenRestore = (i j : Instance) → Driven i → Present (i .tree .nodes) (i .tree .nodes) → fresh j ≡ true → j .fixed .known ≡ i .fixed .known → live i ≤ j .fixed .capacity
     → GivesBack i (restoreRule j (encode (saved i)))
+
+-- where a parent is gone the saved bytes are BADSAVE to every fresh instance, whatever its room and its mask (R102)
+abbrev pub GoneIsBadSave : Type 0
+GoneIsBadSave = (i j : Instance) → Driven i → (Present (i .tree .nodes) (i .tree .nodes) → ⊥) → fresh j ≡ true → restoreRule j (encode (saved i)) ≡ refused BADSAVE j
 
 -- what a done restore read is what a save writes at once (R136)
 abbrev pub RestoreThenSave : Type 0
