@@ -126,7 +126,7 @@ module _ (x : ℕ) where
     early = λ i c code e un s. s;
     mounts = λ i r p un s. mount-as i r (allocation i .found) s;
     restores-mount = λ i k r p un s. restored-as i k r s;
-    unmounted = λ i path y m e un s. unmounted i y m s;
+    unmounted = λ i path y m q e un s. unmounted i y m s;
     sets-removal = λ i un s. s;
     restored = λ i b ok un s. absurd (un b refl refl);
   })

@@ -135,7 +135,7 @@ leaves = every-call Leaves (record {
   early = early;
   mounts = λ i r p. mount-as i r p (allocation i .found) refl;
   restores-mount = restored-as;
-  unmounted = λ i path x m e. unmounted i (umount path) x m;
+  unmounted = λ i path x m q e. unmounted i (umount path) x m;
   sets-removal = λ i. done i _ _ refl;
   restored = λ i b ok. done i _ _ refl;
 })

@@ -30,6 +30,7 @@ pub mod Restored
 pub mod Restart
 pub mod Stays
 pub mod Again
+pub mod Others
 pub mod Slots
 pub mod Kept
 pub mod Wait

@@ -92,7 +92,7 @@ every-slot = every-call (λ i c o. (j : ℕ) → SlotAfter i c o j) (record {
   early = λ i c code e j. stays refl;
   mounts = λ i r p j. mount-as i r (allocation i .found) refl j;
   restores-mount = λ i k r p j. restored-as i k r j;
-  unmounted = λ i path x m e j. unmounted i (umount path) x m j;
+  unmounted = λ i path x m q e j. unmounted i (umount path) x m j;
   sets-removal = λ i j. stays refl;
   restored = λ i b ok j. restored i b j;
 })

@@ -113,7 +113,7 @@ stays = every-call Stays (record {
   early = λ i c code e. still-stays i c (refused code i) refl;
   mounts = λ i r p. keeps-stays i (mount r) _ (λ n. n .no-mount r refl) (mount-as i r (allocation i .found));
   restores-mount = λ i k r p. keeps-stays i (restore-mount k r) _ (λ n. n .no-restored k r refl) (restored-as i k r);
-  unmounted = λ i path x m e. keeps-stays i (umount path) _ (λ n. n .no-unmount path refl) (unmounted i x m);
+  unmounted = λ i path x m q e. keeps-stays i (umount path) _ (λ n. n .no-unmount path refl) (unmounted i x m);
   sets-removal = λ i. record { fixed = refl; removal = λ e. refl; mounts = λ n. refl; slots = λ n. refl; next = λ n. omega arith };
   restored = λ i b ok. restored i b (ok .is-fresh);
 })

@@ -102,7 +102,7 @@ only-mounts = every-call Turns (record {
   early = λ i c code e un. inl (keeps-refused i code);
   mounts = λ i r p un. inr (r, mount-as i r (allocation i .found));
   restores-mount = λ i k r p un. inl (restored-as i k r);
-  unmounted = λ i path x m e un. inl (unmounted i x m);
+  unmounted = λ i path x m q e un. inl (unmounted i x m);
   sets-removal = λ i un. inl (record { visits = refl; found = refl; counter = refl });
   restored = λ i b ok un. absurd (un b refl refl);
 })

@@ -109,7 +109,7 @@ module _ (P : Instance → Call → Outcome → Type 0) where
     pub early : (i : Instance) (c : Call) (code : ℕ) → Early c code → P i c (refused code i)
     pub mounts : (i : Instance) (r : Request) → Passed i r → P i (mount r) (mountAs i r (allocation i .found))
     pub restores-mount : (i : Instance) (k : ℕ) (r : Request) → Passed i r → P i (restore-mount k r) (restoreAs i k r)
-    pub unmounted : (i : Instance) (path : List ℕ) (x : ℕ) (m : Mount) → mountOf (i .tree) x ≡ some m → P i (umount path) (unmounts i x m)
+    pub unmounted : (i : Instance) (path : List ℕ) (x : ℕ) (m : Mount) → reached i path ≡ some x → mountOf (i .tree) x ≡ some m → P i (umount path) (unmounts i x m)
     pub sets-removal : (i : Instance) → P i set-remove-pseudo-root (says nothing (removing i))
     pub restored : (i : Instance) (b : List ℕ) → Restorable i b → P i (restore b) (says nothing (restoredTo (stateOf b) i))
 
@@ -158,18 +158,18 @@ module _ (P : Instance → Call → Outcome → Type 0) where
     refusal : (c : Call) → isMount c ≡ false → (code : ℕ) → (code ≡ FULL → ⊥) → P i c (refused code i)
     refusal c q code f = h .still i c (refused code i) q (still-refused i code f)
 
-    unmount-at : (path : List ℕ) (x : Option ℕ) (m : Option Mount) → mountUnder i x ≡ m → P i (umount path) (unmountAt i x m)
+    unmount-at : (path : List ℕ) (x : Option ℕ) (m : Option Mount) → reached i path ≡ x → mountUnder i x ≡ m → P i (umount path) (unmountAt i x m)
     unfolding unmountAt
-    unmount-at path none m e = refusal (umount path) refl _ (λ f. omega arith)
-    unmount-at path (some x) none e = refusal (umount path) refl _ (λ f. omega arith)
-    unmount-at path (some x) (some m) e = h .unmounted i path x m e
+    unmount-at path none m q e = refusal (umount path) refl _ (λ f. omega arith)
+    unmount-at path (some x) none q e = refusal (umount path) refl _ (λ f. omega arith)
+    unmount-at path (some x) (some m) q e = h .unmounted i path x m q e
 
     unmount-case : (path : List ℕ) → P i (umount path) (unmountRule i path)
     unfolding unmountRule
     unmount-case path =
         first-of (P i (umount path)) _ _ (
           λ a. refusal (umount path) refl _ (λ f. omega arith),
-          λ a. unmount-at path (reached i path) (mountUnder i (reached i path)) refl,
+          λ a. unmount-at path (reached i path) (mountUnder i (reached i path)) refl refl,
         )
 
     restore-case : (b : List ℕ) → P i (restore b) (restoreRule i b)

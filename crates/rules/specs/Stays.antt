@@ -6,9 +6,10 @@ use mathlib.Core.Option.{Option, none, some}
 use mathlib.Core.Path.{_≡_}
 use Rattle.rules.specs.Numbers.{rootNumber}
 use Rattle.rules.specs.Tree.{Mount, Node, nodeIn}
-use Rattle.rules.specs.Instance.{Tree, Instance}
+use Rattle.rules.specs.Instance.{Tree, Instance, mountOf}
 use Rattle.rules.specs.Outcome.{Outcome}
-use Rattle.rules.specs.Mount.{Request}
+use Rattle.rules.specs.Mount.{Request, ended}
+use Rattle.rules.specs.Unmount.{reached}
 use Rattle.rules.specs.Calls.{Call, mount, restore-mount, umount, restore, rule}
 use Rattle.rules.specs.Driven.{Driven}
 use Rattle.rules.specs.Trace.{Unrestored, afterAll}
@@ -48,6 +49,19 @@ pub record Stays (i : Instance) (c : Call) (o : Outcome) : Type 0 where
 -- of every call on every instance (R32, R34, R49, R118)
 abbrev pub EveryStays : Type 0
 EveryStays = (i : Instance) (c : Call) → Stays i c (rule i c)
+
+-- ---- the mounts of other nodes
+
+-- the mount on the node y after a call: as it was; or y is the node where the path of a mount or a restored mount ends, or which an unmount reaches (R76, R93, R98, R127)
+pub data MountAfter (i : Instance) (c : Call) (o : Outcome) (y : ℕ) : Type 0 where
+  same-mount : mountOf (o .after .tree) y ≡ mountOf (i .tree) y → MountAfter i c o y
+  by-mount : (r : Request) → c ≡ mount r → y ≡ ended i (r .path) → MountAfter i c o y
+  by-restored : (k : ℕ) (r : Request) → c ≡ restore-mount k r → y ≡ ended i (r .path) → MountAfter i c o y
+  by-unmount : (path : List ℕ) → c ≡ umount path → reached i path ≡ some y → MountAfter i c o y
+
+-- of every call on every instance
+abbrev pub EveryMountOn : Type 0
+EveryMountOn = (i : Instance) (c : Call) (y : ℕ) → MountAfter i c (rule i c) y
 
 -- ---- no live number is given twice
 

@@ -1,0 +1,180 @@
+-- The mounts of other nodes stay, over every call. Assumes nothing.
+use mathlib.Core.Path.{_≡_, refl, sym, ap, _∙_}
+use mathlib.Core.Bool.{Bool, true, false, cond, not, _&&_}
+use mathlib.Core.List.{List, [], _∷_, _++_, append-assoc, append-nil}
+use mathlib.Core.Option.{Option, none, some}
+use Prim.Native.Nat.{ℕ, _+_}
+use native.Mathlib.Decide.{ℕ-discrete}
+use lib.ListN.{length}
+use lib.Dec.{eqb}
+use borrow.Author.Tests.{eqb-true, ne-eqb}
+use Rattle.rules.specs.Numbers.{rootNumber}
+use Rattle.rules.specs.Path.{Part, name, parent, components}
+use Rattle.rules.specs.Tree.{Mount, Node, Made, bare, nodeIn, childIn, orMake, step, makes, atRoot, withMount, mountAt, without, isNone}
+use Rattle.rules.specs.Instance.{Tree, Instance, mountIn, mountOf, setMount, grown, cut}
+use Rattle.rules.specs.Outcome.{Outcome, nothing, says}
+use Rattle.rules.specs.Mount.{Request, planned, mountOn, placed, allocation, walkedTo, stepped, ended, mountAs, restoreAs}
+use Rattle.rules.specs.Unmount.{reached, taken, unmounts}
+use Rattle.rules.specs.Saved.{Entry, stateOf}
+use Rattle.rules.specs.Restore.{nodesFrom, noNodes, fresh, restoredTo}
+use Rattle.rules.specs.Calls.{mount, restore-mount, umount, restore}
+use Rattle.rules.specs.Stays.{MountAfter, same-mount, by-mount, by-restored, by-unmount, EveryMountOn}
+use Rattle.rules.proofs.Tests.{and-both}
+use Rattle.rules.proofs.Rows.{each-of, either}
+use Rattle.rules.proofs.Driven.{no-nodes, no-root}
+use Rattle.rules.proofs.Ways.{every-call}
+
+-- the mount on the first node of a number, or none
+abbrev on : List Node → ℕ → Option Mount
+on ns y = mountIn (nodeIn ns y)
+
+-- ---- lists of nodes
+
+behind-first : (b : Bool) (n : Node) (p q : Option Node) → mountIn p ≡ mountIn q → mountIn (cond b (some n) p) ≡ mountIn (cond b (some n) q)
+behind-first true n p q e = refl
+behind-first false n p q e = e
+
+module _ (x y : ℕ) (apart : x ≡ y → ⊥) where
+  -- a node of the number x is none of the number y
+  other : (n : Node) → eqb (n .number) x ≡ true → eqb (n .number) y ≡ false
+  other n e = ne-eqb (n .number) y (λ q. apart (sym (eqb-true (n .number) x e) ∙ q))
+
+  on-mounted : (m : Option Mount) (ns : List Node) → on (mountAt m ns x) y ≡ on ns y
+  unfolding nodeIn mountAt
+  on-mounted m [] = refl
+  on-mounted m (n ∷ ns) = go (eqb (n .number) x) refl (on-mounted m ns)
+    where
+      go : (b : Bool) → eqb (n .number) x ≡ b → on (mountAt m ns x) y ≡ on ns y → on (cond b (withMount m n ∷ ns) (n ∷ mountAt m ns x)) y ≡ on (n ∷ ns) y
+      go true e k = rw (other n e)
+      go false e k = behind-first (eqb (n .number) y) n _ _ k
+
+  on-without : (ns : List Node) → on (without ns x) y ≡ on ns y
+  unfolding nodeIn without
+  on-without [] = refl
+  on-without (n ∷ ns) = go (eqb (n .number) x) refl (on-without ns)
+    where
+      go : (b : Bool) → eqb (n .number) x ≡ b → on (without ns x) y ≡ on ns y → on (cond b ns (n ∷ without ns x)) y ≡ on (n ∷ ns) y
+      go true e k = rw (other n e)
+      go false e k = behind-first (eqb (n .number) y) n _ _ k
+
+-- a new node has no mount
+on-more : (ns : List Node) (n : Node) (y : ℕ) → n .mount ≡ none → on (ns ++ (n ∷ [])) y ≡ on ns y
+unfolding nodeIn
+on-more [] n y e = go (eqb (n .number) y)
+  where
+    go : (b : Bool) → mountIn (cond b (some n) none) ≡ none
+    go true = e
+    go false = refl
+on-more (m ∷ ns) n y e = behind-first (eqb (m .number) y) m _ _ (on-more ns n y e)
+
+on-made : (live : List Node) (next y : ℕ) (ps : List Part) (m : Made) → on (live ++ makes live next m ps .nodes) y ≡ on (live ++ m .nodes) y
+unfolding makes step
+on-made live next y [] m = refl
+on-made live next y (parent at ∷ ps) m = on-made live next y ps _
+on-made live next y (name at p ∷ ps) m = on-made live next y ps _ ∙ made (childIn (live ++ m .nodes) (m .here) p)
+  where
+    made : (z : Option ℕ) → on (live ++ orMake next m p z .nodes) y ≡ on (live ++ m .nodes) y
+    made none =
+        let n = bare (next + length (m .nodes)) (m .here) p in
+        sym (ap (λ (ns : List Node). on ns y) (append-assoc live (m .nodes) (n ∷ []))) ∙ on-more (live ++ m .nodes) n y refl
+    made (some z) = refl
+
+-- ---- trees
+
+-- by the mounts on the nodes
+of-nodes : (r : Option Mount) (y : ℕ) (p q : Option Mount) → p ≡ q → cond (eqb y rootNumber) r p ≡ cond (eqb y rootNumber) r q
+of-nodes r y p q e = rw e
+
+grown-same : (t : Tree) (path : List ℕ) (y : ℕ) → mountOf (grown (planned t path .nodes) t) y ≡ mountOf t y
+unfolding mountOf planned
+grown-same t path y = of-nodes (t .root) y _ _ (on-made (t .nodes) (t .next) y (components 0 path) atRoot ∙ ap (λ (ns : List Node). on ns y) (append-nil (t .nodes)))
+
+module _ (x y : ℕ) (apart : x ≡ y → ⊥) where
+  set-same : (t : Tree) (m : Option Mount) → mountOf (setMount t x m) y ≡ mountOf t y
+  unfolding mountOf setMount
+  set-same t m = go (eqb x rootNumber) refl
+    where
+      go : (b : Bool) → eqb x rootNumber ≡ b
+          → mountOf (cond b (record { next = t .next; root = m; nodes = t .nodes }) (record { next = t .next; root = t .root; nodes = mountAt m (t .nodes) x })) y ≡ mountOf t y
+      go true e = rw (ne-eqb y rootNumber (λ q. apart (eqb-true x rootNumber e ∙ sym q)))
+      go false e = of-nodes (t .root) y _ _ (on-mounted x y apart m (t .nodes))
+
+  cut-same : (t : Tree) → mountOf (cut x t) y ≡ mountOf t y
+  unfolding mountOf
+  cut-same t = of-nodes (t .root) y _ _ (on-without x y apart (t .nodes))
+
+  taken-same : (i : Instance) → mountOf (taken i x) y ≡ mountOf (i .tree) y
+  unfolding taken
+  taken-same i =
+      let s = set-same (i .tree) none in
+      either (λ (t : Tree). mountOf t y ≡ mountOf (i .tree) y) (i .removal && not (eqb x rootNumber)) (λ e. cut-same (setMount (i .tree) x none) ∙ s) (λ e. s)
+
+-- ---- calls
+
+-- another node than the one that a mount was placed on
+placed-same : (k : ℕ) (r : Request) (x : ℕ) (i : Instance) (y : ℕ) → (x ≡ y → ⊥) → mountOf (placed k r x i .tree) y ≡ mountOf (i .tree) y
+unfolding placed
+placed-same k r x i y n = set-same x y n (i .tree) (some (mountOn k r))
+
+mount-as : (i : Instance) (r : Request) (k : Option ℕ) (y : ℕ) → MountAfter i (mount r) (mountAs i r k) y
+unfolding mountAs
+mount-as i r none y = same-mount refl
+mount-as i r (some k) y =
+    let w = grown-same (i .tree) (r .path) y in
+    each-of (λ (o : Outcome). MountAfter i (mount r) o y) _ _ (
+      same-mount refl,
+      (
+        same-mount w,
+        elim (ℕ-discrete (ended i (r .path)) y) [
+          | yes e ↦ by-mount r refl (sym e)
+          | no n ↦ same-mount (placed-same k r (ended i (r .path)) (walkedTo (r .path) (stepped i)) y n ∙ w)
+        ],
+      ),
+    )
+
+restored-as : (i : Instance) (k : ℕ) (r : Request) (y : ℕ) → MountAfter i (restore-mount k r) (restoreAs i k r) y
+unfolding restoreAs
+restored-as i k r y =
+    let w = grown-same (i .tree) (r .path) y in
+    each-of (λ (o : Outcome). MountAfter i (restore-mount k r) o y) _ _ (
+      same-mount refl,
+      (
+        same-mount w,
+        elim (ℕ-discrete (ended i (r .path)) y) [
+          | yes e ↦ by-restored k r refl (sym e)
+          | no n ↦ same-mount (placed-same k r (ended i (r .path)) (walkedTo (r .path) i) y n ∙ w)
+        ],
+      ),
+    )
+
+unmounted : (i : Instance) (path : List ℕ) (x : ℕ) (m : Mount) → reached i path ≡ some x → (y : ℕ) → MountAfter i (umount path) (unmounts i x m) y
+unfolding unmounts
+unmounted i path x m q y =
+    elim (ℕ-discrete x y) [ yes e ↦ by-unmount path refl (q ∙ ap {B = Option ℕ} some e) | no n ↦ same-mount (taken-same x y n i) ]
+
+bare-nodes : (es : List Entry) (y : ℕ) → on (nodesFrom es) y ≡ none
+unfolding nodesFrom nodeIn
+bare-nodes [] y = refl
+bare-nodes (e ∷ es) y = go (eqb (e .number) y) (bare-nodes es y)
+  where
+    go : (b : Bool) → on (nodesFrom es) y ≡ none → mountIn (cond b (some (bare (e .number) (e .above) (e .called))) (nodeIn (nodesFrom es) y)) ≡ none
+    go true k = refl
+    go false k = k
+
+restored : (i : Instance) (b : List ℕ) → fresh i ≡ true → (y : ℕ) → MountAfter i (restore b) (says nothing (restoredTo (stateOf b) i)) y
+unfolding restoredTo fresh mountOf nodeIn
+restored i b a y =
+    let f = and-both (noNodes (i .tree .nodes)) (isNone (i .tree .root)) a in
+    same-mount (rw (no-nodes (i .tree .nodes) (f .0), no-root (i .tree .root) (f .1)) (of-nodes none y _ _ (bare-nodes (stateOf b .nodes) y)))
+
+-- the theorem
+pub every-mount-on : EveryMountOn
+every-mount-on = every-call (λ i c o. (y : ℕ) → MountAfter i c o y) (record {
+  still = λ i c o q s y. same-mount (ap (λ (j : Instance). mountOf (j .tree) y) (s .after));
+  early = λ i c code e y. same-mount refl;
+  mounts = λ i r p. mount-as i r (allocation i .found);
+  restores-mount = λ i k r p. restored-as i k r;
+  unmounted = λ i path x m q e. unmounted i path x m q;
+  sets-removal = λ i y. same-mount refl;
+  restored = λ i b ok. restored i b (ok .is-fresh);
+})
