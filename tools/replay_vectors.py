@@ -1,11 +1,11 @@
 #!/usr/bin/env python3
-"""Writes what crates/replay reads and what it must write, from the Rust's recorded answers.
+"""Writes what crates/replay reads, from the Rust's recorded answers, which are what it must write.
 
     python3 tools/replay_vectors.py            from the repository's root
 
-crates/replay/stdin has the calls of oracle/answers.txt, one to a line, without their answers. crates/replay/stdout is the
-list itself, byte for byte: the program must write each call with the answer that the Rust gave. Nothing here asks the port
-or the model. Each line is held to its form (oracle/README.md) first, so that the program need not judge one.
+crates/replay/stdout is the recorded list: the program must write each call with the answer that the Rust gave.
+crates/replay/stdin has its calls, one to a line, without their answers. Nothing here asks the port or the model. Each line is
+held to its form (oracle/README.md) first, so that the program need not judge one.
 """
 import os
 import re
@@ -71,7 +71,7 @@ def call_of(line):
 
 def main():
     root = os.path.join(os.path.dirname(os.path.abspath(__file__)), "..")
-    with open(os.path.join(root, "oracle", "answers.txt"), encoding="ascii", newline="") as f:
+    with open(os.path.join(root, "crates", "replay", "stdout"), encoding="ascii", newline="") as f:
         listed = f.read()
     assert listed[:2] == "n " and listed[-1:] == "\n", "the list begins with a creation and ends with a line end"
     calls = []
@@ -81,9 +81,8 @@ def main():
         calls.append(call + "\n")
     stdin = "".join(calls)
     assert len(stdin) < CALLS, "the program reads no more"
-    for name, text in ("stdin", stdin), ("stdout", listed):
-        with open(os.path.join(root, "crates", "replay", name), "w", encoding="ascii", newline="\n") as f:
-            f.write(text)
+    with open(os.path.join(root, "crates", "replay", "stdin"), "w", encoding="ascii", newline="\n") as f:
+        f.write(stdin)
     print(len(calls), "calls")
 
 
