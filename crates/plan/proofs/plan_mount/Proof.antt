@@ -33,14 +33,14 @@ loop-again : tie.Need-loop-again Inv-loop μ-loop
 loop-again c =
     goes-up _ _ _ _ _ _ (c .before .before .before .before .before .before .loop .inv) _ _ _ (step-of _ _ (c .before .before .before .before .before .next-component .ensures) (c .before .before .before .next .given .1)) (c .up .ensures _ _ _)
 
-sub-find : tie.Need-sub-find Inv-loop μ-loop
-sub-find c = let g = step-of _ _ (c .before .before .before .before .before .before .next-component .ensures) (c .before .before .before .before .start .given .1) in omega (arith, g .end)
+sub-name : tie.Need-sub-name Inv-loop μ-loop
+sub-name c = let g = step-of _ _ (c .before .before .before .next-component .ensures) (c .before .start .given .1) in omega (arith, g .end)
 
-part-find-start : tie.Need-part-find-start Inv-loop μ-loop
-part-find-start c = let g = step-of _ _ (c .before .before .before .before .before .before .next-component .ensures) (c .before .before .before .before .start .given .1) in omega (arith, g .end)
+part-name-start : tie.Need-part-name-start Inv-loop μ-loop
+part-name-start c = let g = step-of _ _ (c .before .before .before .next-component .ensures) (c .before .start .given .1) in omega (arith, g .end)
 
-part-find-end : tie.Need-part-find-end Inv-loop μ-loop
-part-find-end c = let g = step-of _ _ (c .before .before .before .before .before .before .next-component .ensures) (c .before .before .before .before .start .given .1) in omega (arith, g .within)
+part-name-end : tie.Need-part-name-end Inv-loop μ-loop
+part-name-end c = let g = step-of _ _ (c .before .before .before .next-component .ensures) (c .before .start .given .1) in omega (arith, g .within)
 
 find-requires : tie.Need-find-requires Inv-loop μ-loop
 find-requires c κs = (c .before .before .before .before .before .before .before .before .before .before .before .before .pre .0, (omega arith, c .before .before .before .before .before .before .before .before .loop .inv .named))
@@ -92,9 +92,9 @@ plan-mount-spec =
     loop-less
     loop-again
     (λ c. search needs)
-    sub-find
-    part-find-start
-    part-find-end
+    sub-name
+    part-name-start
+    part-name-end
     find-requires
     (λ c. search needs)
     (λ c. search needs)
