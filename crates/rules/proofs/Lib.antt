@@ -16,6 +16,7 @@ pub mod Exactly
 pub mod Encoded
 pub mod Accepted
 pub mod RoundTrip
+pub mod Parts
 pub mod Names
 pub mod Shape
 pub mod Good

@@ -3,10 +3,10 @@ use mathlib.Core.Path.{sym, ap, _∙_}
 use Prim.Native.Nat.{_-_}
 use native.Mathlib.Omega.{arith}
 use lib.ListN.{length}
+use Rattle.rules.proofs.Parts.{within-limits}
 use Rattle.path.proofs.Steps.{step-of}
 use Rattle.tables.specs.Answer.{foundIn}
 use Rattle.plan.specs.Plan.{columns}
-use Rattle.plan.proofs.Nodes.{path-short}
 use Rattle.plan.proofs.Going.{Going, begins, goes-up, goes-to, goes-new, stops, ends, name-short}
 use borrow.Author.Needs.{needs}
 use Rattle.plan.proofs.plan_mount.Statement.{statement}
@@ -52,7 +52,7 @@ returns-2 c =
 
 note-requires : tie.Need-note-requires Inv-loop μ-loop
 note-requires c κs =
-    let w = name-short _ _ _ _ _ _ (c .before .before .before .before .before .before .before .before .before .before .before .before .before .before .before .loop .inv) _ _ _ (step-of _ _ (c .before .before .before .before .before .before .before .before .before .before .before .before .before .before .next-component .ensures) (c .before .before .before .before .before .before .before .before .before .before .before .before .start .given .1)) (path-short _ (c .before .before .before .before .before .before .before .before .before .before .before .before .before .before .before .before .before .before .before .pre .1 .0)) in
+    let w = name-short _ _ _ _ _ _ (c .before .before .before .before .before .before .before .before .before .before .before .before .before .before .before .loop .inv) _ _ _ (step-of _ _ (c .before .before .before .before .before .before .before .before .before .before .before .before .before .before .next-component .ensures) (c .before .before .before .before .before .before .before .before .before .before .before .before .start .given .1)) (within-limits _ (c .before .before .before .before .before .before .before .before .before .before .before .before .before .before .before .before .before .before .before .pre .1 .0) .0) in
     (c .before .before .before .before .before .before .before .before .before .before .before .before .before .before .before .before .before .before .before .pre .0, (omega arith, w .0, w .1))
 
 loop-less-2 : tie.Need-loop-less-2 Inv-loop μ-loop
