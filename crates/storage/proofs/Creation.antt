@@ -32,12 +32,12 @@ use Rattle.storage.proofs.Slots.{length-slots, slots-empty}
 pub words-put : (mem : List ℕ) (n known ins outs : ℕ) →
     put 8 (put 8 (put 8 (put 8 (put 8 (put 8 (put 8 mem 0 mark) 8 n) 16 0) 24 2) 32 known) 40 ins) 48 outs
     ≡ putHeader 0 (bytesOf 8 mark ∷ bytesOf 8 n ∷ bytesOf 8 0 ∷ bytesOf 8 2 ∷ bytesOf 8 known ∷ bytesOf 8 ins ∷ bytesOf 8 outs ∷ []) mem
-unfolding put write putHeader putRow
+unfolding put putHeader putRow
 words-put mem n known ins outs = refl
 
 pub bytes-put : (mem : List ℕ) (flags : ℕ) → put 8 (put 1 (put 1 (put 1 (put 1 mem 80 flags) 81 1) 82 0) 83 0) 88 0
     ≡ putHeader 13 (bytesOf 1 flags ∷ bytesOf 1 1 ∷ bytesOf 1 0 ∷ bytesOf 1 0 ∷ bytesOf 8 0 ∷ []) mem
-unfolding put write putHeader putRow
+unfolding put putHeader putRow
 bytes-put mem flags = refl
 
 pub all-put : (mem : List ℕ) (n known ins outs flags : ℕ) (m : IdMapping) →
@@ -46,7 +46,7 @@ pub all-put : (mem : List ℕ) (n known ins outs flags : ℕ) (m : IdMapping) �
     (putHeader 0 (bytesOf 8 mark ∷ bytesOf 8 n ∷ bytesOf 8 0 ∷ bytesOf 8 2 ∷ bytesOf 8 known ∷ bytesOf 8 ins ∷ bytesOf 8 outs ∷ []) (emptySlots mem))
     56 (m .internal)) 60 (m .external)) 64 (m .range)) 68 (m .internal)) 72 (m .external)) 76 (m .range))
     ≡ createMem (creationOf n known ins outs flags m) mem
-unfolding put write putHeader putRow createMem spell headerOf newInstance
+unfolding put putHeader putRow createMem spell headerOf newInstance
 all-put mem n known ins outs flags m = refl
 
 -- ---- what the bytes then stand for
