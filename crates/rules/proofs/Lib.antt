@@ -23,6 +23,7 @@ pub mod Good
 pub mod Walk
 pub mod Held
 pub mod MountFacts
+pub mod Create
 pub mod Driven
 pub mod Restored
 pub mod Restart
