@@ -1,15 +1,16 @@
 -- Laws of decimal text, and of writers that follow each other. Assumes nothing.
 use Prim.Native.Nat.{ℕ, zero, suc, _+_, _/_, _%_, _^_, _≤_, _<_}
 use native.Mathlib.Omega.{arith}
-use native.Mathlib.Nat.{add-zero, div-lt-iff-lt-mul, pow-suc}
+use native.Mathlib.Nat.{div-lt-iff-lt-mul, pow-suc}
 use mathlib.Core.Path.{_≡_, refl, sym, ap, _∙_}
 use mathlib.Core.Bool.{Bool, true, false}
 use mathlib.Core.List.{List, [], _∷_, _++_}
 use lib.Dec.{ltb}
-use lib.ListN.{length, take, drop, set, length-append}
-use lib.Seq.{sets, sets-eq, take-append-seam}
+use lib.ListN.{length, set, length-append}
 use borrow.Author.Tests.{lt-ltb, le-ltb, ltb-true, ltb-false}
 use Rattle.rules.specs.Session.{digits, decimal}
+use Rattle.le.specs.Mem.{write}
+use Rattle.le.proofs.Lens.{write-append}
 use Rattle.decimal.specs.Wrote.{Wrote}
 
 -- one digit at a time
@@ -65,32 +66,22 @@ length-byte n h = length-short n (omega arith) _ _ refl refl
 pub length-one : (n : ℕ) → n < 10 → 1 ≡ length (decimal n)
 length-one n h = rw (decimal-small n h)
 
--- ---- runs of stores, one behind the other
-
-pub sets-append : (l : List ℕ) (i : ℕ) (xs ys : List ℕ) → sets (sets l i xs) (i + length xs) ys ≡ sets l i (xs ++ ys)
-sets-append l i [] ys = ap (λ (k : ℕ). sets l k ys) (add-zero i)
-sets-append l i (x ∷ xs) ys =
-    ap (λ (k : ℕ). sets (sets (set l i x) (suc i) xs) k ys) (let e : i + suc (length xs) ≡ suc i + length xs = omega arith in e)
-    ∙ sets-append (set l i x) (suc i) xs ys
-
--- a text at the front is there to be read
-pub sets-front : (xs l : List ℕ) → length xs ≤ length l → take (length xs) (sets l 0 xs) ≡ xs
-sets-front xs l h = rw (sets-eq xs l 0 (omega arith)) (take-append-seam xs (drop (0 + length xs) l))
+-- ---- texts, one behind the other
 
 -- the last digit alone, or behind those before it
-pub put-first : (n i : ℕ) (l : List ℕ) → n < 10 → set l i (48 + n) ≡ sets l i (decimal n)
+pub put-first : (n i : ℕ) (l : List ℕ) → n < 10 → set l i (48 + n) ≡ write l i (decimal n)
 put-first n i l h = rw (decimal-small n h)
 
-pub put-next : (n i k : ℕ) (l m : List ℕ) → 10 ≤ n → n < 10 ^ 20 → k ≡ i + length (decimal (n / 10)) → m ≡ sets l i (decimal (n / 10))
-    → set m k (48 + n % 10) ≡ sets l i (decimal n)
-put-next n i k l m h b e o = rw (e, o, decimal-step n h b) (sets-append l i (decimal (n / 10)) ((48 + n % 10) ∷ []))
+pub put-next : (n i k : ℕ) (l m : List ℕ) → 10 ≤ n → n < 10 ^ 20 → k ≡ i + length (decimal (n / 10)) → m ≡ write l i (decimal (n / 10))
+    → set m k (48 + n % 10) ≡ write l i (decimal n)
+put-next n i k l m h b e o = rw (e, o, decimal-step n h b) (sym (write-append l i (decimal (n / 10)) ((48 + n % 10) ∷ [])))
 
 -- two writers, one behind the other, are one
 pub wrote-more : {l m k : List ℕ} {at a b : ℕ} {xs ys : List ℕ} {r q : ℕ} → Wrote l at a xs r m → Wrote m r b ys q k → Wrote l at (a + b) (xs ++ ys) q k
 wrote-more {l} {m} {k} {at} {a} {b} {xs} {ys} {r} {q} f g = record {
   end = omega (arith, length-append xs ys);
   within = omega arith;
-  bytes = g .bytes ∙ ap (λ (i : ℕ). sets m i ys) (f .end) ∙ ap (λ (n : List ℕ). sets n (at + length xs) ys) (f .bytes) ∙ sets-append l at xs ys;
+  bytes = g .bytes ∙ ap (λ (i : ℕ). write m i ys) (f .end) ∙ ap (λ (n : List ℕ). write n (at + length xs) ys) (f .bytes) ∙ sym (write-append l at xs ys);
 }
 
 -- a wider bound holds too

@@ -3,15 +3,15 @@ ghost use mathlib.Core.Path.{_≡_};
 ghost use mathlib.Core.List.{_∷_, []};
 ghost use Prim.Native.Nat.{_+_, _≤_};
 ghost use lib.ListN.{length};
-ghost use lib.Seq.{sets};
 ghost use Rattle.rules.specs.Session.{decimal};
+ghost use Rattle.le.specs.Mem.{write};
 ghost use Rattle.decimal.specs.Wrote.{Wrote};
 
 // Writes the digits of n from the place `at` on.
 fn digits(out: &mut [u8], at: usize, n: u64) -> usize
     requires { ⌜ at + length (decimal n) ≤ length (now out) ⌝ }
     ensures { λ r. ⌜ r ≡ at + length (decimal n) ⌝ }
-    ensures { λ _. ⌜ now (out .exit) ≡ sets (now (out .entry)) at (decimal n) ⌝ }
+    ensures { λ _. ⌜ now (out .exit) ≡ write (now (out .entry)) at (decimal n) ⌝ }
 {
     if n < 10 {
         out[at] = (48 + n) as u8;

@@ -39,7 +39,7 @@ going-start d end rs h = record { within = omega arith; fits = h; long = refl; c
 
 -- no record is left
 pub going-done : (d₀ : List ℕ) (end : ℕ) (rs₀ : List (List ℕ)) (d : List ℕ) (at : ℕ) → Going d₀ end rs₀ d at [] → Lays d₀ end rs₀ at d
-unfolding laid write
+unfolding laid
 going-done d₀ end rs₀ d at g = record { count = sym (add-zero at) ∙ g .count; bytes = g .bytes }
 
 module _ (d₀ : List ℕ) (end : ℕ) (rs₀ : List (List ℕ)) (d : List ℕ) (at : ℕ) (r : List ℕ) (rs : List (List ℕ)) (n : ℕ) (ys : List ℕ)
@@ -68,7 +68,6 @@ module _ (d₀ : List ℕ) (end : ℕ) (rs₀ : List (List ℕ)) (d : List ℕ) 
 
   -- the record does not fit, and ends the listing
   pub stopped : 0 < length r → n ≡ 0 → Lays d₀ end rs₀ at (back d at end ys)
-  unfolding write
   stopped some z =
       let v = was-not (rest d at end) (length (rest d at end)) r n ys w some z in
       let none : laid (end - at) (r ∷ rs) ≡ [] = laid-out (end - at) r rs (omega (arith, rest-length, v .short)) in

@@ -34,7 +34,7 @@ runs mem at src from k j p q e f =
 
 module _ (mem : List ℕ) (at : ℕ) (src : List ℕ) (from n : ℕ) where
   pub copied-none : 1 ≤ n → Copied mem at src from n mem 1
-  unfolding write read
+  unfolding read
   copied-none h = (omega arith, h, refl, refl)
 
   pub copied-next : Bytes src → (d : List ℕ) (i : ℕ) → Copied mem at src from n d i → i < n → (v : ℕ) (f : List ℕ) → v ≡ get 8 src (from + 8 * i) → f ≡ put 8 d (at + 8 * i) v

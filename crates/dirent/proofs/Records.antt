@@ -86,7 +86,6 @@ module _ (d : List ℕ) (room : ℕ) (r : List ℕ) (n : ℕ) (e : List ℕ) whe
   lays-in w = let q = one (w .fits) in record { count = w .count ∙ ap length (sym q); bytes = w .bytes ∙ ap (write d 0) (sym q) }
 
   pub lays-out : Laid-out d room r n e → Lays d room (r ∷ []) n e
-  unfolding write
   lays-out w = let q = laid-out room r [] (w .short) in record { count = w .count ∙ ap length (sym q); bytes = w .bytes ∙ ap (write d 0) (sym q) }
 
   -- by the answer: not 0
@@ -99,7 +98,6 @@ module _ (d : List ℕ) (room : ℕ) (r : List ℕ) (n : ℕ) (e : List ℕ) whe
 
   -- or 0
   pub was-not : Lays d room (r ∷ []) n e → 0 < length r → n ≡ 0 → Laid-out d room r n e
-  unfolding write
   was-not w some z = go (decLe (length r) room)
     where
       go : Dec (length r ≤ room) → Laid-out d room r n e
@@ -173,7 +171,7 @@ row-on w v ws vs d at e q = ap (λ (m : List ℕ). write m (at + w) (fields ws v
 
 pub front-fields : (d : List ℕ) (ino off n : ℕ) (e₁ e₂ e₃ e₄ : List ℕ)
     → e₁ ≡ put 8 d 0 ino → e₂ ≡ put 8 e₁ 8 off → e₃ ≡ put 4 e₂ 16 n → e₄ ≡ put 4 e₃ 20 0 → e₄ ≡ write d 0 (fields direntRow (ino ∷ off ∷ n ∷ 0 ∷ []))
-unfolding write fields put
+unfolding fields put
 front-fields d ino off n e₁ e₂ e₃ e₄ q₁ q₂ q₃ q₄ =
     row-on 4 0 [] [] e₃ 20 e₄ q₄ ∙ row-on 4 n (4 ∷ []) (0 ∷ []) e₂ 16 e₃ q₃
     ∙ row-on 8 off (4 ∷ 4 ∷ []) (n ∷ 0 ∷ []) e₁ 8 e₂ q₂ ∙ row-on 8 ino (8 ∷ 4 ∷ 4 ∷ []) (off ∷ n ∷ 0 ∷ []) d 0 e₁ q₁

@@ -9,8 +9,9 @@ use lib.ListN.{length, getD, take, drop, drop-of-length-le, length-drop}
 use lib.Seq.{getD-drop, drop-drop}
 use borrow.Author.Tests.{le-leb, lt-leb, lt-ltb, le-ltb, eq-eqb, ne-eqb}
 use Rattle.rules.specs.Session.{decimal}
+use Rattle.le.proofs.Writes.{take-write}
 use Rattle.decimal.specs.Wrote.{Wrote}
-use Rattle.decimal.proofs.Texts.{length-decimal, sets-front}
+use Rattle.decimal.proofs.Texts.{length-decimal}
 use Rattle.expand.specs.Cells.{cellNamed, expandedBy}
 use Rattle.words.proofs.Spelling.{first}
 
@@ -39,7 +40,7 @@ module _ (a b : ℕ) where
 read-back : (was text xs : List ℕ) (most k : ℕ) → length xs ≤ length was → Wrote was 0 most xs k text → take (k - 0) (drop 0 text) ≡ xs
 read-back was text xs most k h w =
     let e : k - 0 ≡ length xs = omega (arith, w .end) in
-    rw (e, w .bytes) (sets-front xs was h)
+    rw (e, w .bytes) (take-write was xs h)
 
 -- a decimal that was written apart is put as it is
 pub decimal-run : (was text out now : List ℕ) (n room k r v : ℕ) → length was ≡ 20 → Wrote was 0 20 (decimal v) k text

@@ -7,17 +7,13 @@ use native.Mathlib.Nat.{add-zero, zero-add, add-comm, mul-comm, suc-add, pow-suc
 use native.Mathlib.Omega.{arith}
 use lib.ListN.{length, getD, set, take, replicate, length-set, length-replicate, getD-replicate}
 use lib.Seq.{getD-set-same, getD-set-other}
+pub use lib.Seq.{length-sets as length-write}
 use lib.Arith.{digits-mod, digits-div}
 use lib.Dec.{lit<}
 use Rattle.rules.proofs.Fields.{length-read, length-bytesOf, value-append, value-bytes, mod-step, read-add, read-slice, read-all, get-fits}
 use Rattle.le.specs.Mem.{read, value, bytesOf, get, write, put, Bytes}
 
 -- ---- lengths are kept
-
-pub length-write : (mem : List ℕ) (at : ℕ) (bs : List ℕ) → length (write mem at bs) ≡ length mem
-unfolding write
-length-write mem at [] = refl
-length-write mem at (b ∷ bs) = length-write (set mem at b) (at + 1) bs ∙ length-set mem at b
 
 pub length-put : (k : ℕ) (mem : List ℕ) (at v : ℕ) → length (put k mem at v) ≡ length mem
 unfolding put
@@ -54,11 +50,10 @@ masked l k w =
     ∙ ap₂ (λ (a b : List ℕ). a ++ b) (low-bytes l v ∙ low-bytes l w) (ap (bytesOf k) z ∙ zeros k)
 
 pub write-append : (mem : List ℕ) (at : ℕ) (a b : List ℕ) → write mem at (a ++ b) ≡ write (write mem at a) (at + length a) b
-unfolding write
 write-append mem at [] b = rw add-zero
 write-append mem at (x ∷ a) b =
-    let e : at + 1 + length a ≡ at + suc (length a) = omega arith in
-    rw (write-append (set mem at x) (at + 1) a b, e)
+    let e : at + suc (length a) ≡ suc at + length a = omega arith in
+    rw e (write-append (set mem at x) (suc at) a b)
 
 pub get-add : (k j : ℕ) (mem : List ℕ) (at : ℕ) → get (k + j) mem at ≡ get k mem at + 256 ^ k * get j mem (at + k)
 unfolding get
@@ -91,7 +86,7 @@ unfolding get value read
 get-one mem at = omega arith
 
 pub put-one : (mem : List ℕ) (at v : ℕ) → v < 256 → set mem at v ≡ put 1 mem at v
-unfolding put write bytesOf
+unfolding put bytesOf
 put-one mem at v h = ap (set mem at) (sym (mod-eq-of-lt h))
 
 -- a number, and a run behind it
@@ -106,10 +101,9 @@ abbrev pub Apart : ℕ → ℕ → ℕ → ℕ → Type 0
 Apart p k at l = (p + k ≤ at) ⊎ (at + l ≤ p)
 
 pub byte-apart : (mem : List ℕ) (at : ℕ) (bs : List ℕ) (p : ℕ) → Apart p 1 at (length bs) → getD (write mem at bs) p 0 ≡ getD mem p 0
-unfolding write
 byte-apart mem at [] p h = refl
-byte-apart mem at (b ∷ bs) p (inl h) = byte-apart (set mem at b) (at + 1) bs p (inl (omega arith)) ∙ getD-set-other mem at p b 0 (λ e. omega arith)
-byte-apart mem at (b ∷ bs) p (inr h) = byte-apart (set mem at b) (at + 1) bs p (inr (omega arith)) ∙ getD-set-other mem at p b 0 (λ e. omega arith)
+byte-apart mem at (b ∷ bs) p (inl h) = byte-apart (set mem at b) (suc at) bs p (inl (omega arith)) ∙ getD-set-other mem at p b 0 (λ e. omega arith)
+byte-apart mem at (b ∷ bs) p (inr h) = byte-apart (set mem at b) (suc at) bs p (inr (omega arith)) ∙ getD-set-other mem at p b 0 (λ e. omega arith)
 
 pub read-apart : (mem : List ℕ) (at : ℕ) (bs : List ℕ) (l p k : ℕ) → length bs ≡ l → Apart p k at l → read (write mem at bs) p k ≡ read mem p k
 unfolding read
@@ -162,13 +156,12 @@ take-read mem p k w h =
 -- ---- a read at the place of the l bytes that were written, or of a part of them
 
 byte-write : (mem : List ℕ) (at : ℕ) (bs : List ℕ) (i : ℕ) → at + length bs ≤ length mem → i < length bs → getD (write mem at bs) (at + i) 0 ≡ getD bs i 0
-unfolding write
 byte-write mem at [] i h k = absurd (omega arith)
-byte-write mem at (b ∷ bs) zero h k = rw add-zero (byte-apart (set mem at b) (at + 1) bs at (inl (omega arith)) ∙ getD-set-same mem at b 0 (omega arith))
+byte-write mem at (b ∷ bs) zero h k = rw add-zero (byte-apart (set mem at b) (suc at) bs at (inl (omega arith)) ∙ getD-set-same mem at b 0 (omega arith))
 byte-write mem at (b ∷ bs) (suc i) h k =
-    let e : at + suc i ≡ at + 1 + i = omega arith in
+    let e : at + suc i ≡ suc at + i = omega arith in
     let l : length (set mem at b) ≡ length mem = length-set mem at b in
-    rw e (byte-write (set mem at b) (at + 1) bs i (omega arith) (omega arith))
+    rw e (byte-write (set mem at b) (suc at) bs i (omega arith) (omega arith))
 
 -- w bytes, d bytes into what was written
 pub read-within : (mem : List ℕ) (at : ℕ) (bs : List ℕ) (l d w : ℕ) → length bs ≡ l → at + l ≤ length mem → d + w ≤ l

@@ -22,7 +22,6 @@ Written mem at bs n d i = (i ≤ n) × ((length d ≡ length mem) × (d ≡ writ
 -- the next byte behind them
 next : (mem : List ℕ) (at : ℕ) (bs : ℕ → List ℕ) (n : ℕ) (d : List ℕ) (i v : ℕ) → Written mem at bs n d i → i < n
     → length (bs i) ≡ i → bs (i + 1) ≡ bs i ++ (v ∷ []) → Written mem at bs n (set d (at + i) v) (i + 1)
-unfolding write
 next mem at bs n d i v w h l e =
     let step : write mem at (bs i ++ (v ∷ [])) ≡ set d (at + i) v = write-append mem at (bs i) (v ∷ []) ∙ (λ t. set (sym (w .1 .1) t) (at + l t) v) in
     (omega arith, (length-set d (at + i) v ∙ w .1 .0, sym (ap (write mem at) e ∙ step)))

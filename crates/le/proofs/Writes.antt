@@ -1,22 +1,18 @@
 -- Bytes written into a list that is made of parts, into a part that was lent, and back to where they were read. Assumes nothing.
 use mathlib.Core.Path.{_≡_, refl, sym, ap, _∙_}
-use mathlib.Core.List.{List, [], _∷_, _++_, append-assoc}
+use mathlib.Core.List.{List, [], _∷_, _++_, append-assoc, append-nil}
 use Prim.Native.Nat.{ℕ, zero, suc, _+_, _≤_}
 use native.Mathlib.Nat.{add-zero, zero-add, suc-add}
 use native.Mathlib.Omega.{arith}
-use lib.ListN.{length, take, drop, set, length-set, length-append, take-append-drop}
-use lib.Seq.{set-append-left, set-getD, length-take-le}
+use native.Mathlib.Numerals.{add-one}
+use lib.ListN.{length, take, drop, set, length-set, length-append, drop-of-length-le}
+use lib.Seq.{sets-eq, set-append-left, set-getD, length-take-le, take-append-seam}
 use borrow.Rule.Slice.PartMut.{putMid, put-same}
-use Rattle.rules.proofs.Fields.{read-all}
 use Rattle.le.specs.Mem.{read, write}
-use Rattle.le.proofs.Lens.{length-write, read-same}
 
-write-suc : (x : ℕ) (xs : List ℕ) (at : ℕ) (bs : List ℕ) → write (x ∷ xs) (suc at) bs ≡ x ∷ write xs at bs
-unfolding write
+pub write-suc : (x : ℕ) (xs : List ℕ) (at : ℕ) (bs : List ℕ) → write (x ∷ xs) (suc at) bs ≡ x ∷ write xs at bs
 write-suc x xs at [] = refl
-write-suc x xs at (b ∷ bs) =
-    let e : suc at + 1 ≡ suc (at + 1) = omega arith in
-    rw e (write-suc x (set xs at b) (at + 1) bs)
+write-suc x xs at (b ∷ bs) = write-suc x (set xs at b) (suc at) bs
 
 -- into what stands behind p
 write-behind : (p m : List ℕ) (at : ℕ) (bs : List ℕ) → write (p ++ m) (length p + at) bs ≡ p ++ write m at bs
@@ -25,24 +21,22 @@ write-behind (x ∷ p) m at bs = rw (suc-add, write-suc x (p ++ m) (length p + a
 
 -- into what stands in front of q
 pub write-before : (m q : List ℕ) (at : ℕ) (bs : List ℕ) → at + length bs ≤ length m → write (m ++ q) at bs ≡ write m at bs ++ q
-unfolding write
 write-before m q at [] h = refl
 write-before m q at (b ∷ bs) h =
     let l : length (set m at b) ≡ length m = length-set m at b in
-    rw (set-append-left m q at b (omega arith)) (write-before (set m at b) q (at + 1) bs (omega arith))
-
--- every byte anew
-write-all : (m bs : List ℕ) → length bs ≡ length m → write m 0 bs ≡ bs
-write-all m bs e =
-    sym (read-all (write m 0 bs)) ∙ ap (read (write m 0 bs) 0) (length-write m 0 bs ∙ sym e) ∙ read-same m 0 bs (length bs) refl (omega arith)
+    rw (set-append-left m q at b (omega arith)) (write-before (set m at b) q (suc at) bs (omega arith))
 
 -- at the start: the later bytes keep what they held
 pub write-over : (d bs : List ℕ) → length bs ≤ length d → write d 0 bs ≡ bs ++ drop (length bs) d
-write-over d bs h =
-    let n : ℕ = length bs in
-    let l : length (take n d) ≡ n = length-take-le n d h in
-    ap (λ (m : List ℕ). write m 0 bs) (sym (take-append-drop n d)) ∙ write-before (take n d) (drop n d) 0 bs (omega arith)
-    ∙ ap (λ (m : List ℕ). m ++ drop n d) (write-all (take n d) bs (sym l))
+write-over d bs h = rw (sets-eq bs d 0 (omega arith), zero-add)
+
+-- and these are there to be read
+pub take-write : (d bs : List ℕ) → length bs ≤ length d → take (length bs) (write d 0 bs) ≡ bs
+take-write d bs h = rw (write-over d bs h) (take-append-seam bs (drop (length bs) d))
+
+-- every byte anew
+write-all : (m bs : List ℕ) → length bs ≡ length m → write m 0 bs ≡ bs
+write-all m bs e = write-over m bs (omega arith) ∙ rw (drop-of-length-le m {i = length bs} (omega arith), append-nil)
 
 -- the first of them once more
 pub write-front : (d f g t : List ℕ) → length f ≡ length g → length (f ++ t) ≤ length d → write (write d 0 (f ++ t)) 0 g ≡ write d 0 (g ++ t)
@@ -55,9 +49,9 @@ write-front d f g t l h =
 
 -- what was read there
 pub write-read : (d : List ℕ) (at k : ℕ) → write d at (read d at k) ≡ d
-unfolding write read
+unfolding read
 write-read d at zero = refl
-write-read d at (suc k) = ap (λ (m : List ℕ). write m (at + 1) (read d (at + 1) k)) (set-getD d at 0) ∙ write-read d (at + 1) k
+write-read d at (suc k) = ap (λ (m : List ℕ). write m (suc at) (read d (at + 1) k)) (set-getD d at 0) ∙ rw (← add-one at) (write-read d (at + 1) k)
 
 -- into the k bytes from a place on, which were lent and are back
 pub write-part : (d : List ℕ) (at k : ℕ) (bs : List ℕ) → at ≤ length d → length bs ≤ length (take k (drop at d))

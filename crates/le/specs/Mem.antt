@@ -1,16 +1,12 @@
 -- Memory as a list of bytes, and what is written into it. Writing is total, as reading is: past the end nothing is changed,
 -- so that most laws ask for no bound.
-use Prim.Native.Nat.{ℕ, _+_}
-use mathlib.Core.List.{List, [], _∷_}
-use lib.ListN.{set}
+use Prim.Native.Nat.{ℕ}
+use mathlib.Core.List.{List}
 unfoldable pub use Rattle.rules.specs.Fields.{read, value, bytesOf, get}
 unfoldable pub use Rattle.rules.specs.Bytes.{same}
 pub use Rattle.rules.specs.Bytes.{Bytes}
-
--- the memory with these bytes from a place on
-unfoldable pub write : List ℕ → ℕ → List ℕ → List ℕ
-write mem at [] = mem
-write mem at (b ∷ bs) = write (set mem at b) (at + 1) bs
+-- `write`: the memory with these bytes from a place on
+pub use lib.Seq.{sets as write}
 
 -- the memory with a number in k bytes at a place
 unfoldable pub put : ℕ → List ℕ → ℕ → ℕ → List ℕ

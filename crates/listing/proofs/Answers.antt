@@ -29,11 +29,11 @@ module _ (mem : List ℕ) (node size offset : ℕ) (d : List ℕ) where
   by-rule l o q r e a b = writes-by mem (listing node size offset d) d (listedTold r) e o l q a b
 
   pub lists-nothing : laid mem ≡ true → size ≡ 0 → Lists mem node size offset d (Wrote 0) d
-  unfolding listedTold write listRule firstOf
+  unfolding listedTold listRule firstOf
   lists-nothing l z = by-rule l (writes [] (view mem)) (rw (eq-eqb size 0 z)) (Wrote 0) d refl refl
 
   pub lists-unknown : laid mem ≡ true → (size ≡ 0 → ⊥) → isKnown (nodesOf mem) node ≡ false → Lists mem node size offset d NoEnt d
-  unfolding listedTold write listRule firstOf view
+  unfolding listedTold listRule firstOf view
   lists-unknown l z k = by-rule l (refused NOENT (view mem)) (rw (ne-eqb size 0 z, k)) NoEnt d refl refl
 
   pub lists-laid : laid mem ≡ true → (size ≡ 0 → ⊥) → isKnown (nodesOf mem) node ≡ true → (end n : ℕ) (e : List ℕ) → end ≡ min size (length d)

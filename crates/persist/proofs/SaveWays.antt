@@ -74,7 +74,7 @@ module _ (mem d : List ℕ) where
 
   module _ (l : laid mem ≡ true) where
     saves-full : length d < length state → Saves mem d Small d
-    unfolding savedTold write saveRule firstOf
+    unfolding savedTold saveRule firstOf
     saves-full h = by-rule l (refused SMALL (view mem)) (rw (lt-ltb (length d) (length state) h)) Small d refl refl
 
     pub saves-all : length state ≤ length d → Saves mem d (Wrote (length state)) (write d 0 state)

@@ -10,11 +10,12 @@ use lib.ListN.{length, length-append}
 use Rattle.rules.specs.Path.{Part, name, parent, components, tooLong}
 use Rattle.rules.specs.Tree.{Node, Made, bare, childIn, orMake, step, makes, atRoot}
 use Rattle.rules.specs.Mount.{planned}
+use Rattle.rules.proofs.Parts.{EachName, Short, rest-names, names-short}
 use Rattle.tables.specs.Layout.{nextOf}
 use Rattle.tables.specs.View.{nodesOf, view}
 use Rattle.tables.proofs.Numbers.{LowNodes, nodes-low, child-low, parent-low}
 use Rattle.plan.proofs.Spare.{planned-is}
-use Rattle.plan.proofs.Nodes.{makes-grows, Short, rest-short, components-short}
+use Rattle.plan.proofs.Nodes.{makes-grows}
 
 -- ---- new nodes, numbered from x on
 
@@ -50,8 +51,8 @@ module _ (live : List Node) (next : ℕ) (low : LowNodes live) where
   all-low : (m : Made) → Makes next m → next + length (m .nodes) ≤ 2 ^ 56 → LowNodes (live ++ m .nodes)
   all-low m g h = low-append live (m .nodes) low (fresh-low next (m .nodes) (g .fresh) h)
 
-  step-fresh : (m : Made) (p : Part) (ps : List Part) → Short (p ∷ ps) → Makes next m → next + length (m .nodes) ≤ 2 ^ 56 → next + length (step live next m p .nodes) ≤ 2 ^ 56 → Makes next (step live next m p)
-  unfolding step Short
+  step-fresh : (m : Made) (p : Part) (ps : List Part) → EachName Short (p ∷ ps) → Makes next m → next + length (m .nodes) ≤ 2 ^ 56 → next + length (step live next m p .nodes) ≤ 2 ^ 56 → Makes next (step live next m p)
+  unfolding step EachName
   step-fresh m (parent at) ps s g b h = record { fresh = g .fresh; here = parent-low (live ++ m .nodes) (all-low m g b) (m .here) }
   step-fresh m (name at p) ps s g b h = go (childIn (live ++ m .nodes) (m .here) p) refl h
     where
@@ -63,17 +64,17 @@ module _ (live : List Node) (next : ℕ) (low : LowNodes live) where
             here = omega (arith, length-append (m .nodes) (bare (next + length (m .nodes)) (m .here) p ∷ []));
           }
 
-  makes-fresh : (m : Made) (ps : List Part) → Short ps → Makes next m → next + length (makes live next m ps .nodes) ≤ 2 ^ 56 → Makes next (makes live next m ps)
+  makes-fresh : (m : Made) (ps : List Part) → EachName Short ps → Makes next m → next + length (makes live next m ps .nodes) ≤ 2 ^ 56 → Makes next (makes live next m ps)
   unfolding makes
   makes-fresh m [] s g h = g
   makes-fresh m (p ∷ ps) s g h =
       let a = makes-grows live next m (p ∷ []) in
       let b = makes-grows live next (step live next m p) ps in
-      makes-fresh (step live next m p) ps (rest-short p ps s) (step-fresh m p ps s g (omega arith) (omega arith)) h
+      makes-fresh (step live next m p) ps (rest-names Short p ps s) (step-fresh m p ps s g (omega arith) (omega arith)) h
 
 -- the theorem: of a path that is not too long, where the numbers are within their limit
 pub planned-fresh : (mem path : List ℕ) → tooLong path ≡ false → nextOf mem + length (planned (view mem .tree) path .nodes) ≤ 2 ^ 56 → Fresh (nextOf mem) (planned (view mem .tree) path .nodes)
 unfolding Fresh
 planned-fresh mem path s h =
     rw (planned-is mem path)
-    (makes-fresh (nodesOf mem) (nextOf mem) (nodes-low mem) atRoot (components 0 path) (components-short path s) (record { fresh = tt; here = omega arith }) (rw (planned-is mem path) at h) .fresh)
+    (makes-fresh (nodesOf mem) (nextOf mem) (nodes-low mem) atRoot (components 0 path) (names-short path s) (record { fresh = tt; here = omega arith }) (rw (planned-is mem path) at h) .fresh)

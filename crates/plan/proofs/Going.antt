@@ -11,6 +11,7 @@ use lib.Seq.{getD-set-same, getD-set-other}
 use Rattle.rules.specs.Path.{Part, name, parent, components, tooLong}
 use Rattle.rules.specs.Tree.{Made, bare, childIn, parentIn, step, makes}
 use Rattle.rules.specs.Mount.{planned, needed}
+use Rattle.rules.proofs.Parts.{EachName, Short, first-name, rest-names, names-short}
 use Rattle.path.specs.Steps.{part}
 use Rattle.path.proofs.Places.{part-length}
 use Rattle.path.proofs.Steps.{Goes}
@@ -20,7 +21,7 @@ use Rattle.tables.specs.View.{nodesOf, view}
 use Rattle.tables.specs.Rule.{Laid}
 use Rattle.plan.specs.declared.Planned.the-variants.{Fits, NoRoom}
 use Rattle.plan.specs.Plan.{Columns, columns, noted, plannedFrom, Sized, Within, roomOf, told, Plans}
-use Rattle.plan.proofs.Nodes.{makes-grows, Short, rest-short, first-short, components-short}
+use Rattle.plan.proofs.Nodes.{makes-grows}
 use Rattle.plan.proofs.Spare.{planned-is, fits, lacks}
 use Rattle.plan.proofs.Columns.{planned-length, planned-stored}
 
@@ -35,7 +36,7 @@ pub record Going (mem path : List ℕ) (t : Columns) (count node at : ℕ) : Typ
   pub few : count ≤ roomOf mem
   pub sized : Sized t
   pub named : Within path t count
-  pub short : Short (components at (drop at path))
+  pub short : EachName Short (components at (drop at path))
   pub rest : makes (nodesOf mem) (nextOf mem) (soFar mem path t count node) (components at (drop at path)) ≡ planned (view mem .tree) path
 
 module _ (mem path : List ℕ) where
@@ -45,7 +46,7 @@ module _ (mem path : List ℕ) where
     few = omega arith;
     sized = z;
     named = λ k h. absurd (omega arith);
-    short = components-short path l;
+    short = names-short path l;
     rest = sym (planned-is mem path);
   }
 
@@ -57,7 +58,7 @@ module _ (mem path : List ℕ) where
       few = g .few;
       sized = g .sized;
       named = g .named;
-      short = rest-short p (components on (drop on path)) (rw (s .parts) at (g .short));
+      short = rest-names Short p (components on (drop on path)) (rw (s .parts) at (g .short));
       rest = sym (ap (λ (m : Made). makes (nodesOf mem) (nextOf mem) m (components on (drop on path))) e) ∙ (rw (s .parts) at (g .rest));
     }
 
@@ -87,7 +88,7 @@ module _ (mem path : List ℕ) where
 
       pub name-short : length path ≤ 4096 → (start < 65536) × (len < 256)
       name-short l =
-          let k = first-short start (part path start len) (components on (drop on path)) (rw (s .parts) at (g .short)) in
+          let k = first-name Short start (part path start len) (components on (drop on path)) (rw (s .parts) at (g .short)) in
           (omega (arith, s .end, s .within), omega (arith, part-length path start len (omega (arith, s .end, s .within))))
 
       module _ (e : none ≡ childIn (nodesOf mem ++ plannedFrom path (nextOf mem) t 0 count) node called) where
@@ -119,7 +120,7 @@ module _ (mem path : List ℕ) where
           few = omega arith;
           sized = record { parents = length-set parents count node ∙ g .sized .parents; starts = length-set starts count start ∙ g .sized .starts; lens = length-set lens count len ∙ g .sized .lens };
           named = λ k h. names k (ℕ-discrete k count) h;
-          short = rest-short (name start (part path start len)) (components on (drop on path)) (rw (s .parts) at (g .short));
+          short = rest-names Short (name start (part path start len)) (components on (drop on path)) (rw (s .parts) at (g .short));
           rest =
               rw (q, planned-stored path (nextOf mem) parents starts lens count node start len (omega (arith, g .sized .parents)) (omega (arith, g .sized .starts)) (omega (arith, g .sized .lens)))
               (sym (ap (λ (m : Made). makes (nodesOf mem) (nextOf mem) m (components on (drop on path))) (makes-it (columns parents starts lens) count node at g start len on s e)) ∙ after (columns parents starts lens) count node at g start len on s e);

@@ -6,12 +6,9 @@ use mathlib.Core.Option.{Option, none, some, Option·none-ne-some, Option·some-
 use Prim.Native.Nat.{ℕ, _+_, _≤_}
 use native.Mathlib.Omega.{arith}
 use lib.ListN.{length, length-append}
-use lib.Dec.{eqb, ltb}
-use borrow.Author.Tests.{ltb-false}
-use Rattle.rules.specs.Bytes.{same}
-use Rattle.rules.specs.Path.{Part, name, parent, isDot, isDots, pieces, sorted, kept, components, anyLonger, tooLong}
+use lib.Dec.{eqb}
+use Rattle.rules.specs.Path.{Part, name, parent}
 use Rattle.rules.specs.Tree.{Node, Made, isChild, childIn, nodeIn, orMake, step, makes}
-use Rattle.rules.proofs.Tests.{or-neither}
 
 -- ---- the first that is found
 
@@ -59,40 +56,3 @@ pub makes-grows : (live : List Node) (next : ℕ) (m : Made) (ps : List Part) �
 unfolding makes
 makes-grows live next m [] = omega arith
 makes-grows live next m (p ∷ ps) = omega (arith, step-grows live next m p, makes-grows live next (step live next m p) ps)
-
--- ---- the names of a path that is not too long
-
-unfoldable pub Short : List Part → Type 0
-Short [] = Unit {0}
-Short (parent at ∷ ps) = Short ps
-Short (name at p ∷ ps) = (length p ≤ 255) × Short ps
-
-pub rest-short : (p : Part) (ps : List Part) → Short (p ∷ ps) → Short ps
-unfolding Short
-rest-short (parent at) ps s = s
-rest-short (name at p) ps s = s .1
-
-pub first-short : (at : ℕ) (p : List ℕ) (ps : List Part) → Short (name at p ∷ ps) → length p ≤ 255
-unfolding Short
-first-short at p ps s = s .0
-
-kept-short : (at : ℕ) (ps : List (List ℕ)) → anyLonger 255 ps ≡ false → Short (kept at ps)
-unfolding Short kept sorted anyLonger
-kept-short at [] e = tt
-kept-short at (p ∷ ps) e =
-    let o = or-neither (ltb 255 (length p)) (anyLonger 255 ps) e in
-    go (same p []) (isDot p) (isDots p) (kept (at + length p + 1) ps) (ltb-false 255 (length p) (o .0)) (kept-short (at + length p + 1) ps (o .1))
-  where
-    go : (x y z : Bool) (qs : List Part) → length p ≤ 255 → Short qs → Short (cond x qs (cond y qs (cond z (parent at ∷ qs) (name at p ∷ qs))))
-    go true y z qs l k = k
-    go false true z qs l k = k
-    go false false true qs l k = k
-    go false false false qs l k = (l, k)
-
-pub components-short : (s : List ℕ) → tooLong s ≡ false → Short (components 0 s)
-unfolding tooLong components
-components-short s e = kept-short 0 (pieces s) (or-neither (ltb 4096 (length s)) (anyLonger 255 (pieces s)) e .1)
-
-pub path-short : (s : List ℕ) → tooLong s ≡ false → length s ≤ 4096
-unfolding tooLong
-path-short s e = ltb-false 4096 (length s) (or-neither (ltb 4096 (length s)) (anyLonger 255 (pieces s)) e .0)

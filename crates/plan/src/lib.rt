@@ -201,24 +201,14 @@ pub fn plan_mount(
                 at = next;
             }
             Component::Name { start, len, next } => {
-                match find(
-                    s,
-                    path,
-                    parents,
-                    starts,
-                    lens,
-                    count,
-                    node,
-                    &path[start..next],
-                ) {
-                    Found::Node(x) => node = x,
-                    Found::Nothing => {
-                        if count == most {
-                            return Planned::NoRoom;
-                        }
-                        node = note(s, parents, starts, lens, count, node, start, len);
-                        count += 1;
-                    }
+                let name = &path[start..next];
+                if let Found::Node(x) = find(s, path, parents, starts, lens, count, node, name) {
+                    node = x;
+                } else if count == most {
+                    return Planned::NoRoom;
+                } else {
+                    node = note(s, parents, starts, lens, count, node, start, len);
+                    count += 1;
                 }
                 at = next;
             }

@@ -6,7 +6,7 @@ use Prim.Native.Nat.{ℕ, _^_, _≤_, _<_}
 use native.Mathlib.Omega.{arith}
 use lib.ListN.{length}
 use lib.Dec.{eqb}
-use Rattle.le.specs.Mem.{write, bytesOf, put}
+use Rattle.le.specs.Mem.{bytesOf, put}
 use Rattle.rules.specs.Instance.{Options, Instance}
 use Rattle.rules.specs.Create.{unknown}
 use Rattle.rules.specs.RoundTrip.{OptionsFit}
@@ -26,11 +26,11 @@ use Rattle.restore_parts.specs.Parts.{hasBits, optionCells, setOptions, 
 
 pub options-put : (mem : List ℕ) (o : Options)
     → put 1 (put 4 (put 4 (put 4 (put 8 (put 8 mem 40 (o .inOpts)) 48 (o .outOpts)) 68 (o .mapping .internal)) 72 (o .mapping .external)) 76 (o .mapping .range)) 80 (o .flags) ≡ setOptions o mem
-unfolding put write putHeader putRow setOptions
+unfolding put putHeader putRow setOptions
 options-put mem o = refl
 
 pub state-put : (mem : List ℕ) (next counter : ℕ) (o : Options) → put 1 (put 1 (setOptions o (put 8 mem 24 next)) 81 counter) 83 (yesByte (hasBits (o .inOpts))) ≡ setState next counter o mem
-unfolding put write putHeader putRow setNext setState
+unfolding put putHeader putRow setNext setState
 state-put mem next counter o = refl
 
 -- ---- what the bytes then stand for
@@ -57,7 +57,7 @@ module _ (next counter : ℕ) (o : Options) (mem : List ℕ) where
   H = over header (fromPlace 3 cells) mem 0
 
   one-row : setState next counter o mem ≡ putHeader 3 cells mem
-  unfolding setState setOptions setNext putHeader putRow write
+  unfolding setState setOptions setNext putHeader putRow
   one-row = refl
 
   cells-fit : Fit header (fromPlace 3 cells)

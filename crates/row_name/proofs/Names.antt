@@ -101,7 +101,8 @@ module _ (n : ℕ) (mem : List ℕ) (i : ℕ) where
     copied-short h f w =
         let z : l - 7 ≡ 0 = omega arith in
         let m : min l 7 ≡ l = omega arith in
-        record { count = e; bytes = w ∙ ap (write d to) (sym (two l e ∙ rw (z, m))) }
+        let k : name ≡ read mem (lastAt n i + 1) l = two l e ∙ rw (z, m) in
+        record { count = e; bytes = w ∙ ap (write d to) (sym k) }
 
     -- the bytes before the last seven, and those
     pub copied-long : 7 < l → (f g : List ℕ) → f ≡ write d to (read mem (firstAt n i) (l - 7)) → g ≡ write f (to + (l - 7)) (read mem (lastAt n i + 1) 7) → Copied name d to l g
@@ -109,6 +110,7 @@ module _ (n : ℕ) (mem : List ℕ) (i : ℕ) where
         let m : min l 7 ≡ 7 = omega arith in
         let p : List ℕ = read mem (firstAt n i) (l - 7) in
         let q : List ℕ = read mem (lastAt n i + 1) 7 in
+        let k : name ≡ p ++ q = two l e ∙ rw m in
         let one : write (write d to p) (to + (l - 7)) q ≡ write d to (p ++ q) =
         ap (λ (k : ℕ). write (write d to p) (to + k) q) (sym (length-read mem (firstAt n i) (l - 7))) ∙ sym (write-append d to p q) in
-        record { count = e; bytes = v ∙ ap (λ (x : List ℕ). write x (to + (l - 7)) q) w ∙ one ∙ ap (write d to) (sym (two l e ∙ rw m)) }
+        record { count = e; bytes = v ∙ ap (λ (x : List ℕ). write x (to + (l - 7)) q) w ∙ one ∙ ap (write d to) (sym k) }

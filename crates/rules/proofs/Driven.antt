@@ -1,6 +1,6 @@
 -- What holds of every driven instance. Assumes nothing.
 use mathlib.Core.Path.{_≡_, refl, sym, ap, _∙_, subst}
-use mathlib.Core.Bool.{true, false, _||_, true≢false, false≢true}
+use mathlib.Core.Bool.{true, false, true≢false, false≢true}
 use mathlib.Core.Logic.{_⊎_, ⊎-elim}
 use mathlib.Core.List.{List, [], _∷_}
 use mathlib.Core.Option.{Option, none, some}
@@ -10,7 +10,7 @@ use lib.Bits.{bitAnd, and-le-r}
 use lib.ListN.{length, getD, replicate, length-replicate, getD-replicate, List·getD-eq-default}
 use lib.Dec.{ltb}
 use borrow.Author.Tests.{ltb-false, leb-true, eqb-true, not-false}
-use Rattle.rules.specs.Numbers.{topNumber, maxNodes, storageFor, DONE}
+use Rattle.rules.specs.Numbers.{topNumber, DONE}
 use Rattle.rules.specs.Bytes.{Bytes}
 use Rattle.rules.specs.Ids.{badMapping}
 use Rattle.rules.specs.Tree.{Mount, Node, isNone}
@@ -29,6 +29,7 @@ use Rattle.rules.proofs.Walk.{path-rooted}
 use Rattle.rules.proofs.Ways.{Restorable, every-call}
 use Rattle.rules.proofs.Accepted.{clauses, fits}
 use Rattle.rules.proofs.Shape.{entries-from, entries-length}
+use Rattle.rules.proofs.Create.{large-enough, options-fit}
 use Rattle.rules.proofs.Good.{good-shape}
 use Rattle.rules.proofs.MountFacts.{Keeps, mount-as, restored-as, unmounted}
 
@@ -120,20 +121,19 @@ new-not-held k =
 module _ (bytes : ℕ) (q : Creation) (mask : q .known < 2 ^ 64) (size : tooSmall bytes (q .capacity) ≡ false) (known : badOptions (q .known) (q .options) ≡ false)
     (maps : badMapping (q .options .mapping) ≡ false) where
   new-facts : Facts (newInstance q)
-  unfolding newInstance tooSmall badOptions unknown entriesFor Rises Below Named Unique
+  unfolding newInstance unknown entriesFor Rises Below Named Unique
   new-facts =
       let n = q .capacity in
       let o = q .options in
-      let a = or-neither (ltb n 1 || ltb maxNodes n) (ltb bytes (storageFor n)) size in
-      let c = or-neither (ltb n 1) (ltb maxNodes n) (a .0) in
-      let d = or-neither (outside (q .known) (o .inOpts) || outside (q .known) (o .outOpts)) (ltb 63 (o .flags)) known in
+      let a = large-enough bytes n size in
+      let d = options-fit (q .known) o known in
       let e = or-neither (outside (q .known) (o .inOpts)) (outside (q .known) (o .outOpts)) (d .0) in
       let w = within (o .mapping) maps in
       record {
         shape = record { rises = omega arith; below = tt; named = tt; unique = tt };
         top = omega arith;
-        room = ltb-false n 1 (c .0);
-        capacity = ltb-false maxNodes n (c .1);
+        room = a .0;
+        capacity = a .1;
         mask = mask;
         mapping = maps;
         within = d .0;
@@ -143,7 +143,7 @@ module _ (bytes : ℕ) (q : Creation) (mask : q .known < 2 ^ 64) (size : tooSmal
           internal = omega (arith, w .low);
           external = omega (arith, w .high);
           range = omega (arith, w .low);
-          flags = omega (arith, ltb-false 63 (o .flags) (d .1));
+          flags = omega (arith, d .1);
         };
         slots = length-replicate 256 emptySlot;
         counter = omega arith;

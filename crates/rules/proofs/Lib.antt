@@ -18,12 +18,14 @@ pub mod Exactly
 pub mod Encoded
 pub mod Accepted
 pub mod RoundTrip
+pub mod Parts
 pub mod Names
 pub mod Shape
 pub mod Good
 pub mod Walk
 pub mod Held
 pub mod MountFacts
+pub mod Create
 pub mod Driven
 pub mod Proper
 pub mod Restored

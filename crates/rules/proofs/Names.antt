@@ -3,18 +3,19 @@ use mathlib.Core.Path.{_≡_, refl, sym, ap, _∙_, subst}
 use mathlib.Core.Bool.{Bool, true, false, cond, _&&_, true≢false}
 use mathlib.Core.List.{List, [], _∷_}
 use mathlib.Core.Logic.{⊎-elim}
-use Prim.Native.Nat.{ℕ, zero, suc, _+_, _≤_}
+use Prim.Native.Nat.{ℕ, zero, suc}
 use native.Mathlib.Nat.{suc-inj}
 use native.Mathlib.Omega.{arith}
 use lib.ListN.{length}
-use lib.Dec.{ltb, eqb}
-use borrow.Author.Tests.{eqb-true, le-leb, ltb-false, eq-eqb}
+use lib.Dec.{eqb}
+use borrow.Author.Tests.{eqb-true, le-leb, eq-eqb}
 use Rattle.rules.specs.Bytes.{same, holds}
 use Rattle.rules.specs.Utf8.{Range, table, within, fits, firstRow, sequence, onSequence, endFrom, validTo, wellFormed}
-use Rattle.rules.specs.Path.{slash, Part, name, parent, onto, partsBy, pieces, isDot, isDots, sorted, kept, components, anyLonger, tooLong}
+use Rattle.rules.specs.Path.{slash, onto, partsBy, pieces, isDot, isDots, components, tooLong}
 use Rattle.rules.specs.Saved.{goodName}
-use Rattle.rules.proofs.Tests.{known, and-both, or-neither, pass}
+use Rattle.rules.proofs.Tests.{known, and-both, pass}
 use Rattle.rules.proofs.Same.{some-byte}
+use Rattle.rules.proofs.Parts.{EachPiece, EachName, Short, kept-names, within-limits}
 
 -- ---- sequences do not reach over a slash
 
@@ -98,17 +99,13 @@ none-apart s = tt
 abbrev Whole : ℕ → List ℕ → Type 0
 Whole k s = endFrom k s ≡ length s
 
-unfoldable Wholes : List (List ℕ) → Type 0
-Wholes [] = Unit {0}
-Wholes (p ∷ ps) = Whole 0 p × Wholes ps
-
 -- the first piece stands k bytes inside a sequence; it is what stands before the first slash
 unfoldable Cuts : ℕ → List ℕ → List (List ℕ) → Type 0
 Cuts k s [] = ⊥
-Cuts k s (p ∷ ps) = (p ≡ cut s) × Whole k p × Wholes ps
+Cuts k s (p ∷ ps) = (p ≡ cut s) × Whole k p × EachPiece (Whole 0) ps
 
-cuts-wholes : (s : List ℕ) (ps : List (List ℕ)) → Cuts 0 s ps → Wholes ps
-unfolding Cuts Wholes
+cuts-wholes : (s : List ℕ) (ps : List (List ℕ)) → Cuts 0 s ps → EachPiece (Whole 0) ps
+unfolding Cuts EachPiece
 cuts-wholes s [] h = absurd h
 cuts-wholes s (p ∷ ps) h = (h .1, h .2)
 
@@ -122,7 +119,7 @@ unfolding endFrom sequence firstRow table fits
 slash-alone s = refl
 
 nil-cuts : (k : ℕ) → Cuts k [] ([] ∷ [])
-unfolding Cuts Wholes cut endFrom
+unfolding Cuts EachPiece cut endFrom
 nil-cuts k = (refl, refl, tt)
 
 at-slash : (b : ℕ) (s : List ℕ) (k : ℕ) → eqb b slash ≡ true → Whole k (b ∷ s) → NoSlash k (b ∷ s) → (Whole 0 s → Cuts 0 s (pieces s)) → Cuts k (b ∷ s) ([] ∷ pieces s)
@@ -157,60 +154,40 @@ pieces-whole (b ∷ s) k w h = go (eqb b slash) refl (pieces-whole s)
 
 -- ---- what every piece is
 
-unfoldable Free : List (List ℕ) → Type 0
-Free [] = Unit {0}
-Free (p ∷ ps) = (holds slash p ≡ false) × Free ps
+abbrev Free : List ℕ → Type 0
+Free p = holds slash p ≡ false
 
-pieces-free : (s : List ℕ) → Free (pieces s)
-unfolding Free partsBy holds
+pieces-free : (s : List ℕ) → EachPiece Free (pieces s)
+unfolding EachPiece partsBy holds
 pieces-free [] = (refl, tt)
 pieces-free (b ∷ s) = go (eqb b slash) refl (pieces s) (pieces-free s)
   where
-    go : (t : Bool) → eqb b slash ≡ t → (ps : List (List ℕ)) → Free ps → Free (cond t ([] ∷ ps) (onto b ps))
+    go : (t : Bool) → eqb b slash ≡ t → (ps : List (List ℕ)) → EachPiece Free ps → EachPiece Free (cond t ([] ∷ ps) (onto b ps))
     go true e ps h = (refl, h)
     go false e [] h = (rw e, tt)
     go false e (p ∷ ps) h = (rw e (h .0), h .1)
 
-unfoldable Short : List (List ℕ) → Type 0
-Short [] = Unit {0}
-Short (p ∷ ps) = (length p ≤ 255) × Short ps
+abbrev Sound : List ℕ → Type 0
+Sound p = Free p × Short p × Whole 0 p
 
-none-longer : (ps : List (List ℕ)) → anyLonger 255 ps ≡ false → Short ps
-unfolding anyLonger Short
-none-longer [] e = tt
-none-longer (p ∷ ps) e =
-    let o = or-neither (ltb 255 (length p)) (anyLonger 255 ps) e in
-    (ltb-false 255 (length p) (o .0), none-longer ps (o .1))
+pieces-sound : (ps : List (List ℕ)) → EachPiece Free ps → EachPiece Short ps → EachPiece (Whole 0) ps → EachPiece Sound ps
+unfolding EachPiece
+pieces-sound [] f l w = tt
+pieces-sound (p ∷ ps) f l w = ((f .0, l .0, w .0), pieces-sound ps (f .1) (l .1) (w .1))
 
 -- ---- components
 
-unfoldable pub GoodParts : List Part → Type 0
-GoodParts [] = Unit {0}
-GoodParts (parent at ∷ ps) = GoodParts ps
-GoodParts (name at p ∷ ps) = (goodName p ≡ true) × GoodParts ps
+abbrev pub GoodName : List ℕ → Type 0
+GoodName p = goodName p ≡ true
 
-good : (p : List ℕ) → same p [] ≡ false → isDot p ≡ false → isDots p ≡ false → holds slash p ≡ false → length p ≤ 255 → Whole 0 p → goodName p ≡ true
+good : (p : List ℕ) → same p [] ≡ false → isDot p ≡ false → isDots p ≡ false → Sound p → GoodName p
 unfolding goodName wellFormed validTo
-good p e d dd f l w =
-    pass _ (le-leb 1 (length p) (some-byte p e), (le-leb (length p) 255 l, (rw f, (rw d, (rw dd, (eq-eqb _ _ w, tt))))))
-
-kept-good : (at : ℕ) (ps : List (List ℕ)) → Free ps → Short ps → Wholes ps → GoodParts (kept at ps)
-unfolding Free Short Wholes GoodParts kept sorted
-kept-good at [] f l w = tt
-kept-good at (p ∷ ps) f l w =
-    go (same p []) refl (isDot p) refl (isDots p) refl (kept (at + length p + 1) ps) (kept-good (at + length p + 1) ps (f .1) (l .1) (w .1))
-  where
-    go : (x : Bool) → same p [] ≡ x → (y : Bool) → isDot p ≡ y → (z : Bool) → isDots p ≡ z → (qs : List Part) → GoodParts qs
-        → GoodParts (cond x qs (cond y qs (cond z (parent at ∷ qs) (name at p ∷ qs))))
-    go true e y g z h qs k = k
-    go false e true g z h qs k = k
-    go false e false g true h qs k = k
-    go false e false g false h qs k = (good p e g h (f .0) (l .0) (w .0), k)
+good p e d dd s =
+    pass _ (le-leb 1 (length p) (some-byte p e), (le-leb (length p) 255 (s .1), (rw (s .0), (rw d, (rw dd, (eq-eqb _ _ (s .2), tt))))))
 
 -- the theorem: of a path that rows 1 and 2 of a mount let pass
-pub components-good : (s : List ℕ) → tooLong s ≡ false → wellFormed s ≡ true → GoodParts (components 0 s)
-unfolding tooLong wellFormed validTo components
+pub components-good : (s : List ℕ) → tooLong s ≡ false → wellFormed s ≡ true → EachName GoodName (components 0 s)
+unfolding wellFormed validTo components
 components-good s l w =
-    let o = or-neither (ltb 4096 (length s)) (anyLonger 255 (pieces s)) l in
-    kept-good 0 (pieces s) (pieces-free s) (none-longer (pieces s) (o .1))
-    (cuts-wholes s (pieces s) (pieces-whole s 0 (eqb-true _ _ w) (none-apart s)))
+    let whole = cuts-wholes s (pieces s) (pieces-whole s 0 (eqb-true _ _ w) (none-apart s)) in
+    kept-names Sound GoodName good 0 (pieces s) (pieces-sound (pieces s) (pieces-free s) (within-limits s l .1) whole)

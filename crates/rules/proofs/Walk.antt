@@ -21,7 +21,8 @@ use Rattle.rules.specs.Restore.{entryFor, entriesFor}
 use Rattle.rules.specs.Mount.{planned}
 use Rattle.rules.specs.Unmount.{reached}
 use Rattle.rules.specs.Driven.{Rises, Shape, Rooted, top, under}
-use Rattle.rules.proofs.Names.{GoodParts, components-good}
+use Rattle.rules.proofs.Parts.{EachName, rest-names}
+use Rattle.rules.proofs.Names.{GoodName, components-good}
 use Rattle.rules.proofs.Shape.{entries-append, child-unused, shape-more, rises-end}
 
 -- the root, or a live node
@@ -149,8 +150,8 @@ module _ (live : List Node) (next : ℕ) where
         reached = rw (← append-assoc live (m .nodes) (n ∷ [])) (under x n found (reached-append (live ++ m .nodes) (n ∷ []) (m .here) (w .reached)));
       }
 
-  step-walking : (m : Made) (p : Part) (ps : List Part) → GoodParts (p ∷ ps) → Walking live next m → Walking live next (step live next m p)
-  unfolding step GoodParts
+  step-walking : (m : Made) (p : Part) (ps : List Part) → EachName GoodName (p ∷ ps) → Walking live next m → Walking live next (step live next m p)
+  unfolding step EachName
   step-walking m (parent at) ps g w = record { shape = w .shape; reached = up (live ++ m .nodes) (m .here) (w .reached) }
   step-walking m (name at p) ps g w = go (childIn (live ++ m .nodes) (m .here) p) refl
     where
@@ -158,15 +159,10 @@ module _ (live : List Node) (next : ℕ) where
       go (some x) e = record { shape = w .shape; reached = down (live ++ m .nodes) (next + length (m .nodes)) (m .here) p x (w .shape .rises) e (w .reached) }
       go none e = makes-one m p (g .0) w e
 
-  rest-good : (p : Part) (ps : List Part) → GoodParts (p ∷ ps) → GoodParts ps
-  unfolding GoodParts
-  rest-good (parent at) ps g = g
-  rest-good (name at p) ps g = g .1
-
-  makes-walking : (m : Made) (ps : List Part) → GoodParts ps → Walking live next m → Walking live next (makes live next m ps)
+  makes-walking : (m : Made) (ps : List Part) → EachName GoodName ps → Walking live next m → Walking live next (makes live next m ps)
   unfolding makes
   makes-walking m [] g w = w
-  makes-walking m (p ∷ ps) g w = makes-walking (step live next m p) ps (rest-good p ps g) (step-walking m p ps g w)
+  makes-walking m (p ∷ ps) g w = makes-walking (step live next m p) ps (rest-names GoodName p ps g) (step-walking m p ps g w)
 
 -- the theorem: of a path that rows 1 and 2 of a mount let pass
 pub planned-walking : (t : Tree) (path : List ℕ) → Shape (entriesFor (t .nodes)) (t .next) → tooLong path ≡ false → wellFormed path ≡ true

@@ -34,7 +34,7 @@ field-put w v mem bs at = sym (put-write w mem at v bs)
 options-put : (mem : List ℕ) (at : ℕ) (o : Options)
     → put 2 (put 1 (put 1 (put 4 (put 4 (put 4 (put 8 (put 8 mem at (o .inOpts)) (at + 8) (o .outOpts)) (at + 16) (o .mapping .internal)) (at + 20) (o .mapping .external)) (at + 24) (o .mapping .range)) (at + 28) (o .flags)) (at + 29) 0) (at + 30) 0
     ≡ write mem at (optionsBytes o)
-unfolding optionsBytes fields write
+unfolding optionsBytes fields
 options-put mem at o =
     let e₁ : at + 8 + 8 ≡ at + 16 = omega arith in
     let e₂ : at + 16 + 4 ≡ at + 20 = omega arith in
@@ -52,7 +52,7 @@ options-puts mem at o e₁ e₂ e₃ e₄ e₅ e₆ e₇ e₈ p₁ p₂ p₃ p�
 pub trailer-put : (mem : List ℕ) (at offset count next counter : ℕ)
     → put 4 (put 2 (put 1 (put 1 (put 8 (put 4 (put 4 mem at offset) (at + 4) count) (at + 8) next) (at + 16) counter) (at + 17) 1) (at + 18) 0) (at + 20) 0
     ≡ write mem at (trailerBytes offset count next counter)
-unfolding trailerBytes fields write
+unfolding trailerBytes fields
 trailer-put mem at offset count next counter =
     let e₁ : at + 4 + 4 ≡ at + 8 = omega arith in
     let e₂ : at + 8 + 8 ≡ at + 16 = omega arith in
@@ -158,7 +158,6 @@ module _ (mem : List ℕ) (c : ℕ) (d₀ d : List ℕ) (at i : ℕ) (p : Puttin
   putting-within = omega (arith, p .count, p .fits, p .long)
 
   pub putting-done : c ≤ i → d ≡ write d₀ 0 (records mem)
-  unfolding write
   putting-done h = ap (write d at) (sym (later-none mem c i h)) ∙ p .bytes
 
   module _ (h : i < c) where

@@ -7,14 +7,15 @@ use mathlib.Core.Path.{_≡_, refl, sym, ap, _∙_}
 use mathlib.Core.Bool.{true, false, true≢false}
 use mathlib.Core.List.{List, [], _∷_, _++_}
 use lib.ListN.{length, take, drop, getD, length-append, drop-of-length-le}
-use lib.Seq.{sets, drop-cons, length-sets}
+use lib.Seq.{drop-cons}
 use lib.Dec.{eqb, ltb}
 use borrow.Author.Tests.{lt-ltb, le-ltb, le-leb, lt-leb, eq-eqb, ne-eqb}
 use Rattle.rules.specs.Instance.{Instance}
 use Rattle.rules.specs.Session.{replyTo}
+use Rattle.le.specs.Mem.{write}
+use Rattle.le.proofs.Lens.{length-write, write-append}
 use Rattle.tables.specs.View.{view}
 use Rattle.tables.specs.Rule.{laid}
-use Rattle.decimal.proofs.Texts.{sets-append}
 use Rattle.line_calls.specs.Answered.{lineText}
 use Rattle.script.specs.Step.{Answers, byBytes, byRules, endText, byteText, byteKept, Ended, Took}
 use Rattle.script.specs.Feed.{Going, start, step, fed, accepts, goes, went, viewed, Feeds, lastText, lastNext, finishes, Finishes}
@@ -61,14 +62,14 @@ module _ (S : Type 0) (a : Answers S) (room : ℕ) where
   fed-byte b bs rest g h e t p = rw (e, t, p)
 
 -- text behind text
-laid-on : (out xs ys : List ℕ) → sets (sets out 0 xs) (length xs) ys ≡ sets out 0 (xs ++ ys)
-laid-on out xs ys = (λ j. sets (sets out 0 xs) (sym (zero-add (length xs)) j) ys) ∙ sets-append out 0 xs ys
+laid-on : (out xs ys : List ℕ) → write (write out 0 xs) (length xs) ys ≡ write out 0 (xs ++ ys)
+laid-on out xs ys = (λ j. write (write out 0 xs) (sym (zero-add (length xs)) j) ys) ∙ sym (write-append out 0 xs ys)
 
 -- the invariant: what the rest of the piece leads to from here is what the whole piece leads to
 pub record SoFar (mem₀ carry₀ : List ℕ) (kept₀ : ℕ) (piece out₀ mem carry out : List ℕ) (line at i : ℕ) : Type 0 where
   pub text : List ℕ
   pub place : at ≡ length text
-  pub bytes : out ≡ sets out₀ 0 text
+  pub bytes : out ≡ write out₀ 0 text
   pub within : at ≤ length out₀
   pub inside : i ≤ length piece
   pub wide : length carry ≡ length carry₀
@@ -112,13 +113,13 @@ module _ (mem₀ carry₀ : List ℕ) (kept₀ : ℕ) (piece out₀ : List ℕ) 
         record {
           text = v .text ++ more;
           place = omega (arith, f .text .end, v .place);
-          bytes = f .text .bytes ∙ (λ j. sets (v .bytes j) (v .place j) more) ∙ laid-on out₀ (v .text) more;
+          bytes = f .text .bytes ∙ (λ j. write (v .bytes j) (v .place j) more) ∙ laid-on out₀ (v .text) more;
           within = omega (arith, f .text .within, v .long);
           inside = omega arith;
           wide = ap length (f .begun) ∙ length-carry carry line b ∙ v .wide;
           fits = v .fits;
           few = v .few;
-          long = ap length (f .text .bytes) ∙ length-sets out at more ∙ v .long;
+          long = ap length (f .text .bytes) ∙ length-write out at more ∙ v .long;
           rest =
               sym (fed-byte (List ℕ) byBytes (length out₀) b (drop (i + 1) piece) (drop i piece) (here (List ℕ) mem carry line i (v .text)) (here (List ℕ) after carried (r .kept) (i + 1) (v .text ++ more)) d z
               (λ j. here (List ℕ) (sym (f .bytes) j) (sym (f .begun) j) (sym k j) (i + 1) (v .text ++ more)))

@@ -6,11 +6,12 @@ use mathlib.Core.Path.{_≡_, refl, sym, ap, _∙_}
 use mathlib.Core.Bool.{Bool, true, false}
 use mathlib.Core.List.{List, [], _∷_, _++_, append-nil}
 use lib.ListN.{length, take, drop}
-use lib.Seq.{sets}
 use lib.Dec.{ltb}
 use borrow.Author.Tests.{ltb-true, ltb-false, eq-eqb, ne-eqb}
 use Rattle.rules.specs.Instance.{Instance}
 use Rattle.rules.specs.Whole.{session}
+use Rattle.le.specs.Mem.{write}
+use Rattle.le.proofs.Writes.{take-write}
 use Rattle.tables.specs.View.{view}
 use Rattle.tables.specs.Rule.{laid}
 use Rattle.script.specs.Step.{byBytes, byRules}
@@ -18,7 +19,6 @@ use Rattle.script.specs.Feed.{Going, start, accepts, goes, went, viewed,
 use Rattle.script.specs.Runs.{usedIn, wroteIn, keptIn, Feed, Finish, Run, written, WholeOf, EveryCutting}
 use Rattle.script.specs.declared.Fed.{Fed}
 use Rattle.script.specs.declared.Finished.the-variants.{Done, Refused as NotDone}
-use Rattle.decimal.proofs.Texts.{sets-front}
 use Rattle.script.proofs.Going.{same-end}
 use Rattle.script.proofs.Lines.{last-text, last-instance, none-text, none-instance}
 use Rattle.script.proofs.Begun.{Begun, begun-none, begun-text, begun-next, Leads, goes-leads}
@@ -52,7 +52,7 @@ module _ (mem carry : List ℕ) (kept : ℕ) (piece out : List ℕ) (r : Fed) (a
   kept-by false e = ap (keptIn kept) (f .answer) ∙ rw e
 
   written-text : take (wroteIn r) left ≡ G .text
-  written-text = (λ j. take (wrote-by _ refl j) (f .text j)) ∙ sets-front (G .text) out (f .within)
+  written-text = (λ j. take (wrote-by _ refl j) (f .text j)) ∙ take-write out (G .text) (f .within)
 
   module _ (l : laid mem ≡ true) (line : List ℕ) (v : Begun carry kept line) where
     moves : Moves mem line piece after carried (keptIn kept r) (usedIn r) (take (wroteIn r) left)
@@ -116,8 +116,8 @@ module _ (mem carry : List ℕ) (kept : ℕ) (out : List ℕ) (w : ℕ) (after l
 
   last-written : take w left ≡ lastText (List ℕ) byBytes mem carry kept
   last-written =
-      let t : left ≡ sets out 0 (lastText (List ℕ) byBytes mem carry kept) = f .text ∙ rw on in
-      (λ j. take (wrote-last j) (t j)) ∙ sets-front _ out (f .within on)
+      let t : left ≡ write out 0 (lastText (List ℕ) byBytes mem carry kept) = f .text ∙ rw on in
+      (λ j. take (wrote-last j) (t j)) ∙ take-write out _ (f .within on)
 
 -- ---- all of it
 

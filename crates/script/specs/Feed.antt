@@ -4,9 +4,9 @@ use mathlib.Core.Bool.{Bool, cond, true, _&&_}
 use mathlib.Core.List.{List, [], _∷_, _++_}
 use mathlib.Core.Path.{_≡_}
 use lib.ListN.{length}
-use lib.Seq.{sets}
 use lib.Dec.{eqb, leb, ltb}
 use Rattle.rules.specs.Instance.{Instance}
+use Rattle.le.specs.Mem.{write}
 use Rattle.tables.specs.View.{view}
 use Rattle.tables.specs.Rule.{laid}
 use Rattle.script.specs.Step.{Answers, byBytes, byRules, endText, endNext, byteText, byteNext, byteCarry, byteKept}
@@ -63,7 +63,7 @@ pub record Feeds (mem carry : List ℕ) (kept : ℕ) (piece out : List ℕ) (r :
   pub answer : r ≡ cond (accepts carry kept) (went (List ℕ) (goes (List ℕ) byBytes mem carry kept piece (length out))) Refused
   pub bytes : after ≡ goes (List ℕ) byBytes mem carry kept piece (length out) .state
   pub begun : carried ≡ goes (List ℕ) byBytes mem carry kept piece (length out) .carry
-  pub text : left ≡ sets out 0 (goes (List ℕ) byBytes mem carry kept piece (length out) .text)
+  pub text : left ≡ write out 0 (goes (List ℕ) byBytes mem carry kept piece (length out) .text)
   pub within : length (goes (List ℕ) byBytes mem carry kept piece (length out) .text) ≤ length out
   pub stands : laid mem ≡ true → viewed (goes (List ℕ) byBytes mem carry kept piece (length out)) ≡ goes Instance byRules (view mem) carry kept piece (length out)
   pub keeps : laid mem ≡ true → laid after ≡ true
@@ -86,7 +86,7 @@ finishes carry kept room = accepts carry kept && leb 64 room
 pub record Finishes (mem carry : List ℕ) (kept : ℕ) (out : List ℕ) (r : Finished) (after left : List ℕ) : Type 0 where
   pub answer : r ≡ cond (finishes carry kept (length out)) (Done (length (lastText (List ℕ) byBytes mem carry kept))) NotDone
   pub bytes : after ≡ cond (finishes carry kept (length out)) (lastNext (List ℕ) byBytes mem carry kept) mem
-  pub text : left ≡ cond (finishes carry kept (length out)) (sets out 0 (lastText (List ℕ) byBytes mem carry kept)) out
+  pub text : left ≡ cond (finishes carry kept (length out)) (write out 0 (lastText (List ℕ) byBytes mem carry kept)) out
   pub within : finishes carry kept (length out) ≡ true → length (lastText (List ℕ) byBytes mem carry kept) ≤ length out
   pub stands : laid mem ≡ true → view after ≡ cond (finishes carry kept (length out)) (lastNext Instance byRules (view mem) carry kept) (view mem)
   pub keeps : laid mem ≡ true → laid after ≡ true

@@ -1,5 +1,5 @@
 -- Laws of the open loops: one more, one turn less, one less. Assumes nothing.
-use Prim.Native.Nat.{ℕ, _+_, _-_, _*_, _≤_, _<_}
+use Prim.Native.Nat.{ℕ, suc, _+_, _-_, _*_, _≤_, _<_}
 use native.Mathlib.Omega.{arith}
 use mathlib.Core.Path.{_≡_}
 use mathlib.Core.Bool.{true, false}
@@ -7,7 +7,6 @@ use mathlib.Core.List.{List}
 use lib.ListN.{getD, set}
 use lib.Seq.{getD-set-other}
 use borrow.Author.Tests.{le-leb, lt-leb, lt-ltb, le-ltb}
-use Rattle.le.specs.Mem.{write}
 use Rattle.steps.specs.declared.loops.Turn.{Turn}
 use Rattle.steps.specs.declared.loops.Turn.the-variants.{Again, Done}
 use Rattle.steps.specs.Nested.{depth, opened, anyOpen, left, turned, turnOf}
@@ -20,10 +19,10 @@ module _ (c : List ℕ) where
   module _ (p v t : ℕ) where
     pub open-more : depth c < 4
         → set (set (set (set c (3 * depth c + 1) p) (3 * depth c + 2) v) (3 * depth c + 3) t) 0 (depth c + 1) ≡ opened c p v t
-    unfolding opened write
+    unfolding opened
     open-more h =
-        let e : 3 * depth c + 1 + 1 ≡ 3 * depth c + 2 = omega arith in
-        let f : 3 * depth c + 2 + 1 ≡ 3 * depth c + 3 = omega arith in
+        let e : suc (3 * depth c + 1) ≡ 3 * depth c + 2 = omega arith in
+        let f : suc (3 * depth c + 2) ≡ 3 * depth c + 3 = omega arith in
         rw (lt-ltb (depth c) 4 h, e, f)
 
     pub open-full : 4 ≤ depth c → c ≡ opened c p v t

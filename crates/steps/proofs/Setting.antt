@@ -18,9 +18,8 @@ use Rattle.steps.specs.Whole.{putWhole}
 -- ---- past the end
 
 write-past : (mem : List ℕ) (at : ℕ) (bs : List ℕ) → length mem ≤ at → write mem at bs ≡ mem
-unfolding write
 write-past mem at [] h = refl
-write-past mem at (b ∷ bs) h = write-past (set mem at b) (at + 1) bs (omega (arith, length-set mem at b)) ∙ set-out mem at b h
+write-past mem at (b ∷ bs) h = write-past (set mem at b) (suc at) bs (omega (arith, length-set mem at b)) ∙ set-out mem at b h
 
 write-cut : (mem : List ℕ) (at : ℕ) (a b : List ℕ) → length mem ≤ at + length a → write mem at (a ++ b) ≡ write mem at a
 write-cut mem at a b h = write-append mem at a b ∙ write-past (write mem at a) (at + length a) b (omega (arith, length-write mem at a))
@@ -29,7 +28,6 @@ write-cut mem at a b h = write-append mem at a b ∙ write-past (write mem at a)
 
 module _ (mem bs : List ℕ) (at from k : ℕ) (e : from ≡ min at (length mem)) (f : k ≡ min (length bs) (length mem - from)) where
   set-by : (t u : Bool) → leb at (length mem) ≡ t → leb (length bs) k ≡ u → write mem from (take k bs) ≡ write mem at bs
-  unfolding write
   set-by true true h g =
       let p : from ≡ at = omega (arith, leb-true at (length mem) h) in
       rw (p, take-all k bs (leb-true (length bs) k g))
@@ -85,14 +83,14 @@ module _ (mem : List ℕ) (at n seed from k : ℕ) where
 
   module _ (s : List ℕ) (x i : ℕ) (l : Left mem at n seed from k s x i) where
     pub left-more : (y b : ℕ) → i < k → y ≡ next x → b ≡ y / 65536 % 256 → Left mem at n seed from k (set s (from + i) b) y (i + 1)
-    unfolding write drawn
+    unfolding drawn
     left-more y b h e f =
         let d : k - i ≡ suc (k - (i + 1)) = omega arith in
-        let g : from + (i + 1) ≡ from + i + 1 = omega arith in
+        let g : from + (i + 1) ≡ suc (from + i) = omega arith in
         rw (f, e, g) (sym (ap (λ (j : ℕ). write s (from + i) (drawn j x)) d) ∙ l)
 
     pub left-none : k ≤ i → s ≡ write mem at (drawn n seed)
-    unfolding write drawn
+    unfolding drawn
     left-none h = (let d : k - i ≡ 0 = omega arith in sym (ap (λ (j : ℕ). write s (from + i) (drawn j x)) d)) ∙ l
 
 -- ---- numbers

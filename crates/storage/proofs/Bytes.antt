@@ -53,9 +53,8 @@ set-bytes (x ∷ mem) (suc at) b m h zero = m 0
 set-bytes (x ∷ mem) (suc at) b m h (suc k) = set-bytes mem at b (λ j. m (suc j)) h k
 
 write-bytes : (mem : List ℕ) (at : ℕ) (bs : List ℕ) → Bytes mem → Bytes bs → Bytes (write mem at bs)
-unfolding write
 write-bytes mem at [] m h = m
-write-bytes mem at (b ∷ bs) m h = write-bytes (set mem at b) (at + 1) bs (set-bytes mem at b m (h 0)) (λ j. h (suc j))
+write-bytes mem at (b ∷ bs) m h = write-bytes (set mem at b) (suc at) bs (set-bytes mem at b m (h 0)) (λ j. h (suc j))
 
 pub row-bytes : (cs : List Col) (xs : List (List ℕ)) (mem : List ℕ) (i : ℕ) → Bytes mem → AllBytes xs → Bytes (putRow cs xs mem i)
 unfolding putRow

@@ -16,7 +16,7 @@ module _ (mem : List ℕ) (f : Instance → Outcome) where
   -- ---- of a call that lays bytes into the lent output
 
   pub writes-small : (d : List ℕ) → laid mem ≡ false → Writes mem f d toldSmall d
-  unfolding writtenBy write
+  unfolding writtenBy
   writes-small d l = record { answer = sym (told-small mem f l); bytes = rw l }
 
   pub writes-by : (d : List ℕ) (told : Told) (e : List ℕ) (o : Outcome) → laid mem ≡ true → f (view mem) ≡ o → told ≡ toldBy o → e ≡ write d 0 (o .written) → Writes mem f d told e

@@ -1,17 +1,17 @@
 -- Creation: what its writes come to, and what the bytes then stand for. Assumes nothing.
 use mathlib.Core.Path.{_≡_, refl, sym, ap, _∙_, subst}
-use mathlib.Core.Bool.{true, false, _||_}
+use mathlib.Core.Bool.{true, false}
 use mathlib.Core.List.{List, [], _∷_}
 use Prim.Native.Nat.{ℕ, zero, suc, _+_, _-_, _^_, _≤_, _<_}
 use native.Mathlib.Omega.{arith}
 use lib.ListN.{length, getD, replicate, length-replicate, getD-replicate}
 use lib.Dec.{ltb}
 use borrow.Author.Tests.{ne-eqb, ltb-false}
-use Rattle.le.specs.Mem.{write, bytesOf, put}
+use Rattle.le.specs.Mem.{bytesOf, put}
 use Rattle.rules.specs.Numbers.{DONE, storageFor}
 use Rattle.rules.specs.Ids.{Mapping, badMapping}
 use Rattle.rules.specs.Instance.{Instance, emptySlot, heldBy}
-use Rattle.rules.specs.Create.{Creation, tooSmall, outside, unknown, newInstance, createRule}
+use Rattle.rules.specs.Create.{Creation, tooSmall, badOptions, newInstance, createRule}
 use Rattle.rules.specs.Driven.{Driven, creation}
 use Rattle.rules.proofs.Tests.{or-neither}
 use Rattle.id_map.specs.declared.IdMapping.{IdMapping}
@@ -24,7 +24,7 @@ use Rattle.storage.specs.Header.{spell, headerOf}
 use Rattle.storage.specs.Limits.{MappingFits, SlotsFit, Limits}
 use Rattle.storage.specs.Creation.{creationOf, emptySlots, createMem, Creates, CreatesDriven}
 use Rattle.storage.proofs.Header.{view-headed, laid-headed}
-use Rattle.storage.proofs.Refusals.{large-enough}
+use Rattle.rules.proofs.Create.{large-enough, options-fit}
 use Rattle.storage.proofs.Slots.{length-slots, slots-empty}
 
 -- ---- what the writes come to
@@ -32,12 +32,12 @@ use Rattle.storage.proofs.Slots.{length-slots, slots-empty}
 pub words-put : (mem : List ℕ) (n known ins outs : ℕ) →
     put 8 (put 8 (put 8 (put 8 (put 8 (put 8 (put 8 mem 0 mark) 8 n) 16 0) 24 2) 32 known) 40 ins) 48 outs
     ≡ putHeader 0 (bytesOf 8 mark ∷ bytesOf 8 n ∷ bytesOf 8 0 ∷ bytesOf 8 2 ∷ bytesOf 8 known ∷ bytesOf 8 ins ∷ bytesOf 8 outs ∷ []) mem
-unfolding put write putHeader putRow
+unfolding put putHeader putRow
 words-put mem n known ins outs = refl
 
 pub bytes-put : (mem : List ℕ) (flags : ℕ) → put 8 (put 1 (put 1 (put 1 (put 1 mem 80 flags) 81 1) 82 0) 83 0) 88 0
     ≡ putHeader 13 (bytesOf 1 flags ∷ bytesOf 1 1 ∷ bytesOf 1 0 ∷ bytesOf 1 0 ∷ bytesOf 8 0 ∷ []) mem
-unfolding put write putHeader putRow
+unfolding put putHeader putRow
 bytes-put mem flags = refl
 
 pub all-put : (mem : List ℕ) (n known ins outs flags : ℕ) (m : IdMapping) →
@@ -46,7 +46,7 @@ pub all-put : (mem : List ℕ) (n known ins outs flags : ℕ) (m : IdMapping) �
     (putHeader 0 (bytesOf 8 mark ∷ bytesOf 8 n ∷ bytesOf 8 0 ∷ bytesOf 8 2 ∷ bytesOf 8 known ∷ bytesOf 8 ins ∷ bytesOf 8 outs ∷ []) (emptySlots mem))
     56 (m .internal)) 60 (m .external)) 64 (m .range)) 68 (m .internal)) 72 (m .external)) 76 (m .range))
     ≡ createMem (creationOf n known ins outs flags m) mem
-unfolding put write putHeader putRow createMem spell headerOf newInstance
+unfolding put putHeader putRow createMem spell headerOf newInstance
 all-put mem n known ins outs flags m = refl
 
 -- ---- what the bytes then stand for
@@ -65,20 +65,20 @@ mapping-fits m e =
     omega arith
 
 module _ (q : Creation) (mem : List ℕ) where
-  pub new-limits : tooSmall (length mem) (q .capacity) ≡ false → (outside (q .known) (q .options .inOpts) || outside (q .known) (q .options .outOpts)) ≡ false → q .options .flags < 64
-      → badMapping (q .options .mapping) ≡ false → q .known < 2 ^ 64 → q .options .inOpts < 2 ^ 64 → q .options .outOpts < 2 ^ 64 → Limits (newInstance q)
-  unfolding newInstance unknown
-  new-limits e f g h k a b =
+  pub new-limits : tooSmall (length mem) (q .capacity) ≡ false → badOptions (q .known) (q .options) ≡ false → badMapping (q .options .mapping) ≡ false → q .known < 2 ^ 64 → q .options .inOpts < 2 ^ 64 → q .options .outOpts < 2 ^ 64 → Limits (newInstance q)
+  unfolding newInstance
+  new-limits e f h k a b =
       let m = mapping-fits (q .options .mapping) h in
       let s = large-enough (length mem) (q .capacity) e in
+      let o = options-fit (q .known) (q .options) f in
       record {
         some-node = s .0;
         few-nodes = s .1;
         live = s .0;
         low = omega arith;
         top = omega arith;
-        bits = f;
-        flags = g;
+        bits = o .0;
+        flags = o .1;
         maps = h;
         fixed-fits = (k, m);
         options-fit = (a, b, m);

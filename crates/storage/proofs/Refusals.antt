@@ -2,15 +2,14 @@
 use mathlib.Core.Path.{_≡_}
 use mathlib.Core.Bool.{true, false, not, _||_}
 use Prim.Native.Nat.{ℕ, _+_, _*_, _≤_, _<_}
-use native.Mathlib.Omega.{arith}
 use lib.Bits.{bitAnd}
-use lib.Dec.{eqb, ltb}
-use borrow.Author.Tests.{eq-eqb, ne-eqb, lt-ltb, le-ltb, ltb-false}
+use lib.Dec.{eqb, leb, ltb}
+use borrow.Author.Tests.{eq-eqb, ne-eqb, lt-ltb, le-ltb}
 use Rattle.rules.specs.Numbers.{DONE, SMALL, BADOPT, BADMAP}
 use Rattle.rules.specs.Ids.{badMapping}
+use Rattle.rules.specs.Instance.{Options}
 use Rattle.rules.specs.Outcome.{firstOf}
 use Rattle.rules.specs.Create.{Creation, tooSmall, outside, unknown, badOptions, createRule}
-use Rattle.rules.proofs.Tests.{or-neither}
 
 -- ---- the tests
 
@@ -27,13 +26,6 @@ module _ (bytes n : ℕ) where
   unfolding tooSmall
   by-bytes h g = rw (le-ltb n 1 h, le-ltb 1024 n g)
 
-  pub large-enough : tooSmall bytes n ≡ false → (1 ≤ n) × (n ≤ 1024) × (512 * n + 8192 ≤ bytes)
-  unfolding tooSmall
-  large-enough e =
-      let a = or-neither (ltb n 1 || ltb 1024 n) (ltb bytes (512 * n + 8192)) e in
-      let b = or-neither (ltb n 1) (ltb 1024 n) (a .0) in
-      (ltb-false n 1 (b .0), ltb-false 1024 n (b .1), ltb-false bytes (512 * n + 8192) (a .1))
-
 module _ (known ins outs : ℕ) where
   pub in-unknown : (bitAnd ins known ≡ ins → ⊥) → (outside known ins || outside known outs) ≡ true
   unfolding outside
@@ -43,25 +35,29 @@ module _ (known ins outs : ℕ) where
   unfolding outside
   by-out h = rw (eq-eqb (bitAnd ins known) ins h)
 
+module _ (known : ℕ) (o : Options) where
+  pub bad-bits : (outside known (o .inOpts) || outside known (o .outOpts)) ≡ true → badOptions known o ≡ true
+  unfolding badOptions unknown
+  bad-bits e = rw e
+
+  pub by-flags : (outside known (o .inOpts) || outside known (o .outOpts)) ≡ false → leb 64 (o .flags) ≡ badOptions known o
+  unfolding badOptions unknown
+  by-flags e = rw e
+
 module _ (bytes : ℕ) (q : Creation) where
   pub code-small : tooSmall bytes (q .capacity) ≡ true → createRule bytes q ≡ SMALL
   unfolding createRule firstOf
   code-small e = rw e
 
-  pub code-bits : tooSmall bytes (q .capacity) ≡ false → (outside (q .known) (q .options .inOpts) || outside (q .known) (q .options .outOpts)) ≡ true → createRule bytes q ≡ BADOPT
-  unfolding createRule firstOf badOptions unknown
-  code-bits e f = rw (e, f)
+  pub code-options : tooSmall bytes (q .capacity) ≡ false → badOptions (q .known) (q .options) ≡ true → createRule bytes q ≡ BADOPT
+  unfolding createRule firstOf
+  code-options e f = rw (e, f)
 
-  pub code-flags : tooSmall bytes (q .capacity) ≡ false → (outside (q .known) (q .options .inOpts) || outside (q .known) (q .options .outOpts)) ≡ false → 64 ≤ q .options .flags
-      → createRule bytes q ≡ BADOPT
-  unfolding createRule firstOf badOptions unknown
-  code-flags e f g = rw (e, f, lt-ltb 63 (q .options .flags) (omega arith))
-
-  module _ (e : tooSmall bytes (q .capacity) ≡ false) (f : (outside (q .known) (q .options .inOpts) || outside (q .known) (q .options .outOpts)) ≡ false) (g : q .options .flags < 64) where
+  module _ (e : tooSmall bytes (q .capacity) ≡ false) (f : badOptions (q .known) (q .options) ≡ false) where
     pub code-map : badMapping (q .options .mapping) ≡ true → createRule bytes q ≡ BADMAP
-    unfolding createRule firstOf badOptions unknown
-    code-map h = rw (e, f, le-ltb 63 (q .options .flags) (omega arith), h)
+    unfolding createRule firstOf
+    code-map h = rw (e, f, h)
 
     pub code-done : badMapping (q .options .mapping) ≡ false → createRule bytes q ≡ DONE
-    unfolding createRule firstOf badOptions unknown
-    code-done h = rw (e, f, le-ltb 63 (q .options .flags) (omega arith), h)
+    unfolding createRule firstOf
+    code-done h = rw (e, f, h)

@@ -33,7 +33,7 @@ tags-next s₀ tags s s′ k i h p =
     (omega arith, (ap length p ∙ (length-put 4 s (512 + 4 * k) (getD tags k 0) ∙ i .1 .0), rw (p, e) step))
 
 pub tags-all : (s₀ tags s : List ℕ) (k : ℕ) → Tags s₀ tags s k → length tags ≤ k → s ≡ write s₀ 512 (tagBytes tags)
-unfolding tagBytes write
+unfolding tagBytes
 tags-all s₀ tags s k i h =
     let d : drop k tags ≡ [] = drop-of-length-le tags h in
     rw d at (i .1 .1)

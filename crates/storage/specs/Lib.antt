@@ -1,5 +1,4 @@
 -- What the contracts of this crate say, and which instances bytes can stand for.
-pub mod Laid
 pub mod Header
 pub mod Creation
 pub mod Limits

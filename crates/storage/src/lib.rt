@@ -5,15 +5,13 @@ ghost use mathlib.Core.List.{[], _∷_};
 ghost use Prim.Native.Nat.{_+_, _*_, _≤_};
 ghost use lib.ListN.{length};
 ghost use Rattle.le.specs.Mem.{write, bytesOf, put};
-ghost use Rattle.id_map.specs.Mapping.{mappingOf};
-ghost use Rattle.rules.specs.Create.{tooSmall};
+ghost use Rattle.rules.specs.Create.{tooSmall, badOptions};
 ghost use Rattle.tables.specs.Layout.{mark};
 ghost use Rattle.tables.specs.Rule.{laid};
 ghost use Rattle.tables.specs.Write.{putHeader, setRemoval};
 ghost use Rattle.tables.specs.Call.{answeredBy, Does};
-ghost use Rattle.storage.specs.Laid.{settingsFit};
 ghost use Rattle.storage.specs.Creation.{creationOf, createdCode, tagBytes, emptySlots, createMem, Creates};
-ghost use Rattle.storage.specs.Answers.{removalTold, removeCall, initializedTold, initializedCall, optionsTold, optionsCall};
+ghost use Rattle.storage.specs.Answers.{optionsIn, removalTold, removeCall, initializedTold, initializedCall, optionsTold, optionsCall};
 
 pub mod inner;
 
@@ -60,17 +58,27 @@ const FLAGS: u8 = 64;
 // Where the column of tags stands.
 const TAGS: usize = 512;
 
-// Whether the option bits are within the mask, the flags within theirs, and the mapping in force passes its test (R22).
-fn settings_fit(known: u64, in_opts: u64, out_opts: u64, flags: u8, m: id_map::IdMapping) -> bool
-    ensures { λ r. ⌜ r ≡ settingsFit known «in_opts» «out_opts» flags (mappingOf m) ⌝ }
+// Whether N is outside its limits or the bytes are too few for it (R9, R20).
+fn is_small(bytes: usize, n: u64) -> bool
+    ensures { λ r. ⌜ r ≡ tooSmall bytes n ⌝ }
 {
-    if inner::is_unknown(known, in_opts, out_opts) {
-        return false;
+    if n < 1 {
+        return true;
     }
-    if FLAGS <= flags {
-        return false;
+    if (rules::MAX_NODES as u64) < n {
+        return true;
     }
-    !id_map::is_bad(m)
+    (bytes as u64) < 512 * n + (tables::rows::TABLE as u64)
+}
+
+// Whether an option bit is outside the mask or a flag above bit 5 (R28, R29).
+fn has_bad(known: u64, o: VfsOptions) -> bool
+    ensures { λ r. ⌜ r ≡ badOptions known (optionsIn o) ⌝ }
+{
+    if inner::is_unknown(known, o.in_opts, o.out_opts) {
+        return true;
+    }
+    FLAGS <= o.flags
 }
 
 // Whether the bytes keep the layout rule: tests of the header alone (R20, R21, R22).
@@ -84,13 +92,7 @@ pub fn is_laid(s: &[u8]) -> bool
         return false;
     }
     let n = le::fields::get_u64(s, 8);
-    if n < 1 {
-        return false;
-    }
-    if (rules::MAX_NODES as u64) < n {
-        return false;
-    }
-    if (s.len() as u64) < 512 * n + (tables::rows::TABLE as u64) {
+    if is_small(s.len(), n) {
         return false;
     }
     if n <= le::fields::get_u64(s, 16) {
@@ -103,24 +105,10 @@ pub fn is_laid(s: &[u8]) -> bool
     if rules::NUMBERS < next {
         return false;
     }
-    let known = le::fields::get_u64(s, 32);
-    let in_opts = le::fields::get_u64(s, 40);
-    let out_opts = le::fields::get_u64(s, 48);
-    let flags = le::fields::get_u8(s, 80);
-    settings_fit(known, in_opts, out_opts, flags, tables::header::mapping(s))
-}
-
-// Whether N is outside its limits or the bytes are too few for it (R9, R20).
-fn is_small(bytes: usize, n: usize) -> bool
-    ensures { λ r. ⌜ r ≡ tooSmall bytes n ⌝ }
-{
-    if n < 1 {
-        return true;
+    if has_bad(le::fields::get_u64(s, 32), inner::options_in(s)) {
+        return false;
     }
-    if rules::MAX_NODES < n {
-        return true;
-    }
-    bytes < 512 * n + tables::rows::TABLE
+    !id_map::is_bad(tables::header::mapping(s))
 }
 
 // The tags, one behind the other in their column.
@@ -206,24 +194,21 @@ pub fn create(
 ) -> Created
     ensures { λ r. ⌜ Creates (now (s .entry)) (creationOf n known «in_opts» «out_opts» flags mapping) (createdCode r) (now (s .exit)) ⌝ }
 {
-    if is_small(s.len(), n) {
-        return Created::Small;
-    }
-    if inner::is_unknown(known, in_opts, out_opts) {
-        return Created::BadOpt;
-    }
-    if FLAGS <= flags {
-        return Created::BadOpt;
-    }
-    if id_map::is_bad(mapping) {
-        return Created::BadMap;
-    }
     let o = VfsOptions {
         in_opts,
         out_opts,
         mapping,
         flags,
     };
+    if is_small(s.len(), n as u64) {
+        return Created::Small;
+    }
+    if has_bad(known, o) {
+        return Created::BadOpt;
+    }
+    if id_map::is_bad(mapping) {
+        return Created::BadMap;
+    }
     put_new(s, n, known, o);
     Created::Done
 }

@@ -8,7 +8,7 @@ use native.Mathlib.Omega.{arith}
 use borrow.Author.Tests.{eq-eqb, ne-eqb, eqb-false}
 use lib.ListN.{length, getD}
 use lib.Dec.{eqb}
-use Rattle.le.specs.Mem.{write, put}
+use Rattle.le.specs.Mem.{put}
 use Rattle.rules.specs.Numbers.{rootNumber}
 use Rattle.rules.specs.Tree.{Mount, Node, isNone, nodeIn, isKnown, parentIn}
 use Rattle.rules.specs.Instance.{mountOf}
@@ -103,9 +103,9 @@ module _ (mem : List ℕ) (x : ℕ) where
 
 -- no mount: the cell alone
 pub clear-root : (mem : List ℕ) → setRootMount none mem ≡ put 8 mem 88 0
-unfolding setRootMount putHeader putRow write put
+unfolding setRootMount putHeader putRow put
 clear-root mem = refl
 
 pub clear-row : (mem : List ℕ) (n i : ℕ) → n ≡ capacityOf mem → setRowMount none i mem ≡ put 8 mem (mountCellAt n i) 0
-unfolding setRowMount putRow write put
+unfolding setRowMount putRow put
 clear-row mem n i e = rw e

@@ -97,7 +97,7 @@ module _ (k : ℕ) (xs : List (List ℕ)) (m′ mem : List ℕ) (f : Fit header 
       view-header k xs m′ f (omega arith) ∙ (λ t. instanceFrom (h t) (low-slots m′ mem low t) (nodesFrom (field 1 (h t)) m′ 0 (field 2 (h t))))
 
 pub two-fields : (c x : ℕ) (mem : List ℕ) → setNext x (setCount c mem) ≡ putHeader 2 (bytesOf 8 c ∷ bytesOf 8 x ∷ []) mem
-unfolding setNext setCount putHeader putRow write
+unfolding setNext setCount putHeader putRow
 two-fields c x mem = refl
 
 pub one-fit : (u : ℕ) → Fit header (fromPlace 2 (bytesOf 8 u ∷ []))

@@ -14,6 +14,7 @@ use Rattle.rules.specs.Ids.{badMapping}
 use Rattle.rules.specs.Tree.{Mount}
 use Rattle.rules.specs.Create.{unknown}
 use Rattle.rules.proofs.Fields.{length-bytesOf}
+use Rattle.rules.proofs.Create.{large-enough, is-large-enough, options-fit, do-fit}
 use Rattle.rules.proofs.Tests.{pass, passed}
 use Rattle.tables.specs.Table.{row, putRow}
 use Rattle.tables.specs.Layout.{header, slotTable, nodeTable, mark, capacityOf, countOf, nextOf}
@@ -50,48 +51,28 @@ ruled : (h : List (List ℕ)) (bytes : ℕ) → laidBy h bytes ≡ true → Rule
 unfolding laidBy
 ruled h bytes e =
     let t = passed _ e in
+    let s = large-enough bytes (field 1 h) (not-true _ (t .1 .1 .0)) in
+    let o = options-fit (field 4 h) (optionsFrom h) (not-true _ (t .1 .1 .1 .1 .1 .1 .0)) in
     record {
-      size = record {
-        long = leb-true 8192 bytes (t .0);
-        marked = eqb-true (field 0 h) mark (t .1 .0);
-        some-node = leb-true 1 (field 1 h) (t .1 .1 .0);
-        few-nodes = leb-true (field 1 h) 1024 (t .1 .1 .1 .0);
-        enough = leb-true (512 * field 1 h + 8192) bytes (t .1 .1 .1 .1 .0);
-      };
-      live = ltb-true (field 2 h) (field 1 h) (t .1 .1 .1 .1 .1 .0);
-      low = leb-true 2 (field 3 h) (t .1 .1 .1 .1 .1 .1 .0);
-      top = leb-true (field 3 h) (2 ^ 56) (t .1 .1 .1 .1 .1 .1 .1 .0);
-      bits = not-true _ (t .1 .1 .1 .1 .1 .1 .1 .1 .0);
-      flags = ltb-true (field 13 h) 64 (t .1 .1 .1 .1 .1 .1 .1 .1 .1 .0);
-      maps = not-true _ (t .1 .1 .1 .1 .1 .1 .1 .1 .1 .1 .0);
+      size = record { long = leb-true 8192 bytes (t .0); marked = eqb-true (field 0 h) mark (t .1 .0); some-node = s .0; few-nodes = s .1; enough = s .2 };
+      live = ltb-true (field 2 h) (field 1 h) (t .1 .1 .1 .0);
+      low = leb-true 2 (field 3 h) (t .1 .1 .1 .1 .0);
+      top = leb-true (field 3 h) (2 ^ 56) (t .1 .1 .1 .1 .1 .0);
+      bits = o .0;
+      flags = o .1;
+      maps = not-true _ (t .1 .1 .1 .1 .1 .1 .1 .0);
     }
 
 pub is-ruled : (h : List (List ℕ)) (bytes : ℕ) → Ruled h bytes → laidBy h bytes ≡ true
 unfolding laidBy
 is-ruled h bytes r =
+    let s = is-large-enough bytes (field 1 h) (r .size .some-node) (r .size .few-nodes) (r .size .enough) in
+    let o = do-fit (field 4 h) (optionsFrom h) (r .bits) (r .flags) in
     pass _ (
       le-leb 8192 bytes (r .size .long),
       (
         eq-eqb (field 0 h) mark (r .size .marked),
-        (
-          le-leb 1 (field 1 h) (r .size .some-node),
-          (
-            le-leb (field 1 h) 1024 (r .size .few-nodes),
-            (
-              le-leb (512 * field 1 h + 8192) bytes (r .size .enough),
-              (
-                lt-ltb (field 2 h) (field 1 h) (r .live),
-                (
-                  le-leb 2 (field 3 h) (r .low),
-                  (
-                    le-leb (field 3 h) (2 ^ 56) (r .top),
-                    (rw (r .bits), (lt-ltb (field 13 h) 64 (r .flags), (rw (r .maps), tt))),
-                  ),
-                ),
-              ),
-            ),
-          ),
-        ),
+        (rw s, (lt-ltb (field 2 h) (field 1 h) (r .live), (le-leb 2 (field 3 h) (r .low), (le-leb (field 3 h) (2 ^ 56) (r .top), (rw o, (rw (r .maps), tt)))))),
       ),
     )
 

@@ -22,23 +22,23 @@ use Rattle.tables.proofs.Cells.{numberAt, parentAt, mountCellAt, uidAt,
 
 module _ (mem : List ℕ) where
   put-count : (v : ℕ) → put 8 mem 16 v ≡ setCount v mem
-  unfolding put write setCount putHeader putRow
+  unfolding put setCount putHeader putRow
   put-count v = refl
 
   pub put-next : (v : ℕ) → put 8 mem 24 v ≡ setNext v mem
-  unfolding put write setNext putHeader putRow
+  unfolding put setNext putHeader putRow
   put-next v = refl
 
   pub put-counter : (v : ℕ) → put 1 mem 81 v ≡ setCounter v mem
-  unfolding put write setCounter putHeader putRow
+  unfolding put setCounter putHeader putRow
   put-counter v = refl
 
   pub put-removal : put 1 mem 82 1 ≡ setRemoval mem
-  unfolding put write setRemoval putHeader putRow
+  unfolding put setRemoval putHeader putRow
   put-removal = refl
 
   pub put-root-mount : (m : Mount) → put 4 (put 4 (put 4 (put 8 mem 88 (m .index * 2 ^ 56 + m .root)) 96 (m .uid)) 100 (m .gid)) 104 (m .mode) ≡ setRootMount (some m) mem
-  unfolding put write setRootMount putHeader putRow
+  unfolding put setRootMount putHeader putRow
   put-root-mount m = refl
 
 -- ---- a slot
@@ -53,7 +53,7 @@ module _ (mem : List ℕ) where
   pub put-row-mount : (i : ℕ) (m : Mount) →
       put 4 (put 4 (put 4 (put 8 mem (mountCellAt (capacityOf mem) i) (m .index * 2 ^ 56 + m .root)) (uidAt (capacityOf mem) i) (m .uid)) (gidAt (capacityOf mem) i) (m .gid)) (modeAt (capacityOf mem) i) (m .mode)
       ≡ setRowMount (some m) i mem
-  unfolding put write setRowMount putRow
+  unfolding put setRowMount putRow
   put-row-mount i m = refl
 
   pub appended : (above : ℕ) (p : List ℕ) → put 8 (put 8 (putRow (nodeTable (capacityOf mem)) (nodeCells (nextOf mem) above p) mem (countOf mem)) 16 (countOf mem + 1)) 24 (nextOf mem + 1) ≡ appendNode above p mem
@@ -93,7 +93,7 @@ module _ (p : List ℕ) where
 pub node-put : (mem : List ℕ) (n i x above : ℕ) (p : List ℕ) →
     write (write (put 1 (put 8 (put 8 (put 8 mem (numberAt n i) x) (parentAt n i) above) (mountCellAt n i) 0) (lastAt n i) (length p)) (lastAt n i + 1) (read p (length p - 7) (length p - (length p - 7)))) (firstAt n i) (read p 0 (length p - 7))
     ≡ putRow (nodeTable n) (nodeCells x above p) mem i
-unfolding put write nodeCells putRow
+unfolding put nodeCells putRow
 node-put mem n i x above p =
     let a : List ℕ = put 8 (put 8 (put 8 mem (numberAt n i) x) (parentAt n i) above) (mountCellAt n i) 0 in
     let e : write (put 1 a (lastAt n i) (length p)) (lastAt n i + 1) (read p (length p - 7) (length p - (length p - 7))) ≡ write a (lastAt n i) (bytesOf 1 (length p) ++ drop (length p - 7) p) =

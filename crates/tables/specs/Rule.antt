@@ -6,26 +6,23 @@ use lib.ListN.{length}
 use lib.Dec.{leb, ltb, eqb}
 use Rattle.rules.specs.Numbers.{maxNodes, topNumber, storageFor}
 use Rattle.rules.specs.Ids.{badMapping}
-use Rattle.rules.specs.Create.{unknown}
+use Rattle.rules.specs.Create.{tooSmall, badOptions}
 use Rattle.rules.specs.Saved.{every}
 use Rattle.tables.specs.Layout.{mark, capacityOf, countOf, nextOf}
 use Rattle.tables.specs.View.{field, mappingFrom, optionsFrom, headOf}
 
--- of the header's cells and the number of bytes: the mark stands, N is within its limits and the bytes are enough for it, the root and the nodes are at most N, the
--- next number is within its limits, the option bits within the mask, the flags within theirs, and the mapping in force passes its test (R20, R22)
+-- of the header's cells and the number of bytes: the mark stands, the root and the nodes are at most N, the next number is within its limits; and N, the number of
+-- bytes, the options and the mapping in force pass the tests of creation (R20, R22)
 unfoldable pub laidBy : List (List ℕ) → ℕ → Bool
 laidBy h bytes =
     every
     (leb 8192 bytes
     ∷ eqb (field 0 h) mark
-    ∷ leb 1 (field 1 h)
-    ∷ leb (field 1 h) maxNodes
-    ∷ leb (storageFor (field 1 h)) bytes
+    ∷ not (tooSmall bytes (field 1 h))
     ∷ ltb (field 2 h) (field 1 h)
     ∷ leb 2 (field 3 h)
     ∷ leb (field 3 h) topNumber
-    ∷ not (unknown (field 4 h) (optionsFrom h))
-    ∷ ltb (field 13 h) 64
+    ∷ not (badOptions (field 4 h) (optionsFrom h))
     ∷ not (badMapping (mappingFrom 7 h))
     ∷ [])
 

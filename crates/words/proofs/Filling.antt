@@ -6,9 +6,10 @@ use native.Mathlib.Numerals.{add-one}
 use mathlib.Core.Path.{_≡_, refl, sym, ap, _∙_}
 use mathlib.Core.List.{List, [], _∷_, _++_}
 use lib.ListN.{length, take, set, length-append, length-take}
-use lib.Seq.{sets, take-nil}
+use lib.Seq.{take-nil}
+use Rattle.le.specs.Mem.{write}
+use Rattle.le.proofs.Lens.{write-append}
 use Rattle.decimal.specs.Wrote.{Wrote}
-use Rattle.decimal.proofs.Texts.{sets-append}
 
 -- a cut in two runs
 take-both : (k : ℕ) (xs ys : List ℕ) → take k (xs ++ ys) ≡ take k xs ++ take (k - length xs) ys
@@ -19,7 +20,7 @@ take-both (suc k) (x ∷ xs) ys = rw (suc-sub-suc k (length xs)) (ap (λ (l : Li
 -- n bytes stand, and with the rest, cut at `most` bytes, the text will
 pub record Rest (most at : ℕ) (text was out : List ℕ) (n : ℕ) (rest : List ℕ) : Type 0 where
   pub within : n ≤ most
-  pub bytes : sets out n (take (most - n) rest) ≡ sets was at text
+  pub bytes : write out n (take (most - n) rest) ≡ write was at text
   pub count : n + length (take (most - n) rest) ≡ at + length text
 
 -- at the start: from a place on, and from the first byte on
@@ -34,7 +35,7 @@ module _ {most at : ℕ} {text was out : List ℕ} {n : ℕ} {rest : List ℕ} w
   none-left room h e f = record {
     end = omega (arith, f .count, ap length e);
     within = omega (arith, f .within);
-    bytes = sym (ap (sets out n) e) ∙ f .bytes;
+    bytes = sym (ap (write out n) e) ∙ f .bytes;
   }
 
   -- at the end: nothing is left, or no room
@@ -51,7 +52,7 @@ module _ {most at : ℕ} {text was out : List ℕ} {n : ℕ} {rest : List ℕ} w
       let l : take (most - n) rest ≡ b ∷ take (most - (n + 1)) behind = rw (d, e) in
       record {
         within = omega arith;
-        bytes = ap (λ (j : ℕ). sets (set out n b) j (take (most - (n + 1)) behind)) (add-one n) ∙ sym (ap (sets out n) l) ∙ f .bytes;
+        bytes = ap (λ (j : ℕ). write (set out n b) j (take (most - (n + 1)) behind)) (add-one n) ∙ sym (ap (write out n) l) ∙ f .bytes;
         count = omega (arith, f .count, ap length l);
       }
 
@@ -66,8 +67,8 @@ module _ {most at : ℕ} {text was out : List ℕ} {n : ℕ} {rest : List ℕ} w
       record {
         within = omega (arith, c, w .end, f .within);
         bytes =
-            ap (λ (k : List ℕ). sets k r (take (most - r) behind)) (w .bytes)
-            ∙ ap (λ (j : ℕ). sets (sets out n (take (most - n) xs)) j (take (most - r) behind)) (w .end)
-            ∙ sets-append out n (take (most - n) xs) (take (most - r) behind) ∙ sym (ap (sets out n) l) ∙ f .bytes;
+            ap (λ (k : List ℕ). write k r (take (most - r) behind)) (w .bytes)
+            ∙ ap (λ (j : ℕ). write (write out n (take (most - n) xs)) j (take (most - r) behind)) (w .end)
+            ∙ sym (write-append out n (take (most - n) xs) (take (most - r) behind)) ∙ sym (ap (write out n) l) ∙ f .bytes;
         count = omega (arith, w .end, f .count, ap length l, length-append (take (most - n) xs) (take (most - r) behind));
       }

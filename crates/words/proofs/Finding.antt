@@ -6,10 +6,12 @@ use mathlib.Core.Path.{_≡_, refl, sym, ap, _∙_}
 use mathlib.Core.List.{List, [], _∷_}
 use mathlib.Core.Option.{Option}
 use lib.ListN.{length, take, drop, set, replicate, length-set, drop-of-length-le}
-use lib.Seq.{sets, take-nil, drop-drop}
+use lib.Seq.{take-nil, drop-drop}
 use Rattle.rules.specs.Bytes.{same}
 use Rattle.rules.specs.Path.{partsBy}
 use Rattle.rules.specs.Session.{space, words, number, shown}
+use Rattle.le.specs.Mem.{write}
+use Rattle.le.proofs.Writes.{write-suc}
 use Rattle.path.specs.Steps.{between, partLength, partEnd}
 use Rattle.path.proofs.Words.{behind, first-part, end-length, behind-end}
 use Rattle.decimal.specs.declared.Number.the-variants.{Value, Bad}
@@ -23,20 +25,16 @@ largest = 18446744073709551615
 
 -- ---- the first numbers, zeros behind them, as stores into zeros
 
-sets-under : (y : ℕ) (l : List ℕ) (i : ℕ) (vs : List ℕ) → sets (y ∷ l) (suc i) vs ≡ y ∷ sets l i vs
-sets-under y l i [] = refl
-sets-under y l i (a ∷ vs) = sets-under y (set l i a) (suc i) vs
-
 shown-none : (k : ℕ) → replicate k 0 ≡ shown k []
 unfolding shown
 shown-none zero = refl
 shown-none (suc k) = ap (λ (l : List ℕ). 0 ∷ l) (shown-none k)
 
-shown-sets : (k : ℕ) (vs : List ℕ) → sets (replicate k 0) 0 (take k vs) ≡ shown k vs
+shown-written : (k : ℕ) (vs : List ℕ) → write (replicate k 0) 0 (take k vs) ≡ shown k vs
 unfolding shown
-shown-sets zero vs = refl
-shown-sets (suc k) [] = ap (λ (l : List ℕ). 0 ∷ l) (shown-none k)
-shown-sets (suc k) (v ∷ vs) = sets-under v (replicate k 0) 0 (take k vs) ∙ ap (λ (l : List ℕ). v ∷ l) (shown-sets k vs)
+shown-written zero vs = refl
+shown-written (suc k) [] = ap (λ (l : List ℕ). 0 ∷ l) (shown-none k)
+shown-written (suc k) (v ∷ vs) = write-suc v (replicate k 0) 0 (take k vs) ∙ ap (λ (l : List ℕ). v ∷ l) (shown-written k vs)
 
 -- ---- the words from a place on
 
@@ -72,17 +70,17 @@ module _ (s : List ℕ) (at : ℕ) where
 pub record Rest (s r : List ℕ) (k at : ℕ) : Type 0 where
   pub within : k ≤ 8
   pub size : length r ≡ 8
-  pub values : sets r k (take (8 - k) (from s at)) ≡ shown 8 (numbersOf (words s))
+  pub values : write r k (take (8 - k) (from s at)) ≡ shown 8 (numbersOf (words s))
 
 pub rest-all : (s : List ℕ) → Rest s (replicate 8 0) 0 0
-rest-all s = record { within = omega arith; size = refl; values = shown-sets 8 (numbersOf (words s)) }
+rest-all s = record { within = omega arith; size = refl; values = shown-written 8 (numbersOf (words s)) }
 
 module _ (s r : List ℕ) (k at : ℕ) where
   pub rest-full : 8 ≤ k → Rest s r k at → r ≡ shown 8 (numbersOf (words s))
   rest-full h f = (let e : 8 - k ≡ 0 = omega arith in rw e refl) ∙ f .values
 
   pub rest-past : length s ≤ at → Rest s r k at → r ≡ shown 8 (numbersOf (words s))
-  rest-past h f = sym (ap (λ (l : List ℕ). sets r k l) (ap (take (8 - k)) (from-past s at h) ∙ take-nil (8 - k))) ∙ f .values
+  rest-past h f = sym (ap (λ (l : List ℕ). write r k l) (ap (take (8 - k)) (from-past s at h) ∙ take-nil (8 - k))) ∙ f .values
 
   module _ (end : ℕ) (e : end ≡ partEnd space s at) where
     pub rest-value : (v : ℕ) → numberTo largest (between s at end) ≡ valueIn (Value v) → k < 8 → Rest s r k at → Rest s (set r k v) (k + 1) (end + 1)
@@ -93,8 +91,8 @@ module _ (s r : List ℕ) (k at : ℕ) where
           within = omega arith;
           size = length-set r k v ∙ f .size;
           values =
-              ap (λ (j : ℕ). sets (set r k v) j (take (8 - (k + 1)) (from s (end + 1)))) (add-one k)
-              ∙ sym (ap (sets r k) (ap (λ (j : ℕ). take j (from s at)) d ∙ ap (take (suc (8 - (k + 1)))) n)) ∙ f .values;
+              ap (λ (j : ℕ). write (set r k v) j (take (8 - (k + 1)) (from s (end + 1)))) (add-one k)
+              ∙ sym (ap (write r k) (ap (λ (j : ℕ). take j (from s at)) d ∙ ap (take (suc (8 - (k + 1)))) n)) ∙ f .values;
         }
 
     pub rest-bad : numberTo largest (between s at end) ≡ valueIn Bad → Rest s r k at → Rest s r k (end + 1)

@@ -1,8 +1,10 @@
 -- Each return is a test of the rule. Assumes nothing.
-use mathlib.Core.Path.{sym, _∙_}
+use mathlib.Core.Path.{sym, ap, ap₂, _∙_}
+use mathlib.Core.Bool.{not}
 use native.Mathlib.Omega.{arith}
-use Rattle.storage.proofs.Laid.{short, unmarked, no-node, many-nodes, few-bytes, crowded, low-next, high-next, last-three}
-use Rattle.storage.specs.Laid.{settingsFit}
+use Rattle.rules.specs.Ids.{badMapping}
+use Rattle.rules.specs.Create.{tooSmall, badOptions}
+use Rattle.storage.proofs.Laid.{short, unmarked, too-small, crowded, low-next, high-next, bad-options, by-mapping}
 use borrow.Author.Needs.{needs}
 use Rattle.storage.proofs.is_laid.Statement.{statement}
 use Rattle.storage.proofs.is_laid.Tie as tie
@@ -14,28 +16,25 @@ returns-2 : tie.Need-returns-2
 returns-2 c = sym (unmarked _ (λ e. c .if2 .taken (omega arith)))
 
 returns-3 : tie.Need-returns-3
-returns-3 c = sym (no-node _ (omega arith))
+returns-3 c = sym (too-small _ (sym (c .before .is-small .ensures ∙ ap (tooSmall _) (c .before .before .get-u642 .ensures)) ∙ c .if3 .taken))
 
 returns-4 : tie.Need-returns-4
-returns-4 c = sym (many-nodes _ (omega arith))
+returns-4 c = sym (crowded _ (omega arith))
 
 returns-5 : tie.Need-returns-5
-returns-5 c = sym (few-bytes _ (omega arith))
+returns-5 c = sym (low-next _ (omega arith))
 
 returns-6 : tie.Need-returns-6
-returns-6 c = sym (crowded _ (omega arith))
+returns-6 c = sym (high-next _ (omega arith))
 
 returns-7 : tie.Need-returns-7
-returns-7 c = sym (low-next _ (omega arith))
+returns-7 c = sym (bad-options _ (sym (c .before .has-bad .ensures ∙ ap₂ badOptions (c .before .before .before .get-u645 .ensures) (c .before .before .options-in .ensures)) ∙ c .if7 .taken))
 
 returns-8 : tie.Need-returns-8
-returns-8 c = sym (high-next _ (omega arith))
-
-returns-9 : tie.Need-returns-9
-returns-9 c =
-    c .settings-fit .ensures
-    ∙ (λ i. settingsFit (c .before .before .before .before .before .get-u645 .ensures i) (c .before .before .before .before .get-u646 .ensures i) (c .before .before .before .get-u647 .ensures i) (c .before .before .get-u8 .ensures i) (c .before .mapping .ensures i))
-    ∙ sym (last-three _ (omega arith) (omega arith) (omega arith) (omega arith) (omega arith) (omega arith) (omega arith) (omega arith))
+returns-8 c =
+    let n = sym (c .before .before .before .before .before .before .before .before .before .before .before .before .is-small .ensures ∙ ap (tooSmall _) (c .before .before .before .before .before .before .before .before .before .before .before .before .before .get-u642 .ensures)) ∙ c .before .before .before .before .before .before .before .before .before .before .before .if3 .left in
+    let o = sym (c .before .before .before .has-bad .ensures ∙ ap₂ badOptions (c .before .before .before .before .before .get-u645 .ensures) (c .before .before .before .before .options-in .ensures)) ∙ c .before .before .if7 .left in
+    ap not (c .is-bad .ensures ∙ ap badMapping (c .before .mapping .ensures)) ∙ by-mapping _ (omega arith) (omega arith) n (omega arith) (omega arith) (omega arith) o
 
 pub is-laid-spec : {M : Type 1} → statement M
 is-laid-spec =
@@ -45,20 +44,17 @@ is-laid-spec =
     (λ c κs. search needs)
     returns-2
     (λ c κs. search needs)
-    returns-3
-    returns-4
-    (λ c. search needs)
-    (λ c. search needs)
-    returns-5
     (λ c κs. search needs)
+    returns-3
+    (λ c κs. search needs)
+    returns-4
+    (λ c κs. search needs)
+    returns-5
     returns-6
     (λ c κs. search needs)
+    (λ c κs. search needs)
+    (λ c κs. search needs)
     returns-7
-    returns-8
     (λ c κs. search needs)
     (λ c κs. search needs)
-    (λ c κs. search needs)
-    (λ c κs. search needs)
-    (λ c κs. search needs)
-    (λ c κs. search needs)
-    returns-9)
+    returns-8)

@@ -1,6 +1,6 @@
 -- The loop has copied i bytes of the run.
 use Prim.Native.Nat.{_-_}
-use Rattle.le.specs.Mem.{read, write}
+use Rattle.le.specs.Mem.{read}
 use Rattle.le.proofs.Turns.{Written, all-written, copied}
 use borrow.Author.Needs.{needs}
 use Rattle.le.proofs.runs.copy_run.Statement.{statement}
@@ -13,7 +13,7 @@ abbrev μ-loop : tie.MeasureT-loop
 μ-loop dst₀ at src from len i₀ dst i = len - i
 
 loop-holds : tie.Need-loop-holds Inv-loop μ-loop
-unfolding write read
+unfolding read
 loop-holds c = search needs
 
 loop-again : tie.Need-loop-again Inv-loop μ-loop

@@ -1,7 +1,6 @@
 -- The loop has written i bytes of the run.
 use Prim.Native.Nat.{_-_}
 use lib.ListN.{replicate}
-use Rattle.le.specs.Mem.{write}
 use Rattle.le.proofs.Turns.{Written, all-written, filled}
 use borrow.Author.Needs.{needs}
 use Rattle.le.proofs.runs.fill_at.Statement.{statement}
@@ -14,7 +13,6 @@ abbrev μ-loop : tie.MeasureT-loop
 μ-loop dst₀ at len v i₀ dst i = len - i
 
 loop-holds : tie.Need-loop-holds Inv-loop μ-loop
-unfolding write
 loop-holds c = search needs
 
 loop-again : tie.Need-loop-again Inv-loop μ-loop

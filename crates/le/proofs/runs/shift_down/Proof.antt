@@ -1,6 +1,6 @@
 -- The loop has moved i bytes of the run; the next one lies above all that is written.
 use Prim.Native.Nat.{_+_, _-_}
-use Rattle.le.specs.Mem.{read, write}
+use Rattle.le.specs.Mem.{read}
 use Rattle.le.proofs.Turns.{Written, all-written, moved}
 use borrow.Author.Needs.{needs}
 use Rattle.le.proofs.runs.shift_down.Statement.{statement}
@@ -13,7 +13,7 @@ abbrev μ-loop : tie.MeasureT-loop
 μ-loop s₀ to by len from i₀ s i = len - i
 
 loop-holds : tie.Need-loop-holds Inv-loop μ-loop
-unfolding write read
+unfolding read
 loop-holds c = search needs
 
 loop-again : tie.Need-loop-again Inv-loop μ-loop
