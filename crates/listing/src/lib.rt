@@ -78,11 +78,10 @@ pub fn readdir(s: &[u8], node: inode::NodeNumber, size: u32, offset: u64, out: &
     if !storage::is_laid(s) {
         return Listed::Small;
     }
-    let known = tables::rows::is_known(s, node.0);
     if size == 0 {
         return Listed::Wrote(0);
     }
-    if !known {
+    if !tables::rows::is_known(s, node.0) {
         return Listed::NoEnt;
     }
     let end = least(size as usize, out.len());

@@ -83,14 +83,9 @@ sort w = go (same w []) (isDot w) (isDots w) refl refl refl
 
 -- ---- the tests of the code on the part from one place to another
 
-module _ (s : List ℕ) (at end : ℕ) (h : (at ≤ end) × (end ≤ length s)) where
-  pub is-empty : length (between s at end) ≡ 0 → End ≡ stepOf (sorted at (between s at end) [])
-  unfolding stepOf sorted same
-  is-empty e = go (between s at end) e
-    where
-      go : (p : List ℕ) → length p ≡ 0 → End ≡ stepOf (sorted at p [])
-      go [] e = refl
-      go (b ∷ p) e = absurd (omega arith)
+module _ (s : List ℕ) (at end : ℕ) (h : (at < end) × (end ≤ length s)) where
+  bytes : length (between s at end) ≡ end - at
+  bytes = between-length s at end (omega arith) (h .1)
 
   pub is-single : isDot (between s at end) ≡ true → End ≡ stepOf (sorted at (between s at end) [])
   unfolding stepOf sorted same
@@ -100,15 +95,15 @@ module _ (s : List ℕ) (at end : ℕ) (h : (at ≤ end) × (end ≤ length s)) 
   unfolding stepOf sorted same
   is-double e =
       let q = same-eq (between s at end) (dot ∷ dot ∷ []) e in
-      let n : end ≡ at + 2 = omega (arith, between-length s at end (h .0) (h .1), ap length q) in
+      let n : end ≡ at + 2 = omega (arith, bytes, ap length q) in
       rw q (ap (Parent at) n)
 
-  pub is-plain : (length (between s at end) ≡ 0 → ⊥) → isDot (between s at end) ≡ false → isDots (between s at end) ≡ false → Name at (end - at) end ≡ stepOf (sorted at (between s at end) [])
+  pub is-plain : isDot (between s at end) ≡ false → isDots (between s at end) ≡ false → Name at (end - at) end ≡ stepOf (sorted at (between s at end) [])
   unfolding stepOf sorted
-  is-plain e x y =
-      let z : same (between s at end) [] ≡ false = same-length (between s at end) [] e in
+  is-plain x y =
+      let z : same (between s at end) [] ≡ false = same-length (between s at end) [] (λ e. omega (arith, bytes)) in
       let m : at + (end - at) ≡ end = omega arith in
-      rw (z, x, y, between-length s at end (h .0) (h .1), m)
+      rw (z, x, y, bytes, m)
 
 -- ---- one turn of the code: from the place i, by the part that stands there
 

@@ -37,6 +37,11 @@ module _ (sep : ℕ) where
       go true h = zero-le
       go false h = suc-le-suc h
 
+  -- the end of a part is not before its place, and lies in the string
+  pub end-in : (s : List ℕ) (i : ℕ) {end : ℕ} → end ≡ partEnd sep s i → i ≤ length s → (i ≤ end) × (end ≤ length s)
+  unfolding partEnd
+  end-in s i e h = omega (arith, e, part-le (drop i s), length-drop i s)
+
   module _ (s : List ℕ) (i : ℕ) where
     pub end-past : length s ≤ i → partEnd sep s i ≡ i
     unfolding partEnd
@@ -50,10 +55,9 @@ module _ (sep : ℕ) where
     unfolding partEnd
     end-more h e = rw (here s i h, part-cons (getD s i 0) (drop (i + 1) s), ne-eqb (getD s i 0) sep e) (omega arith)
 
-    -- the end is not before the place, and lies in the string
-    pub end-in : {end : ℕ} → end ≡ partEnd sep s i → i ≤ length s → (i ≤ end) × (end ≤ length s)
-    unfolding partEnd
-    end-in e h = omega (arith, e, part-le (drop i s), length-drop i s)
+    -- it is behind the place where another byte stands there
+    pub end-behind : {end : ℕ} → end ≡ partEnd sep s i → i < length s → (getD s i 0 ≡ sep → ⊥) → (i < end) × (end ≤ length s)
+    end-behind e h n = omega (arith, end-in s (i + 1) (e ∙ end-more h n) (omega arith))
 
     pub end-length : partEnd sep s i - i ≡ partLength sep (drop i s)
     unfolding partEnd

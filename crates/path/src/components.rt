@@ -4,7 +4,7 @@ use crate::names::is_dot;
 use crate::names::is_dots;
 ghost use mathlib.Core.Path.{_≡_};
 ghost use mathlib.Core.List.{[]};
-ghost use Prim.Native.Nat.{_≤_};
+ghost use Prim.Native.Nat.{_≤_, _<_};
 ghost use lib.ListN.{length};
 ghost use Rattle.rules.specs.Path.{sorted, rooted};
 ghost use Rattle.path.specs.Steps.{between, partEnd, stepOf, nextAt};
@@ -64,15 +64,12 @@ pub fn part_end(s: &[u8], at: usize, sep: u8) -> usize
     part_by_one(s, i, sep)
 }
 
-// The component that the part from `at` to `end` is; End where it is dropped.
+// The component that the part from `at` to `end`, of a byte or more, is; End where it is dropped.
 fn component_at(path: &[u8], at: usize, end: usize) -> Component
-    requires { ⌜ (at ≤ end) × (end ≤ length (now path)) ⌝ }
+    requires { ⌜ (at < end) × (end ≤ length (now path)) ⌝ }
     ensures { λ r. ⌜ r ≡ stepOf (sorted at (between (now (path .entry)) at end) []) ⌝ }
 {
     let word = &path[at..end];
-    if word.len() == 0 {
-        return Component::End;
-    }
     if is_dot(word) {
         return Component::End;
     }

@@ -2,11 +2,12 @@
 use mathlib.Core.Path.{_≡_, refl, sym, ap, _∙_}
 use mathlib.Core.Bool.{Bool, true, false, cond, not, _||_}
 use mathlib.Core.List.{List}
-use mathlib.Core.Option.{Option, none}
+use mathlib.Core.Option.{Option, none, some}
 use Prim.Native.Nat.{ℕ, _^_, _<_}
 use native.Mathlib.Omega.{arith}
+use lib.Dec.{eqb}
 use borrow.Author.Tests.{le-ltb}
-use Rattle.rules.specs.Numbers.{maxIno, orZero, convert, dirMode, blockSize, INVAL}
+use Rattle.rules.specs.Numbers.{maxIno, orZero, convert, dirMode, blockSize, INVAL, SMALL}
 use Rattle.rules.specs.Utf8.{wellFormed}
 use Rattle.rules.specs.Path.{rooted}
 use Rattle.rules.specs.Ids.{Mapping, badMapping, wrapped}
@@ -17,11 +18,15 @@ use Rattle.rules.specs.Lookup.{entryOf}
 use Rattle.rules.proofs.Ids.{wrapped-is-whole}
 use Rattle.tables.specs.View.{mappingFrom, headOf, view}
 use Rattle.tables.specs.Rule.{laid}
+use Rattle.tables.specs.Call.{Told, toldBy, tells, toldSmall, answeredBy}
 use Rattle.tables.proofs.Keeps.{laid-ruled}
+use Rattle.storage.proofs.Laid.{told-by}
 use Rattle.inode.specs.declared.VfsInode.{VfsInode}
 use Rattle.pseudo_fs.specs.declared.PathFault.{PathFault}
 use Rattle.pseudo_fs.specs.declared.PathFault.the-variants.{Utf8, Slash, Sound}
-use Rattle.pseudo_fs.specs.Told.{faultOf, entryAnswer, pseudoAnswer}
+use Rattle.pseudo_fs.specs.declared.PathWalk.{PathWalk}
+use Rattle.pseudo_fs.specs.declared.PathWalk.the-variants.{Node as WalkNode, Nothing as WalkNothing, Inval as WalkInval, Small as WalkSmall}
+use Rattle.pseudo_fs.specs.Told.{faultOf, pathWalkTold, entryAnswer, pseudoAnswer}
 
 -- ---- the first fault of a path
 
@@ -64,6 +69,58 @@ module _ (i : Instance) (path : List ℕ) where
   pub walk-to : badPath path ≡ false → (o : Option ℕ) → reached i path ≡ o → walkRule i path ≡ says (walked o) i
   unfolding walkRule firstOf
   walk-to b o e = rw (b, e)
+
+-- ---- a walk's answer, taken apart: t is what it tells
+
+module _ (mem path : List ℕ) (t : Told) (e : t ≡ answeredBy mem (λ (i : Instance). walkRule i path)) where
+  told-laid : laid mem ≡ not (eqb (t .code) SMALL)
+  unfolding answeredBy walkRule firstOf
+  told-laid = go (laid mem) (badPath path) ∙ ap (λ (a : Told). not (eqb (a .code) SMALL)) (sym e)
+    where
+      go : (l b : Bool) → l ≡ not (eqb (cond l (toldBy (cond b (refused INVAL (view mem)) (says (walked (reached (view mem) path)) (view mem)))) toldSmall .code) SMALL)
+      go true true = refl
+      go true false = refl
+      go false b = refl
+
+  told-bad : laid mem ≡ true → badPath path ≡ eqb (t .code) INVAL
+  unfolding walkRule firstOf
+  told-bad l = go (badPath path) ∙ ap (λ (a : Told). eqb (a .code) INVAL) (sym (e ∙ told-by mem _ l))
+    where
+      go : (b : Bool) → b ≡ eqb (cond b (refused INVAL (view mem)) (says (walked (reached (view mem) path)) (view mem)) .code) INVAL
+      go true = refl
+      go false = refl
+
+  told-end : laid mem ≡ true → badPath path ≡ false → t .answer ≡ walked (reached (view mem) path)
+  told-end l b = ap (λ (a : Told). a .answer) (e ∙ told-by mem _ l ∙ ap toldBy (walk-to (view mem) path b _ refl))
+
+-- the bytes keep the layout rule, and the path is sound and leads there
+abbrev pub Leads : List ℕ → List ℕ → Option ℕ → Type 0
+Leads mem path o = (laid mem ≡ true) × (badPath path ≡ false) × (reached (view mem) path ≡ o)
+
+-- what each answer says of the bytes and the path
+abbrev pub Walked : List ℕ → List ℕ → PathWalk → Type 0
+Walked mem path (WalkNode x) = Leads mem path (some (x .0))
+Walked mem path WalkNothing = Leads mem path none
+Walked mem path WalkInval = (laid mem ≡ true) × (badPath path ≡ true)
+Walked mem path WalkSmall = laid mem ≡ false
+
+module _ (mem path : List ℕ) where
+  leads : (o : Option ℕ) → tells (walked o) ≡ answeredBy mem (λ (i : Instance). walkRule i path) → Leads mem path o
+  leads o e =
+      let l = told-laid mem path _ e in
+      let b = told-bad mem path _ e l in
+      let w = told-end mem path _ e l b in
+      (l, b, (cc))
+
+  pub walk-apart : (r q : PathWalk) → pathWalkTold r ≡ answeredBy mem (λ (i : Instance). walkRule i path) → r ≡ q → Walked mem path q
+  unfolding pathWalkTold
+  walk-apart r q e f = go q (ap pathWalkTold (sym f) ∙ e)
+    where
+      go : (q : PathWalk) → pathWalkTold q ≡ answeredBy mem (λ (i : Instance). walkRule i path) → Walked mem path q
+      go (WalkNode x) e = leads (some (x .0)) e
+      go WalkNothing e = leads none e
+      go WalkInval e = (told-laid mem path _ e, told-bad mem path _ e (told-laid mem path _ e))
+      go WalkSmall e = told-laid mem path _ e
 
 -- ---- the pseudo entry
 

@@ -42,12 +42,10 @@ pub struct Entry {
 pub fn path_fault(path: &[u8]) -> PathFault
     ensures { λ r. ⌜ r ≡ faultOf (now (path .entry)) ⌝ }
 {
-    let formed = is_utf8(path);
-    let rooted = is_rooted(path);
-    if !formed {
+    if !is_utf8(path) {
         return PathFault::Utf8;
     }
-    if rooted {
+    if is_rooted(path) {
         return PathFault::Sound;
     }
     PathFault::Slash

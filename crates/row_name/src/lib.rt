@@ -52,7 +52,7 @@ pub fn copy_name(s: &[u8], i: usize, out: &mut [u8], to: usize) -> usize
         le::runs::copy_run(out, to, s, at + 1, len);
         return len;
     }
-    le::runs::copy_run(out, to, s, tables::rows::TABLE + 44 * n + 248 * i, len - 7);
+    le::runs::copy_run(out, to, s, first_at(s, i), len - 7);
     le::runs::copy_run(out, to + (len - 7), s, at + 1, 7);
     len
 }

@@ -1,39 +1,34 @@
 -- What each way through an unmount gives. Assumes nothing.
 use mathlib.Core.Path.{_≡_, refl, sym, ap, _∙_, subst}
-use mathlib.Core.Bool.{Bool, true, false, not}
+use mathlib.Core.Bool.{true}
 use mathlib.Core.List.{List}
 use mathlib.Core.Option.{Option, none, some}
 use Prim.Native.Nat.{ℕ, _<_}
-use borrow.Author.Tests.{not-true}
 use Rattle.rules.specs.Numbers.{INVAL, NOTFOUND}
 use Rattle.rules.specs.Tree.{Mount, Node, parentIn}
 use Rattle.rules.specs.Instance.{Instance, mountOf}
 use Rattle.rules.specs.Outcome.{Outcome, unmounted, refused, firstOf}
-use Rattle.rules.specs.Unmount.{badPath, reached, unmounts, unmountAt, unmountRule}
+use Rattle.rules.specs.Unmount.{walkRule, unmounts, unmountAt, unmountRule}
 use Rattle.tables.specs.View.{nodesOf, view}
 use Rattle.tables.specs.Rule.{laid}
 use Rattle.tables.proofs.Places.{view-nodes}
-use Rattle.tables.specs.Answer.{foundIn, mountOfPoint, mountIn}
-use Rattle.tables.specs.Call.{Does}
-use Rattle.tables.specs.declared.rows.Found.{Found}
-use Rattle.tables.specs.declared.rows.Found.the-variants.{Node as FoundNode, Nothing as FoundNothing}
+use Rattle.tables.specs.Answer.{mountOfPoint, mountIn}
+use Rattle.tables.specs.Call.{answeredBy, Does}
 use Rattle.tables.specs.declared.slots.Tag.{Tag}
 use Rattle.tables.specs.declared.mounts.MountPoint.{MountPoint}
 use Rattle.tables.specs.declared.mounts.MountOn.{MountOn}
 use Rattle.tables.specs.declared.mounts.MountOn.the-variants.{Point, Nothing}
 use Rattle.inode.specs.declared.NodeNumber.{NodeNumber}
-use Rattle.pseudo_fs.specs.Told.{faultOf}
-use Rattle.pseudo_fs.specs.declared.PathFault.{PathFault}
-use Rattle.pseudo_fs.specs.declared.PathFault.the-variants.{Utf8, Slash, Sound}
-use Rattle.pseudo_fs.proofs.Walks.{reaches, misses}
-use Rattle.pseudo_fs.proofs.Calls.{fault-bad}
+use Rattle.pseudo_fs.specs.Told.{pathWalkTold}
+use Rattle.pseudo_fs.specs.declared.PathWalk.{PathWalk}
+use Rattle.pseudo_fs.specs.declared.PathWalk.the-variants.{Node as WalkNode, Nothing as WalkNothing, Inval as WalkInval, Small as WalkSmall}
+use Rattle.pseudo_fs.proofs.Calls.{Leads, walk-apart}
 use Rattle.placing.specs.Place.{TakesOff}
 use Rattle.placing.proofs.Stands.{view-taken-off, keeps-taken-off}
 use Rattle.vfs.specs.Follows.{Follows}
 use Rattle.vfs.specs.Unmounting.{unmountedTold, offMem, unmountMem, Unmounts}
 use Rattle.vfs.specs.declared.unmounting.Unmounted.{Unmounted}
 use Rattle.vfs.specs.declared.unmounting.Unmounted.the-variants.{Done, NotFound, Inval, Small}
-use Rattle.storage.proofs.Laid.{laid-by}
 use Rattle.storage.proofs.Calls.{does-small, does-nothing, does}
 
 -- ---- of a node, by the mount on it
@@ -62,44 +57,39 @@ unfolding mountIn unmountedTold unmountAt offMem
 finds-none mem x on l o p =
     by-mount mem x none NotFound mem (sym o ∙ ap mountIn p) (record { told = refl; bytes = refl; stands = refl; keeps = l })
 
--- ---- of a path
+-- ---- of a path, by what the walk answered
 
-module _ (mem path : List ℕ) where
+module _ (mem path : List ℕ) (w : PathWalk) (k : pathWalkTold w ≡ answeredBy mem (λ (i : Instance). walkRule i path)) where
   abbrev F : Instance → Outcome
   F = λ (i : Instance). unmountRule i path
 
-  bad : laid mem ≡ true → badPath path ≡ true → Does mem F (unmountedTold Inval) mem (unmountMem path mem)
+  pub small : w ≡ WalkSmall → Does mem F (unmountedTold Small) mem (unmountMem path mem)
+  unfolding unmountMem unmountedTold
+  small e =
+      let f = walk-apart mem path w WalkSmall k e in
+      does-small mem F (unmountedTold Small) (unmountMem path mem) f refl (rw f)
+
+  pub bad : w ≡ WalkInval → Does mem F (unmountedTold Inval) mem (unmountMem path mem)
   unfolding unmountMem unmountedTold unmountRule firstOf
-  bad e b = does-nothing mem F (unmountedTold Inval) (unmountMem path mem) (refused INVAL (view mem)) e (rw b) refl refl (rw (e, b))
+  bad e =
+      let b = walk-apart mem path w WalkInval k e in
+      does-nothing mem F (unmountedTold Inval) (unmountMem path mem) (refused INVAL (view mem)) (b .0) (rw (b .1)) refl refl (rw (b .0, b .1))
 
-  -- by what the tests answered
-  module _ (l : Bool) (le : l ≡ laid mem) where
-    pub small : not l ≡ true → Does mem F (unmountedTold Small) mem (unmountMem path mem)
-    unfolding unmountMem unmountedTold
-    small e =
-        let f : laid mem ≡ false = sym le ∙ not-true l e in
-        does-small mem F (unmountedTold Small) (unmountMem path mem) f refl (rw f)
+  pub missing : w ≡ WalkNothing → Does mem F (unmountedTold NotFound) mem (unmountMem path mem)
+  unfolding unmountMem unmountedTold unmountRule unmountAt offMem firstOf
+  missing e =
+      let n = walk-apart mem path w WalkNothing k e in
+      does-nothing mem F (unmountedTold NotFound) (unmountMem path mem) (refused NOTFOUND (view mem)) (n .0) (rw (n .1, n .2)) refl refl (rw (n .0, n .1, n .2))
 
-    module _ (on : not l ≡ false) (t : PathFault) (te : t ≡ faultOf path) where
-      pub bad-bytes : t ≡ Utf8 → Does mem F (unmountedTold Inval) mem (unmountMem path mem)
-      bad-bytes e = bad (laid-by mem l le on) (fault-bad path te e)
+  module _ (x : NodeNumber) (e : w ≡ WalkNode x) where
+    leads : Leads mem path (some (x .0))
+    leads = walk-apart mem path w (WalkNode x) k e
 
-      pub bad-slash : t ≡ Slash → Does mem F (unmountedTold Inval) mem (unmountMem path mem)
-      bad-slash e = bad (laid-by mem l le on) (fault-bad path te e)
+    pub kept : laid mem ≡ true
+    kept = leads .0
 
-      module _ (sound : t ≡ Sound) (o : Found) (k : foundIn o ≡ reached (view mem) path) where
-        path-good : badPath path ≡ false
-        path-good = fault-bad path te sound
-
-        pub missing : o ≡ FoundNothing → Does mem F (unmountedTold NotFound) mem (unmountMem path mem)
-        unfolding unmountMem unmountedTold unmountRule unmountAt offMem firstOf
-        missing q =
-            let n : reached (view mem) path ≡ none = misses _ o k q in
-            does-nothing mem F (unmountedTold NotFound) (unmountMem path mem) (refused NOTFOUND (view mem)) (laid-by mem l le on) (rw (path-good, n)) refl refl (rw (laid-by mem l le on, path-good, n))
-
-        pub arrived : (x : ℕ) → o ≡ FoundNode x → (v : Unmounted) (after : List ℕ) → Unmounts mem x v after → Does mem F (unmountedTold v) after (unmountMem path mem)
-        unfolding unmountMem unmountRule firstOf
-        arrived x q v after f =
-            let n : reached (view mem) path ≡ some x = reaches _ o k x q in
-            does mem F (unmountedTold v) after (unmountMem path mem) (unmountAt (view mem) (some x) (mountOf (view mem .tree) x)) (laid-by mem l le on) (rw (path-good, n)) (f .told)
-            (f .bytes ∙ sym (rw (laid-by mem l le on, path-good, n))) (f .stands) (f .keeps)
+    pub arrived : (v : Unmounted) (after : List ℕ) → Unmounts mem (x .0) v after → Does mem F (unmountedTold v) after (unmountMem path mem)
+    unfolding unmountMem unmountRule firstOf
+    arrived v after f =
+        does mem F (unmountedTold v) after (unmountMem path mem) (unmountAt (view mem) (some (x .0)) (mountOf (view mem .tree) (x .0))) kept (rw (leads .1, leads .2)) (f .told)
+        (f .bytes ∙ sym (rw (leads .0, leads .1, leads .2))) (f .stands) (f .keeps)

@@ -1,4 +1,4 @@
-// Unmount: the tests in their order, then the mount taken off its node.
+// Unmount: the walk along the path, then the mount taken off the node where it ends.
 ghost use mathlib.Core.Path.{_≡_};
 ghost use mathlib.Core.Bool.{true};
 ghost use Rattle.rules.specs.Instance.{Instance};
@@ -7,12 +7,8 @@ ghost use Rattle.tables.specs.Rule.{laid};
 ghost use Rattle.tables.specs.Call.{Does};
 ghost use Rattle.vfs.specs.Unmounting.{unmountedTold, unmountMem, Unmounts};
 use inode::NodeNumber;
-use pseudo_fs::PathFault;
-use pseudo_fs::inner::walk;
-use pseudo_fs::path_fault;
-use storage::is_laid;
+use pseudo_fs::PathWalk;
 use tables::mounts::MountOn;
-use tables::rows::Found;
 use tables::slots::Tag;
 
 // What an unmount answers: the node, its parent and the tag released, or a refusal.
@@ -52,16 +48,10 @@ fn unmount_at(s: &mut [u8], x: u64) -> Unmounted
 pub fn umount(s: &mut [u8], path: &[u8]) -> Unmounted
     ensures { λ r. ⌜ Does (now (s .entry)) (λ (i : Instance). unmountRule i (now (path .entry))) (unmountedTold r) (now (s .exit)) (unmountMem (now (path .entry)) (now (s .entry))) ⌝ }
 {
-    if !is_laid(s) {
-        return Unmounted::Small;
-    }
-    match path_fault(path) {
-        PathFault::Utf8 => return Unmounted::Inval,
-        PathFault::Slash => return Unmounted::Inval,
-        PathFault::Sound => {}
-    }
-    match walk(s, path) {
-        Found::Node(x) => unmount_at(s, x),
-        Found::Nothing => Unmounted::NotFound,
+    match pseudo_fs::path_walk(s, path) {
+        PathWalk::Node(x) => unmount_at(s, x.0),
+        PathWalk::Nothing => Unmounted::NotFound,
+        PathWalk::Inval => Unmounted::Inval,
+        PathWalk::Small => Unmounted::Small,
     }
 }

@@ -3,18 +3,15 @@ use inode::BackendNumber;
 use inode::NodeNumber;
 use inode::VfsInode;
 use pseudo_fs::Entry;
-use pseudo_fs::PathFault;
+use pseudo_fs::PathWalk;
 use pseudo_fs::inner::Finding;
 use pseudo_fs::inner::find;
 use pseudo_fs::inner::pseudo_entry;
-use pseudo_fs::inner::walk;
-use pseudo_fs::path_fault;
 use storage::is_laid;
 use tables::mounts::MountOn;
 use tables::mounts::MountPoint;
 use tables::mounts::of_node;
 use tables::mounts::of_root;
-use tables::rows::Found;
 use tables::slots::Tag;
 use tables::slots::tag_of;
 ghost use mathlib.Core.Path.{_≡_};
@@ -114,20 +111,14 @@ fn root_held(s: &[u8], index: u8) -> Rootfs
 pub fn get_rootfs(s: &[u8], path: &[u8]) -> Rootfs
     ensures { λ r. ⌜ rootfsTold r ≡ answeredBy (now (s .entry)) (λ (i : Instance). rootRule i (now (path .entry))) ⌝ }
 {
-    if !is_laid(s) {
-        return Rootfs::Small;
-    }
-    match path_fault(path) {
-        PathFault::Utf8 => return Rootfs::Inval,
-        PathFault::Slash => return Rootfs::Inval,
-        PathFault::Sound => {}
-    }
-    match walk(s, path) {
-        Found::Node(x) => match of_node(s, x) {
+    match pseudo_fs::path_walk(s, path) {
+        PathWalk::Node(x) => match of_node(s, x.0) {
             MountOn::Point(m) => root_held(s, m.fs_idx),
             MountOn::Nothing => Rootfs::Nothing,
         },
-        Found::Nothing => Rootfs::Nothing,
+        PathWalk::Nothing => Rootfs::Nothing,
+        PathWalk::Inval => Rootfs::Inval,
+        PathWalk::Small => Rootfs::Small,
     }
 }
 

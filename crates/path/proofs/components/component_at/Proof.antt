@@ -2,7 +2,7 @@
 use borrow.Author.Needs.{needs}
 use mathlib.Core.Path.{sym, _∙_}
 use denote.Ref.{now}
-use Rattle.path.proofs.Steps.{is-empty, is-single, is-double, is-plain}
+use Rattle.path.proofs.Steps.{is-single, is-double, is-plain}
 use Rattle.path.proofs.components.component_at.Statement.{statement}
 use Rattle.path.proofs.components.component_at.Tie as tie
 
@@ -15,34 +15,26 @@ part-word-start c = search needs
 part-word-end : tie.Need-part-word-end
 part-word-end c = search needs
 
-returns : tie.Need-returns
-returns c =
-    let a = c .before .before .before .args in
-    is-empty (now (a .path)) (a .at) (a .end) (c .before .before .before .pre) (c .if1 .taken)
-
 is-dot-requires : tie.Need-is-dot-requires
 is-dot-requires c κs = search needs
 
-returns-2 : tie.Need-returns-2
-returns-2 c =
-    let a = c .before .before .before .before .before .args in
-    is-single (now (a .path)) (a .at) (a .end) (c .before .before .before .before .before .pre) (sym (c .before .is-dot .ensures) ∙ c .if2 .taken)
+returns : tie.Need-returns
+returns c =
+    let a = c .before .before .before .before .args in
+    is-single (now (a .path)) (a .at) (a .end) (c .before .before .before .before .pre) (sym (c .before .is-dot .ensures) ∙ c .if1 .taken)
 
 is-dots-requires : tie.Need-is-dots-requires
 is-dots-requires c κs = search needs
 
+returns-2 : tie.Need-returns-2
+returns-2 c =
+    let a = c .before .before .before .before .before .before .args in
+    is-double (now (a .path)) (a .at) (a .end) (c .before .before .before .before .before .before .pre) (sym (c .before .is-dots .ensures) ∙ c .if2 .taken)
+
 returns-3 : tie.Need-returns-3
 returns-3 c =
-    let a = c .before .before .before .before .before .before .before .args in
-    is-double (now (a .path)) (a .at) (a .end) (c .before .before .before .before .before .before .before .pre) (sym (c .before .is-dots .ensures) ∙ c .if3 .taken)
-
-sub-t6 : tie.Need-sub-t6
-sub-t6 c = search needs
-
-returns-4 : tie.Need-returns-4
-returns-4 c =
-    let a = c .before .before .before .before .before .before .before .args in
-    is-plain (now (a .path)) (a .at) (a .end) (c .before .before .before .before .before .before .before .pre) (c .before .before .before .before .if1 .left) (sym (c .before .before .before .is-dot .ensures) ∙ c .before .before .if2 .left) (sym (c .before .is-dots .ensures) ∙ c .if3 .left)
+    let a = c .before .before .before .before .before .before .args in
+    is-plain (now (a .path)) (a .at) (a .end) (c .before .before .before .before .before .before .pre) (sym (c .before .before .before .is-dot .ensures) ∙ c .before .before .if1 .left) (sym (c .before .is-dots .ensures) ∙ c .if2 .left)
 
 pub component-at-spec : {M : Type 1} → statement M
 component-at-spec =
@@ -51,10 +43,9 @@ component-at-spec =
     sub-word
     part-word-start
     part-word-end
-    returns
     is-dot-requires
-    returns-2
+    returns
     is-dots-requires
-    returns-3
-    sub-t6
-    returns-4)
+    returns-2
+    (λ c. search needs)
+    returns-3)

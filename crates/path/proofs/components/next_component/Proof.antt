@@ -7,7 +7,7 @@ use lib.ListN.{length}
 use denote.Ref.{now}
 use Rattle.path.specs.Steps.{nextAt}
 use Rattle.rules.specs.Path.{slash}
-use Rattle.path.proofs.Words.{end-in}
+use Rattle.path.proofs.Words.{end-behind}
 use Rattle.path.proofs.Steps.{next-slash, next-dropped, next-kept, next-end}
 use Rattle.path.proofs.components.next_component.Statement.{statement}
 use Rattle.path.proofs.components.next_component.Tie as tie
@@ -30,7 +30,7 @@ part-end-requires c κs = search needs
 component-at-requires : tie.Need-component-at-requires Inv-loop μ-loop
 component-at-requires c κs =
     let l = c .before .before .before .before in
-    end-in slash (now (l .before .before .args .path)) (l .loop .i) (c .part-end .ensures) (omega arith)
+    end-behind slash (now (l .before .before .args .path)) (l .loop .i) (c .part-end .ensures) (omega arith) (c .before .if1 .left)
 
 loop-again-2 : tie.Need-loop-again-2 Inv-loop μ-loop
 loop-again-2 c = sym (next-dropped _ _ (c .before .before .before .before .before .before .loop-test .taken) (c .before .before .before .part-end .ensures) (c .before .before .component-at .ensures) (c .enum-told .given .1)) ∙ c .before .before .before .before .before .before .before .loop .inv
