@@ -4,7 +4,7 @@ use mathlib.Core.List.{List, [], _∷_}
 use Prim.Native.Nat.{ℕ, _+_, _≤_}
 use native.Mathlib.Omega.{arith}
 use lib.ListN.{length}
-use Rattle.le.specs.Mem.{read, write, bytesOf}
+use Rattle.le.specs.Mem.{read, bytesOf}
 use Rattle.rules.proofs.Fields.{length-bytesOf}
 use Rattle.tables.specs.Table.{putRow, closeUp}
 use Rattle.tables.specs.Layout.{header, slotTable, nodeTable}

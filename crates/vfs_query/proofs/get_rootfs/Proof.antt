@@ -1,5 +1,5 @@
 -- Each return is a case of the rule, by the walk's answer and the mount.
-use mathlib.Core.Path.{_≡_, refl, sym, ap, _∙_}
+use mathlib.Core.Path.{refl, sym, ap, _∙_}
 use mathlib.Core.Option.{some}
 use denote.Ref.{now}
 use Rattle.pseudo_fs.proofs.Calls.{Leads, walk-apart}
