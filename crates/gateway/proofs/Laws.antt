@@ -2,13 +2,12 @@
 use Prim.Native.Nat.{ℕ}
 use mathlib.Core.Path.{_≡_, sym, subst}
 use mathlib.Core.List.{List}
-use Rattle.le.specs.Mem.{write}
 use Rattle.rules.specs.Numbers.{convert}
 use Rattle.rules.specs.Instance.{Instance}
 use Rattle.rules.specs.Outcome.{Outcome}
 use Rattle.rules.specs.Create.{Creation}
 use Rattle.rules.specs.Mount.{Request}
-use Rattle.tables.specs.Call.{Told, answeredBy, writtenBy, Does}
+use Rattle.tables.specs.Call.{Told, answeredBy, WritesBy, DoesBy, Writes, Does}
 use Rattle.inode.specs.Converted.{codeOf, fullOf, convertCode, Converts}
 use Rattle.inode.specs.declared.Converted.{Converted}
 use Rattle.storage.specs.Creation.{Creates}
@@ -16,7 +15,6 @@ use Rattle.flat.specs.Flat.{codeAlone, wroteNumbers, inodeNumbers}
 use Rattle.flat.specs.declared.CodeAnswer.{CodeAnswer}
 use Rattle.flat.specs.declared.WroteAnswer.{WroteAnswer}
 use Rattle.flat.specs.declared.InodeAnswer.{InodeAnswer}
-use Rattle.gateway.specs.Calls.{DoesBy, WritesBy}
 
 -- the numbers of what is told are the numbers of what the rule tells
 pub by-told : {A B : Type 0} (numbers : B → A) (r : A) (t u : B) → r ≡ numbers t → t ≡ u → r ≡ numbers u
@@ -34,8 +32,8 @@ does-asked numbers mem rule exact q p t r after e h d =
     does-by numbers mem (λ i. rule i p) t r after (exact p) h (subst (λ (x : Request). Does mem (λ i. rule i x) t after (exact x)) e d)
 
 pub writes-by : (mem : List ℕ) (f : Instance → Outcome) (d : List ℕ) (t : Told) (r : WroteAnswer) (e : List ℕ)
-    → r ≡ wroteNumbers t → t ≡ answeredBy mem f → e ≡ write d 0 (writtenBy mem f) → WritesBy mem f d r e
-writes-by mem f d t r e h told bytes = record { answer = by-told wroteNumbers r t (answeredBy mem f) h told; bytes = bytes }
+    → r ≡ wroteNumbers t → Writes mem f d t e → WritesBy wroteNumbers mem f d r e
+writes-by mem f d t r e h w = record { answer = by-told wroteNumbers r t (answeredBy mem f) h (w .answer); bytes = w .bytes }
 
 pub creates-by : (mem : List ℕ) (q : Creation) (code : ℕ) (r : CodeAnswer) (after : List ℕ) → r ≡ codeAlone code → Creates mem q code after → Creates mem q (r .code) after
 creates-by mem q code r after e d = rw e d

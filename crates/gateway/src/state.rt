@@ -1,17 +1,17 @@
 // Saved state: save and restore.
 ghost use Rattle.rules.specs.Instance.{Instance};
 ghost use Rattle.rules.specs.Restore.{restoreRule};
+ghost use Rattle.tables.specs.Call.{WritesBy, DoesBy};
 ghost use Rattle.persist.specs.Saving.{saving};
 ghost use Rattle.persist.specs.Restoring.{restoreStateMem};
-ghost use Rattle.flat.specs.Flat.{codeNumbers};
-ghost use Rattle.gateway.specs.Calls.{DoesBy, WritesBy};
+ghost use Rattle.flat.specs.Flat.{codeNumbers, wroteNumbers};
 use flat::CodeAnswer;
 use flat::WroteAnswer;
 
 // Saves the instance at the start of the lent bytes: SMALL where these are too few, else how many were written (R119 to R127).
 #[no_mangle]
 pub extern "C" fn galdovar_save_to_bytes(storage: &[u8], out: &mut [u8]) -> WroteAnswer
-    ensures { λ r. ⌜ WritesBy (now (storage .entry)) (saving (now (out .entry))) (now (out .entry)) r (now (out .exit)) ⌝ }
+    ensures { λ r. ⌜ WritesBy wroteNumbers (now (storage .entry)) (saving (now (out .entry))) (now (out .entry)) r (now (out .exit)) ⌝ }
 {
     flat::saved(persist::saving::save_to_bytes(storage, out))
 }

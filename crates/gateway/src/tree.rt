@@ -3,10 +3,9 @@ ghost use mathlib.Core.Path.{_≡_};
 ghost use Rattle.rules.specs.Instance.{Instance};
 ghost use Rattle.rules.specs.Unmount.{walkRule};
 ghost use Rattle.rules.specs.Lookup.{lookupRule};
-ghost use Rattle.tables.specs.Call.{answeredBy};
+ghost use Rattle.tables.specs.Call.{answeredBy, WritesBy};
 ghost use Rattle.listing.specs.Listed.{listing};
-ghost use Rattle.flat.specs.Flat.{walkNumbers, lookupNumbers};
-ghost use Rattle.gateway.specs.Calls.{WritesBy};
+ghost use Rattle.flat.specs.Flat.{walkNumbers, lookupNumbers, wroteNumbers};
 use flat::LookupAnswer;
 use flat::WalkAnswer;
 use flat::WroteAnswer;
@@ -37,7 +36,7 @@ pub extern "C" fn galdovar_readdir(
     offset: u64,
     out: &mut [u8],
 ) -> WroteAnswer
-    ensures { λ r. ⌜ WritesBy (now (storage .entry)) (listing node size offset (now (out .entry))) (now (out .entry)) r (now (out .exit)) ⌝ }
+    ensures { λ r. ⌜ WritesBy wroteNumbers (now (storage .entry)) (listing node size offset (now (out .entry))) (now (out .entry)) r (now (out .exit)) ⌝ }
 {
     flat::listed(listing::readdir(storage, NodeNumber(node), size, offset, out))
 }

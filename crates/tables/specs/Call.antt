@@ -44,14 +44,24 @@ answeredBy mem f = cond (laid mem) (toldBy (f (view mem))) toldSmall
 unfoldable pub writtenBy : List ℕ → (Instance → Outcome) → List ℕ
 writtenBy mem f = cond (laid mem) (f (view mem) .written) []
 
--- what a call that lays bytes into the lent output d tells, and what d is then: the answer; the bytes stand at its start, and later ones keep what they held (R15, R17)
-pub record Writes (mem : List ℕ) (f : Instance → Outcome) (d : List ℕ) (told : Told) (e : List ℕ) : Type 0 where
-  pub answer : told ≡ answeredBy mem f
+-- ---- contracts, with the answer as a function of what is told: an export of `gateway` has its plain numbers
+
+-- of a call that lays bytes into the lent output d, which is e then: the answer; the bytes stand at its start, and later ones keep what they held (R15, R17)
+pub record WritesBy {A : Type 0} (says : Told → A) (mem : List ℕ) (f : Instance → Outcome) (d : List ℕ) (r : A) (e : List ℕ) : Type 0 where
+  pub answer : r ≡ says (answeredBy mem f)
   pub bytes : e ≡ write d 0 (writtenBy mem f)
 
--- what a call that changes the instance tells and leaves: the answer; the bytes exactly; they stand for what the rule leaves, and keep the layout rule (R15, R21)
-pub record Does (mem : List ℕ) (f : Instance → Outcome) (told : Told) (after exact : List ℕ) : Type 0 where
-  pub answer : told ≡ answeredBy mem f
+-- of a call that changes the instance: the answer; the bytes exactly; they stand for what the rule leaves, and keep the layout rule (R15, R21)
+pub record DoesBy {A : Type 0} (says : Told → A) (mem : List ℕ) (f : Instance → Outcome) (r : A) (after exact : List ℕ) : Type 0 where
+  pub answer : r ≡ says (answeredBy mem f)
   pub bytes : after ≡ exact
   pub stands : laid mem ≡ true → view after ≡ f (view mem) .after
   pub keeps : laid mem ≡ true → laid after ≡ true
+
+-- the first, where the answer is what is told (R15, R17)
+abbrev pub Writes : List ℕ → (Instance → Outcome) → List ℕ → Told → List ℕ → Type 0
+Writes = WritesBy (λ (t : Told). t)
+
+-- the second (R15, R21)
+abbrev pub Does : List ℕ → (Instance → Outcome) → Told → List ℕ → List ℕ → Type 0
+Does = DoesBy (λ (t : Told). t)

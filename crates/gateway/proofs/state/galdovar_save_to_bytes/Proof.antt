@@ -14,7 +14,7 @@ same-length : tie.Need-same-length
 same-length c = search needs
 
 returns : tie.Need-returns
-returns c = writes-by _ _ _ _ _ _ (c .saved .ensures) (c .before .before .before .save-to-bytes .ensures .answer) (c .before .before .before .save-to-bytes .ensures .bytes)
+returns c = writes-by _ _ _ _ _ _ (c .saved .ensures) (c .before .before .before .save-to-bytes .ensures)
 
 pub galdovar-save-to-bytes-spec : {M : Type 1} → statement M
 galdovar-save-to-bytes-spec =

@@ -14,7 +14,7 @@ same-length : tie.Need-same-length
 same-length c = search needs
 
 returns : tie.Need-returns
-returns c = writes-by _ _ _ _ _ _ (c .listed .ensures) (c .before .before .before .readdir .ensures .answer) (c .before .before .before .readdir .ensures .bytes)
+returns c = writes-by _ _ _ _ _ _ (c .listed .ensures) (c .before .before .before .readdir .ensures)
 
 pub galdovar-readdir-spec : {M : Type 1} → statement M
 galdovar-readdir-spec = tie.close (tie.spec readdir-requires listed-requires same-length returns)
