@@ -5,7 +5,7 @@ ghost use Rattle.rules.specs.Session.{parsed};
 ghost use Rattle.line_calls.specs.Answered.{Answered};
 ghost use Rattle.line.specs.Fields.{Ends, Cuts, twoAt, threeAt, fiveAt};
 
-pub mod forms;
+mod forms;
 
 // The places of a line's spaces, where it has two, three or five fields.
 enum Cut {
