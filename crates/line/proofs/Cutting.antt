@@ -5,11 +5,13 @@ use mathlib.Core.Path.{_≡_, refl, sym, ap, _∙_}
 use mathlib.Core.List.{List, [], _∷_, _++_, append-assoc}
 use mathlib.Core.Option.{none}
 use lib.ListN.{length, drop}
-use borrow.Author.Tests.{lt-ltb, le-ltb}
+use lib.Dec.{eqb}
+use borrow.Author.Tests.{lt-ltb, le-ltb, eq-eqb, ne-eqb}
+use Rattle.rules.specs.Outcome.{_⇒_, firstOf}
 use Rattle.rules.specs.Session.{space, words, anyEmpty, lineOf, parsed}
 use Rattle.line.specs.declared.Cut.{Cut}
 use Rattle.line.specs.declared.Cut.the-variants.{Two, Three, Five, Other}
-use Rattle.line.specs.Fields.{Ends, formed, twoAt, threeAt, fiveAt, Cuts}
+use Rattle.line.specs.Fields.{fieldEnd, Ends, formed, twoAt, threeAt, fiveAt, cutOf, Cuts}
 use Rattle.path.specs.Steps.{between}
 use Rattle.path.proofs.Words.{first-part}
 use Rattle.line.proofs.Fields.{field-more, field-last}
@@ -105,6 +107,47 @@ module _ (s : List ℕ) where
     unfolding Cuts fiveAt
     five c d e ec ed p f h =
         (omega (arith, eb .from), (omega (arith, ec .from), (omega (arith, ed .from), (omega (arith, f .from, f .within), ending (d + 1) e (w₄ s a b c d) p f h))))
+
+-- ---- the cut, by the ends of the fields that were sought
+
+module _ (s : List ℕ) where
+  pub cut-long : 8192 < length s → Other ≡ cutOf s
+  unfolding cutOf firstOf
+  cut-long h = rw (lt-ltb 8192 (length s) h)
+
+  module _ (h : length s ≤ 8192) (a : ℕ) (ea : a ≡ fieldEnd s 0) where
+    pub cut-one : a ≡ length s → Other ≡ cutOf s
+    unfolding cutOf firstOf
+    cut-one q = rw (le-ltb 8192 (length s) h, ← ea, eq-eqb a (length s) q)
+
+    module _ (na : a ≡ length s → ⊥) (b : ℕ) (eb : b ≡ fieldEnd s (a + 1)) where
+      pub cut-two : b ≡ length s → Two a ≡ cutOf s
+      unfolding cutOf firstOf
+      cut-two q = rw (le-ltb 8192 (length s) h, ← ea, ne-eqb a (length s) na, ← eb, eq-eqb b (length s) q)
+
+      module _ (nb : b ≡ length s → ⊥) (c : ℕ) (ec : c ≡ fieldEnd s (b + 1)) where
+        pub cut-three : c ≡ length s → Three a b ≡ cutOf s
+        unfolding cutOf firstOf
+        cut-three q = rw (le-ltb 8192 (length s) h, ← ea, ne-eqb a (length s) na, ← eb, ne-eqb b (length s) nb, ← ec, eq-eqb c (length s) q)
+
+        module _ (nc : c ≡ length s → ⊥) (d : ℕ) (ed : d ≡ fieldEnd s (c + 1)) where
+          -- where the third is not the last
+          further : cutOf s ≡ firstOf ((eqb d (length s) ⇒ Other) ∷ (eqb (fieldEnd s (d + 1)) (length s) ⇒ Five a b c d) ∷ []) Other
+          unfolding cutOf firstOf
+          further = rw (le-ltb 8192 (length s) h, ← ea, ne-eqb a (length s) na, ← eb, ne-eqb b (length s) nb, ← ec, ne-eqb c (length s) nc, ← ed)
+
+          pub cut-four : d ≡ length s → Other ≡ cutOf s
+          unfolding firstOf
+          cut-four q = sym (further ∙ rw (eq-eqb d (length s) q))
+
+          module _ (nd : d ≡ length s → ⊥) (e : ℕ) (ee : e ≡ fieldEnd s (d + 1)) where
+            pub cut-five : e ≡ length s → Five a b c d ≡ cutOf s
+            unfolding firstOf
+            cut-five q = sym (further ∙ rw (ne-eqb d (length s) nd, ← ee, eq-eqb e (length s) q))
+
+            pub cut-more : (e ≡ length s → ⊥) → Other ≡ cutOf s
+            unfolding firstOf
+            cut-more q = sym (further ∙ rw (ne-eqb d (length s) nd, ← ee, ne-eqb e (length s) q))
 
 -- ---- the places, and the line
 

@@ -5,6 +5,8 @@ use mathlib.Core.List.{List, [], _∷_}
 use mathlib.Core.Option.{Option, none, some}
 use mathlib.Core.Path.{_≡_}
 use lib.ListN.{length}
+use lib.Dec.{eqb, ltb}
+use Rattle.rules.specs.Outcome.{_⇒_, firstOf}
 use Rattle.rules.specs.Session.{space, Line, anyEmpty, lineOf, parsed}
 use Rattle.path.specs.Steps.{between, partEnd}
 use Rattle.line.specs.declared.Cut.{Cut}
@@ -38,12 +40,35 @@ threeAt s a b = formed (between s 0 a ∷ between s (a + 1) b ∷ between s (b +
 unfoldable pub fiveAt : List ℕ → ℕ → ℕ → ℕ → ℕ → Option Line
 fiveAt s a b c d = formed (between s 0 a ∷ between s (a + 1) b ∷ between s (b + 1) c ∷ between s (c + 1) d ∷ between s (d + 1) (length s) ∷ [])
 
+-- where a line is cut: by which of its fields is the last one; a line over 8,192 bytes, or of another number of fields, has no form (R145, R146, R150)
+unfoldable pub cutOf : List ℕ → Cut
+cutOf s =
+    let a = fieldEnd s 0 in
+    let b = fieldEnd s (a + 1) in
+    let c = fieldEnd s (b + 1) in
+    let d = fieldEnd s (c + 1) in
+    let e = fieldEnd s (d + 1) in
+    firstOf
+    ((ltb 8192 (length s) ⇒ Other)
+    ∷ (eqb a (length s) ⇒ Other)
+    ∷ (eqb b (length s) ⇒ Two a)
+    ∷ (eqb c (length s) ⇒ Three a b)
+    ∷ (eqb d (length s) ⇒ Other)
+    ∷ (eqb e (length s) ⇒ Five a b c d)
+    ∷ [])
+    Other
+
 -- what a cut says of the line: where its spaces stand, or that it has no form
 unfoldable pub Cuts : List ℕ → Cut → Type 0
 Cuts s (Two a) = (a < length s) × (parsed s ≡ twoAt s a)
 Cuts s (Three a b) = (a < b) × ((b < length s) × (parsed s ≡ threeAt s a b))
 Cuts s (Five a b c d) = (a < b) × ((b < c) × ((c < d) × ((d < length s) × (parsed s ≡ fiveAt s a b c d))))
 Cuts s Other = parsed s ≡ none
+
+-- the cut, and what it says
+pub record Splits (s : List ℕ) (r : Cut) : Type 0 where
+  pub cut : r ≡ cutOf s
+  pub says : Cuts s r
 
 -- three numbers, where each is one (R138, R149)
 unfoldable pub requestFrom : Option ℕ → Option ℕ → Option ℕ → Request

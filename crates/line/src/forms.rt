@@ -15,13 +15,13 @@ use line_calls::walk_line;
 use line_text::put_question;
 
 // The three numbers of a mount line, where each is one.
-pub enum Request {
+enum Request {
     Numbers { tag: u32, root: u64, max: u64 },
     Bad,
 }
 
 // Whether the field is the word (R147).
-pub fn is_word(field: &[u8], word: &[u8]) -> bool
+fn is_word(field: &[u8], word: &[u8]) -> bool
     ensures { λ r. ⌜ r ≡ same (now (field .entry)) (now (word .entry)) ⌝ }
 {
     if field.len() != word.len() {
@@ -31,7 +31,7 @@ pub fn is_word(field: &[u8], word: &[u8]) -> bool
 }
 
 // TAG, ROOT and MAX as numbers, of 32, 64 and 64 bits (R148, R149).
-pub fn numbers(tag: &[u8], root: &[u8], max: &[u8]) -> Request
+fn numbers(tag: &[u8], root: &[u8], max: &[u8]) -> Request
     ensures { λ r. ⌜ r ≡ requestFrom (number 32 (now (tag .entry))) (number 64 (now (root .entry))) (number 64 (now (max .entry))) ⌝ }
 {
     match decimal::read(tag, 4294967295) {

@@ -3,9 +3,9 @@ ghost use Prim.Native.Nat.{_+_, _≤_, _<_};
 ghost use lib.ListN.{length};
 ghost use Rattle.rules.specs.Session.{parsed};
 ghost use Rattle.line_calls.specs.Answered.{Answered};
-ghost use Rattle.line.specs.Fields.{Ends, Cuts, twoAt, threeAt, fiveAt};
+ghost use Rattle.line.specs.Fields.{Ends, Splits, twoAt, threeAt, fiveAt};
 
-pub mod forms;
+mod forms;
 
 // The places of a line's spaces, where it has two, three or five fields.
 enum Cut {
@@ -35,7 +35,7 @@ fn field_end(line: &[u8], at: usize) -> usize
 
 // Where the line is cut; a line over 8,192 bytes, or of another number of fields, has no form (R145, R146, R150).
 fn split(line: &[u8]) -> Cut
-    ensures { λ r. ⌜ Cuts (now (line .entry)) r ⌝ }
+    ensures { λ r. ⌜ Splits (now (line .entry)) r ⌝ }
 {
     if rules::MAX_LINE < line.len() {
         return Cut::Other;

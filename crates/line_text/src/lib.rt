@@ -47,7 +47,7 @@ pub fn put_two(out: &mut [u8], at: usize, code: u32, x: u64) -> usize
 }
 
 // A code and two numbers (R152).
-pub fn put_three(out: &mut [u8], at: usize, code: u32, x: u64, y: u64) -> usize
+fn put_three(out: &mut [u8], at: usize, code: u32, x: u64, y: u64) -> usize
     requires { ⌜ at + 64 ≤ length (now out) ⌝ }
     requires { ⌜ code < 256 ⌝ }
     ensures { λ r. ⌜ Wrote (now (out .entry)) at 45 (textOf (code ∷ x ∷ y ∷ [])) r (now (out .exit)) ⌝ }

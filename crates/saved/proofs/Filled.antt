@@ -1,14 +1,15 @@
 -- Columns that are filled row by row. Assumes nothing.
-use mathlib.Core.Path.{_≡_, ap, _∙_}
+use mathlib.Core.Path.{_≡_, refl, ap, _∙_}
 use mathlib.Core.List.{List}
-use Prim.Native.Nat.{ℕ, _+_, _<_, _≤_}
+use Prim.Native.Nat.{ℕ, zero, suc, _+_, _<_, _≤_}
+use native.Mathlib.Numerals.{add-one}
 use native.Mathlib.Omega.{arith}
-use lib.ListN.{length, set}
+use lib.ListN.{length, set, length-set}
 use lib.Seq.{getD-set-same, getD-set-other}
 use borrow.Author.Count.{below-more}
 use Rattle.rules.specs.Saved.{nodeAt, behind}
 use Rattle.saved.specs.Scan.{startOf}
-use Rattle.saved.specs.Columns.{keyAt, Column, Columns, Among}
+use Rattle.saved.specs.Columns.{keyAt, numberOf, keyOf, filled, Fills, Column, Columns, Among}
 
 -- one more cell
 column-more : (f : ℕ → ℕ) (i : ℕ) (c : List ℕ) (v : ℕ) → i < length c → Column f i c → v ≡ f i → Column f (i + 1) (set c i v)
@@ -16,16 +17,47 @@ column-more f i c v l h e =
     below-more _ _ (λ j k. getD-set-other c i j v 0 (λ g. omega arith) ∙ h j k) (getD-set-same c i v 0 l ∙ e)
 
 -- none yet
-pub none-filled : (b s n c : List ℕ) → Columns b 0 s n c
-none-filled b s n c = record { starts = λ j l. absurd (omega arith); numbers = λ j l. absurd (omega arith); keys = λ j l. absurd (omega arith) }
+pub none-filled : (b s n c : List ℕ) → Fills b 0 s n c s n c
+unfolding filled
+none-filled b s n c = record { starts = refl; numbers = refl; keys = refl }
+
+cell-filled : (f : ℕ → ℕ) (i : ℕ) (c c′ : List ℕ) (v : ℕ) → c′ ≡ filled f i c → v ≡ f i → set c′ i v ≡ filled f (i + 1) c
+unfolding filled
+cell-filled f i c c′ v e g = rw (add-one, e, g)
 
 -- one more row
-pub row-filled : (b s n c : List ℕ) (i at number key : ℕ) → i < length s → i < length n → i < length c → Columns b i s n c
-    → at ≡ startOf b i → number ≡ nodeAt b at .number → key ≡ keyAt b at → Columns b (i + 1) (set s i at) (set n i number) (set c i key)
-row-filled b s n c i at number key ls ln lc t e f g = record {
-  starts = column-more _ i s at ls (t .starts) e;
-  numbers = column-more _ i n number ln (t .numbers) (f ∙ ap (λ (x : ℕ). nodeAt b x .number) e);
-  keys = column-more _ i c key lc (t .keys) (g ∙ ap (keyAt b) e);
+pub row-filled : (b s n c s′ n′ c′ : List ℕ) (i at number key : ℕ) → Fills b i s n c s′ n′ c′
+    → at ≡ startOf b i → number ≡ nodeAt b at .number → key ≡ keyAt b at → Fills b (i + 1) s n c (set s′ i at) (set n′ i number) (set c′ i key)
+row-filled b s n c s′ n′ c′ i at number key t e f g = record {
+  starts = cell-filled (startOf b) i s s′ at (t .starts) e;
+  numbers = cell-filled (numberOf b) i n n′ number (t .numbers) (f ∙ ap (λ (x : ℕ). nodeAt b x .number) e);
+  keys = cell-filled (keyOf b) i c c′ key (t .keys) (g ∙ ap (keyAt b) e);
+}
+
+-- all of them
+pub all-filled : (b s n c s′ n′ c′ : List ℕ) (k i : ℕ) → i ≤ k → k ≤ i → Fills b i s n c s′ n′ c′ → Fills b k s n c s′ n′ c′
+all-filled b s n c s′ n′ c′ k i g h t = let e : i ≡ k = omega arith in rw e at t
+
+-- ---- what they hold
+
+filled-length : (f : ℕ → ℕ) (k : ℕ) (c : List ℕ) → length (filled f k c) ≡ length c
+unfolding filled
+filled-length f zero c = refl
+filled-length f (suc k) c = simp length-set (filled-length f k c)
+
+filled-column : (f : ℕ → ℕ) (k : ℕ) (c : List ℕ) → k ≤ length c → Column f k (filled f k c)
+unfolding filled
+filled-column f zero c h = λ j l. absurd (omega arith)
+filled-column f (suc k) c h = rw add-one at (column-more f k (filled f k c) (f k) (omega (arith, filled-length f k c)) (filled-column f k c (omega arith)) refl)
+
+column-by : (f : ℕ → ℕ) (k : ℕ) (c c′ : List ℕ) → k ≤ length c → c′ ≡ filled f k c → Column f k c′
+column-by f k c c′ h e = rw e (filled-column f k c h)
+
+pub columns : (b s n c s′ n′ c′ : List ℕ) (k : ℕ) → k ≤ length s → k ≤ length n → k ≤ length c → Fills b k s n c s′ n′ c′ → Columns b k s′ n′ c′
+columns b s n c s′ n′ c′ k hs hn hc t = record {
+  starts = column-by (startOf b) k s s′ hs (t .starts);
+  numbers = column-by (numberOf b) k n n′ hn (t .numbers);
+  keys = column-by (keyOf b) k c c′ hc (t .keys);
 }
 
 -- the first of them

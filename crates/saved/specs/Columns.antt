@@ -3,7 +3,7 @@ use Prim.Native.Nat.{ℕ, zero, suc, _+_, _-_, _%_, _^_, _<_, _≤_}
 use mathlib.Core.Path.{_≡_}
 use mathlib.Core.Bool.{Bool, _||_}
 use mathlib.Core.List.{List}
-use lib.ListN.{length, getD}
+use lib.ListN.{length, getD, set}
 use lib.Dec.{eqb}
 use Rattle.rules.specs.Numbers.{rootNumber}
 use Rattle.rules.specs.Fields.{get}
@@ -19,20 +19,41 @@ unfoldable pub listed : ℕ → List ℕ → ℕ → Bool
 listed x c zero = eqb x rootNumber
 listed x c (suc i) = eqb (getD c i 0) x || listed x c i
 
+-- ---- the columns of the first k records
+
+-- the number of record j
+abbrev pub numberOf : List ℕ → ℕ → ℕ
+numberOf b j = nodeAt b (startOf b j) .number
+
+-- its key
+abbrev pub keyOf : List ℕ → ℕ → ℕ
+keyOf b j = keyAt b (startOf b j)
+
+-- with what f says put into the first k cells
+unfoldable pub filled : (ℕ → ℕ) → ℕ → List ℕ → List ℕ
+filled f zero c = c
+filled f (suc k) c = set (filled f k c) k (f k)
+
+-- filled, where s, n and c stood: where each record starts, its number, its key
+pub record Fills (b : List ℕ) (k : ℕ) (s n c s′ n′ c′ : List ℕ) : Type 0 where
+  pub starts : s′ ≡ filled (startOf b) k s
+  pub numbers : n′ ≡ filled (numberOf b) k n
+  pub keys : c′ ≡ filled (keyOf b) k c
+
 -- the first k cells are what f says
 abbrev pub Column : (ℕ → ℕ) → ℕ → List ℕ → Type 0
 Column f k c = (j : ℕ) → j < k → getD c j 0 ≡ f j
 
--- of the first k records: where each starts, its number, its key
+-- what filled columns hold
 pub record Columns (b : List ℕ) (k : ℕ) (s n c : List ℕ) : Type 0 where
-  pub starts : Column (λ (j : ℕ). startOf b j) k s
-  pub numbers : Column (λ (j : ℕ). nodeAt b (startOf b j) .number) k n
-  pub keys : Column (λ (j : ℕ). keyAt b (startOf b j)) k c
+  pub starts : Column (startOf b) k s
+  pub numbers : Column (numberOf b) k n
+  pub keys : Column (keyOf b) k c
 
 -- record i stands at a place within the bytes, and the columns know those before it
 pub record Among (b : List ℕ) (at i : ℕ) (s c : List ℕ) : Type 0 where
   pub here : at ≡ startOf b i
   pub whole : behind b at ≤ length b
   pub few : i ≤ 1023
-  pub starts : Column (λ (j : ℕ). startOf b j) i s
-  pub keys : Column (λ (j : ℕ). keyAt b (startOf b j)) i c
+  pub starts : Column (startOf b) i s
+  pub keys : Column (keyOf b) i c

@@ -6,7 +6,7 @@ ghost use Prim.Native.Nat.{_≤_};
 ghost use lib.ListN.{length};
 ghost use Rattle.rules.specs.Saved.{nodeAt, nodesAt, behind, goodName, used, accepted};
 ghost use Rattle.saved.specs.Scan.{startOf, earlier, sound, placed, allPlaced, framed, soundTo, twin};
-ghost use Rattle.saved.specs.Columns.{keyAt, listed, Among, Columns};
+ghost use Rattle.saved.specs.Columns.{keyAt, listed, Fills, Among, Columns};
 
 pub mod inner;
 
@@ -236,7 +236,7 @@ fn all_placed(
 // Puts down where each of the first k records starts, its number and its key.
 fn fill(b: &[u8], k: usize, starts: &mut [usize], numbers: &mut [u64], keys: &mut [u64])
     requires { ⌜ (startOf (now b) k ≤ length (now b)) × (k ≤ length (now starts)) × (k ≤ length (now numbers)) × (k ≤ length (now keys)) ⌝ }
-    ensures { λ _. ⌜ Columns (now (b .entry)) k (now (starts .exit)) (now (numbers .exit)) (now (keys .exit)) ⌝ }
+    ensures { λ _. ⌜ Fills (now (b .entry)) k (now (starts .entry)) (now (numbers .entry)) (now (keys .entry)) (now (starts .exit)) (now (numbers .exit)) (now (keys .exit)) ⌝ }
 {
     let mut at = 0;
     let mut i = 0;

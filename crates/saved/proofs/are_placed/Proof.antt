@@ -5,6 +5,7 @@ use Prim.Native.Nat.{_≤_}
 use native.Mathlib.Omega.{arith}
 use denote.Ref.{now}
 use Rattle.saved.proofs.Walk.{starts-up}
+use Rattle.saved.proofs.Filled.{columns}
 use Rattle.saved.proofs.are_placed.Statement.{statement}
 use Rattle.saved.proofs.are_placed.Tie as tie
 
@@ -19,7 +20,7 @@ all-placed-requires : tie.Need-all-placed-requires
 all-placed-requires c κs =
     let k = c .before .before .before .before .before .before .before .before .before .before .if1 .k in
     let f : k ≤ 1023 = ⊎-elim (λ w. omega arith) (λ w. omega arith) (c .before .before .before .before .before .before .before .before .before .before .if1 .came) in
-    ((c .before .before .before .before .before .before .before .before .before .before .before .before .pre, f), c .before .before .before .before .before .before .fill .ensures)
+    ((c .before .before .before .before .before .before .before .before .before .before .before .before .pre, f), columns _ _ _ _ _ _ _ _ f f f (c .before .before .before .before .before .before .fill .ensures))
 
 pub are-placed-spec : {M : Type 1} → statement M
 are-placed-spec =

@@ -6,14 +6,14 @@ use native.Mathlib.Omega.{arith}
 use lib.ListN.{length}
 use denote.Ref.{now}
 use Rattle.saved.specs.Scan.{startOf}
-use Rattle.saved.specs.Columns.{Columns}
+use Rattle.saved.specs.Columns.{Fills}
 use Rattle.saved.proofs.Walk.{start-next, within}
-use Rattle.saved.proofs.Filled.{none-filled, row-filled, fewer}
+use Rattle.saved.proofs.Filled.{none-filled, row-filled, all-filled}
 use Rattle.saved.proofs.fill.Statement.{statement}
 use Rattle.saved.proofs.fill.Tie as tie
 
 abbrev Inv-loop : tie.InvT-loop
-Inv-loop b k starts₀ numbers₀ keys₀ at₀ i₀ starts numbers keys at i = (i ≤ k) × (at ≡ startOf b i) × Columns b i starts numbers keys × (length starts ≡ length starts₀) × (length numbers ≡ length numbers₀) × (length keys ≡ length keys₀)
+Inv-loop b k starts₀ numbers₀ keys₀ at₀ i₀ starts numbers keys at i = (i ≤ k) × (at ≡ startOf b i) × Fills b i starts₀ numbers₀ keys₀ starts numbers keys × (length starts ≡ length starts₀) × (length numbers ≡ length numbers₀) × (length keys ≡ length keys₀)
 
 abbrev μ-loop : tie.MeasureT-loop
 μ-loop b k starts₀ numbers₀ keys₀ at₀ i₀ starts numbers keys at i = k - i
@@ -45,7 +45,7 @@ loop-again c =
     let l = c .before .before .before .before .loop in (
       omega arith,
       c .record-end .ensures ∙ start-next _ (l .i) (l .at) (l .inv .1),
-      row-filled _ _ _ _ (l .i) (l .at) _ _ (omega arith) (omega arith) (omega arith) (l .inv .2) (l .inv .1) (c .before .before .number-at .ensures) (c .before .key-at .ensures),
+      row-filled _ _ _ _ _ _ _ (l .i) (l .at) _ _ (l .inv .2) (l .inv .1) (c .before .before .number-at .ensures) (c .before .key-at .ensures),
       search needs,
       search needs,
       search needs,
@@ -54,7 +54,7 @@ loop-again c =
 returns : tie.Need-returns Inv-loop μ-loop
 returns c =
     let l = c .before .loop in
-    fewer _ _ _ _ _ (l .i) (c .loop-test .left) (l .inv .2)
+    all-filled _ _ _ _ _ _ _ _ (l .i) (l .inv .0) (c .loop-test .left) (l .inv .2)
 
 pub fill-spec : {M : Type 1} → statement M
 fill-spec =
