@@ -36,7 +36,7 @@ pub fn has_unknown(s: &[u8], b: &[u8]) -> bool
     requires { ⌜ 56 ≤ length (now b) ⌝ }
     ensures { λ r. ⌜ r ≡ unknown (view (now (s .entry)) .fixed .known) (stateOf (now (b .entry)) .options) ⌝ }
 {
-    let known = le::fields::get_u64(s, 32);
+    let known = le::fields::get_u64(s, tables::header::KNOWN_AT);
     let o = saved::inner::options_of(b);
     storage::inner::is_unknown(known, o.in_opts, o.out_opts)
 }
@@ -63,7 +63,7 @@ fn load_record(s: &mut [u8], b: &[u8], at: usize)
     let end = saved::inner::record_end(b, at);
     let number = saved::inner::number_at(b, at);
     let above = saved::inner::parent_at(b, at);
-    le::fields::put_u64(s, 24, number);
+    le::fields::put_u64(s, tables::header::NEXT_AT, number);
     tables::rows::append(s, above, &b[start..end]);
 }
 
@@ -89,12 +89,12 @@ fn put_options(s: &mut [u8], o: SavedOptions)
     requires { ⌜ 8192 ≤ length (now s) ⌝ }
     ensures { λ _. ⌜ now (s .exit) ≡ setOptions (meant o) (now (s .entry)) ⌝ }
 {
-    le::fields::put_u64(s, 40, o.in_opts);
-    le::fields::put_u64(s, 48, o.out_opts);
-    le::fields::put_u32(s, 68, o.internal);
-    le::fields::put_u32(s, 72, o.external);
-    le::fields::put_u32(s, 76, o.range);
-    le::fields::put_u8(s, 80, o.flags);
+    le::fields::put_u64(s, tables::header::IN_OPTS_AT, o.in_opts);
+    le::fields::put_u64(s, tables::header::OUT_OPTS_AT, o.out_opts);
+    le::fields::put_u32(s, tables::header::OWN_INTERNAL_AT, o.internal);
+    le::fields::put_u32(s, tables::header::OWN_EXTERNAL_AT, o.external);
+    le::fields::put_u32(s, tables::header::OWN_RANGE_AT, o.range);
+    le::fields::put_u8(s, tables::header::FLAGS_AT, o.flags);
 }
 
 // 1 where a bit is set, else 0.
@@ -113,10 +113,10 @@ fn put_state(s: &mut [u8], next: u64, counter: u8, o: SavedOptions)
     ensures { λ _. ⌜ now (s .exit) ≡ setState next counter (meant o) (now (s .entry)) ⌝ }
 {
     let initialized = has_bits(o.in_opts);
-    le::fields::put_u64(s, 24, next);
+    le::fields::put_u64(s, tables::header::NEXT_AT, next);
     put_options(s, o);
-    le::fields::put_u8(s, 81, counter);
-    le::fields::put_u8(s, 83, initialized);
+    le::fields::put_u8(s, tables::header::COUNTER_AT, counter);
+    le::fields::put_u8(s, tables::header::INITIALIZED_AT, initialized);
 }
 
 // The state of bytes that are accepted, where there is room for its records (R134).

@@ -24,14 +24,14 @@ pub fn options_in(s: &[u8]) -> VfsOptions
     ensures { λ r. ⌜ optionsIn r ≡ optionsFrom (headOf (now (s .entry))) ⌝ }
 {
     let mapping = id_map::IdMapping {
-        internal: le::fields::get_u32(s, 68),
-        external: le::fields::get_u32(s, 72),
-        range: le::fields::get_u32(s, 76),
+        internal: le::fields::get_u32(s, tables::header::OWN_INTERNAL_AT),
+        external: le::fields::get_u32(s, tables::header::OWN_EXTERNAL_AT),
+        range: le::fields::get_u32(s, tables::header::OWN_RANGE_AT),
     };
     VfsOptions {
-        in_opts: le::fields::get_u64(s, 40),
-        out_opts: le::fields::get_u64(s, 48),
+        in_opts: le::fields::get_u64(s, tables::header::IN_OPTS_AT),
+        out_opts: le::fields::get_u64(s, tables::header::OUT_OPTS_AT),
         mapping,
-        flags: le::fields::get_u8(s, 80),
+        flags: le::fields::get_u8(s, tables::header::FLAGS_AT),
     }
 }

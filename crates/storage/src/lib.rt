@@ -55,9 +55,6 @@ const MARK: u64 = 5927113483044536647;
 // The flags are below this (R29, R122).
 const FLAGS: u8 = 64;
 
-// Where the column of tags stands.
-const TAGS: usize = 512;
-
 // Whether N is outside its limits or the bytes are too few for it (R9, R20).
 fn is_small(bytes: usize, n: u64) -> bool
     ensures { λ r. ⌜ r ≡ tooSmall bytes n ⌝ }
@@ -88,24 +85,27 @@ pub fn is_laid(s: &[u8]) -> bool
     if s.len() < tables::rows::TABLE {
         return false;
     }
-    if le::fields::get_u64(s, 0) != MARK {
+    if le::fields::get_u64(s, tables::header::MARK_AT) != MARK {
         return false;
     }
-    let n = le::fields::get_u64(s, 8);
+    let n = le::fields::get_u64(s, tables::header::CAPACITY_AT);
     if is_small(s.len(), n) {
         return false;
     }
-    if n <= le::fields::get_u64(s, 16) {
+    if n <= le::fields::get_u64(s, tables::header::COUNT_AT) {
         return false;
     }
-    let next = le::fields::get_u64(s, 24);
+    let next = le::fields::get_u64(s, tables::header::NEXT_AT);
     if next < rules::FIRST_NODE {
         return false;
     }
     if rules::NUMBERS < next {
         return false;
     }
-    if has_bad(le::fields::get_u64(s, 32), inner::options_in(s)) {
+    if has_bad(
+        le::fields::get_u64(s, tables::header::KNOWN_AT),
+        inner::options_in(s),
+    ) {
         return false;
     }
     !id_map::is_bad(tables::header::mapping(s))
@@ -118,7 +118,7 @@ fn put_tags(s: &mut [u8], tags: &[u32])
 {
     let mut k = 0;
     while k < tags.len() {
-        le::fields::put_u32(s, TAGS + 4 * k, tags[k]);
+        le::fields::put_u32(s, tables::slots::TAGS_AT + 4 * k, tags[k]);
         k += 1;
     }
 }
@@ -129,7 +129,7 @@ fn put_slots(s: &mut [u8])
     ensures { λ _. ⌜ now (s .exit) ≡ emptySlots (now (s .entry)) ⌝ }
 {
     let t = index::new();
-    le::runs::copy_at(s, 256, &t.used);
+    le::runs::copy_at(s, tables::slots::HELD_AT, &t.used);
     put_tags(s, &t.tags);
 }
 
@@ -138,13 +138,13 @@ fn put_words(s: &mut [u8], n: u64, known: u64, in_opts: u64, out_opts: u64)
     requires { ⌜ 8192 ≤ length (now s) ⌝ }
     ensures { λ _. ⌜ now (s .exit) ≡ putHeader 0 (bytesOf 8 mark ∷ bytesOf 8 n ∷ bytesOf 8 0 ∷ bytesOf 8 2 ∷ bytesOf 8 known ∷ bytesOf 8 «in_opts» ∷ bytesOf 8 «out_opts» ∷ []) (now (s .entry)) ⌝ }
 {
-    le::fields::put_u64(s, 0, MARK);
-    le::fields::put_u64(s, 8, n);
-    le::fields::put_u64(s, 16, 0);
-    le::fields::put_u64(s, 24, rules::FIRST_NODE);
-    le::fields::put_u64(s, 32, known);
-    le::fields::put_u64(s, 40, in_opts);
-    le::fields::put_u64(s, 48, out_opts);
+    le::fields::put_u64(s, tables::header::MARK_AT, MARK);
+    le::fields::put_u64(s, tables::header::CAPACITY_AT, n);
+    le::fields::put_u64(s, tables::header::COUNT_AT, 0);
+    le::fields::put_u64(s, tables::header::NEXT_AT, rules::FIRST_NODE);
+    le::fields::put_u64(s, tables::header::KNOWN_AT, known);
+    le::fields::put_u64(s, tables::header::IN_OPTS_AT, in_opts);
+    le::fields::put_u64(s, tables::header::OUT_OPTS_AT, out_opts);
 }
 
 // A mapping at a place: internal, external, range.
@@ -162,11 +162,11 @@ fn put_bytes(s: &mut [u8], flags: u8)
     requires { ⌜ 8192 ≤ length (now s) ⌝ }
     ensures { λ _. ⌜ now (s .exit) ≡ putHeader 13 (bytesOf 1 flags ∷ bytesOf 1 1 ∷ bytesOf 1 0 ∷ bytesOf 1 0 ∷ bytesOf 8 0 ∷ []) (now (s .entry)) ⌝ }
 {
-    le::fields::put_u8(s, 80, flags);
-    le::fields::put_u8(s, 81, 1);
-    le::fields::put_u8(s, 82, 0);
-    le::fields::put_u8(s, 83, 0);
-    le::fields::put_u64(s, 88, 0);
+    le::fields::put_u8(s, tables::header::FLAGS_AT, flags);
+    le::fields::put_u8(s, tables::header::COUNTER_AT, 1);
+    le::fields::put_u8(s, tables::header::REMOVAL_AT, 0);
+    le::fields::put_u8(s, tables::header::INITIALIZED_AT, 0);
+    le::fields::put_u64(s, tables::header::ROOT_CELL_AT, 0);
 }
 
 // All that a new instance has in the bytes (R31 to R34).
@@ -231,7 +231,7 @@ pub fn initialized(s: &[u8]) -> IsInitialized
     if !is_laid(s) {
         return IsInitialized::Small;
     }
-    IsInitialized::Is(le::fields::get_u8(s, 83) != 0)
+    IsInitialized::Is(le::fields::get_u8(s, tables::header::INITIALIZED_AT) != 0)
 }
 
 // The options, with their own mapping (R27, R34).

@@ -8,12 +8,57 @@ ghost use Rattle.tables.specs.View.{flag, mappingFrom, headOf};
 ghost use Rattle.tables.specs.Rule.{Laid};
 ghost use Rattle.tables.specs.Write.{setCounter, setRemoval};
 
+// Where each number stands (docs/LAYOUT.md).
+pub const MARK_AT: usize = 0;
+
+pub const CAPACITY_AT: usize = 8;
+
+pub const COUNT_AT: usize = 16;
+
+pub const NEXT_AT: usize = 24;
+
+pub const KNOWN_AT: usize = 32;
+
+pub const IN_OPTS_AT: usize = 40;
+
+pub const OUT_OPTS_AT: usize = 48;
+
+pub const FLAGS_AT: usize = 80;
+
+pub const COUNTER_AT: usize = 81;
+
+pub const REMOVAL_AT: usize = 82;
+
+pub const INITIALIZED_AT: usize = 83;
+
+// The mapping in force, and the options' own (R34).
+pub const INTERNAL_AT: usize = 56;
+
+pub const EXTERNAL_AT: usize = 60;
+
+pub const RANGE_AT: usize = 64;
+
+pub const OWN_INTERNAL_AT: usize = 68;
+
+pub const OWN_EXTERNAL_AT: usize = 72;
+
+pub const OWN_RANGE_AT: usize = 76;
+
+// The root's mount.
+pub const ROOT_CELL_AT: usize = 88;
+
+pub const ROOT_UID_AT: usize = 96;
+
+pub const ROOT_GID_AT: usize = 100;
+
+pub const ROOT_MODE_AT: usize = 104;
+
 // N (R9).
 pub fn capacity(s: &[u8]) -> usize
     requires { ⌜ Laid (now s) ⌝ }
     ensures { λ r. ⌜ r ≡ capacityOf (now (s .entry)) ⌝ }
 {
-    le::fields::get_u64(s, 8) as usize
+    le::fields::get_u64(s, CAPACITY_AT) as usize
 }
 
 // How many nodes are live besides the root (R51).
@@ -21,7 +66,7 @@ pub fn count(s: &[u8]) -> usize
     requires { ⌜ Laid (now s) ⌝ }
     ensures { λ r. ⌜ r ≡ countOf (now (s .entry)) ⌝ }
 {
-    le::fields::get_u64(s, 16) as usize
+    le::fields::get_u64(s, COUNT_AT) as usize
 }
 
 // The next number (R49).
@@ -29,7 +74,7 @@ pub fn next(s: &[u8]) -> u64
     requires { ⌜ Laid (now s) ⌝ }
     ensures { λ r. ⌜ r ≡ nextOf (now (s .entry)) ⌝ }
 {
-    le::fields::get_u64(s, 24)
+    le::fields::get_u64(s, NEXT_AT)
 }
 
 // The counter (R80).
@@ -37,7 +82,7 @@ pub fn counter(s: &[u8]) -> u8
     requires { ⌜ 8192 ≤ length (now s) ⌝ }
     ensures { λ r. ⌜ r ≡ counterAt (now (s .entry)) ⌝ }
 {
-    le::fields::get_u8(s, 81)
+    le::fields::get_u8(s, COUNTER_AT)
 }
 
 // The counter is set (R83).
@@ -45,7 +90,7 @@ pub fn set_counter(s: &mut [u8], c: u8)
     requires { ⌜ 8192 ≤ length (now s) ⌝ }
     ensures { λ _. ⌜ now (s .exit) ≡ setCounter c (now (s .entry)) ⌝ }
 {
-    le::fields::put_u8(s, 81, c);
+    le::fields::put_u8(s, COUNTER_AT, c);
 }
 
 // Whether an unmount takes its node out of the tree (R32).
@@ -53,7 +98,7 @@ pub fn removes(s: &[u8]) -> bool
     requires { ⌜ 8192 ≤ length (now s) ⌝ }
     ensures { λ r. ⌜ r ≡ flag 15 (headOf (now (s .entry))) ⌝ }
 {
-    le::fields::get_u8(s, 82) != 0
+    le::fields::get_u8(s, REMOVAL_AT) != 0
 }
 
 // `remove_pseudo_root` is set (R32).
@@ -61,7 +106,7 @@ pub fn set_removes(s: &mut [u8])
     requires { ⌜ 8192 ≤ length (now s) ⌝ }
     ensures { λ _. ⌜ now (s .exit) ≡ setRemoval (now (s .entry)) ⌝ }
 {
-    le::fields::put_u8(s, 82, 1);
+    le::fields::put_u8(s, REMOVAL_AT, 1);
 }
 
 // The mapping in force (R34).
@@ -70,8 +115,8 @@ pub fn mapping(s: &[u8]) -> id_map::IdMapping
     ensures { λ r. ⌜ mappingOf r ≡ mappingFrom 7 (headOf (now (s .entry))) ⌝ }
 {
     id_map::IdMapping {
-        internal: le::fields::get_u32(s, 56),
-        external: le::fields::get_u32(s, 60),
-        range: le::fields::get_u32(s, 64),
+        internal: le::fields::get_u32(s, INTERNAL_AT),
+        external: le::fields::get_u32(s, EXTERNAL_AT),
+        range: le::fields::get_u32(s, RANGE_AT),
     }
 }

@@ -48,10 +48,10 @@ pub fn of_root(s: &[u8]) -> MountOn
     ensures { λ r. ⌜ mountIn r ≡ view (now (s .entry)) .tree .root ⌝ }
 {
     spelt(
-        le::fields::get_u64(s, 88),
-        le::fields::get_u32(s, 96),
-        le::fields::get_u32(s, 100),
-        le::fields::get_u32(s, 104),
+        le::fields::get_u64(s, crate::header::ROOT_CELL_AT),
+        le::fields::get_u32(s, crate::header::ROOT_UID_AT),
+        le::fields::get_u32(s, crate::header::ROOT_GID_AT),
+        le::fields::get_u32(s, crate::header::ROOT_MODE_AT),
     )
 }
 
@@ -124,10 +124,10 @@ fn put_root(s: &mut [u8], m: MountPoint)
     ensures { λ _. ⌜ now (s .exit) ≡ setRootMount (some (mountOfPoint m)) (now (s .entry)) ⌝ }
 {
     let word = (m.fs_idx as u64) * rules::NUMBERS + m.ino;
-    le::fields::put_u64(s, 88, word);
-    le::fields::put_u32(s, 96, m.uid);
-    le::fields::put_u32(s, 100, m.gid);
-    le::fields::put_u32(s, 104, m.mode);
+    le::fields::put_u64(s, crate::header::ROOT_CELL_AT, word);
+    le::fields::put_u32(s, crate::header::ROOT_UID_AT, m.uid);
+    le::fields::put_u32(s, crate::header::ROOT_GID_AT, m.gid);
+    le::fields::put_u32(s, crate::header::ROOT_MODE_AT, m.mode);
 }
 
 // Row i has that mount.
@@ -169,7 +169,7 @@ pub fn clear(s: &mut [u8], x: u64, row: Row)
     ensures { λ _. ⌜ now (s .exit) ≡ nodeMountMem (nodesOf (now (s .entry))) none x (now (s .entry)) ⌝ }
 {
     if x == rules::ROOT_ID {
-        le::fields::put_u64(s, 88, 0);
+        le::fields::put_u64(s, crate::header::ROOT_CELL_AT, 0);
         return;
     }
     let n = crate::header::capacity(s);

@@ -203,8 +203,8 @@ pub fn append(s: &mut [u8], above: u64, name: &[u8])
     let c = crate::header::count(s);
     let x = crate::header::next(s);
     put_node(s, n, c, x, above, name);
-    le::fields::put_u64(s, 16, (c + 1) as u64);
-    le::fields::put_u64(s, 24, x + 1);
+    le::fields::put_u64(s, crate::header::COUNT_AT, (c + 1) as u64);
+    le::fields::put_u64(s, crate::header::NEXT_AT, x + 1);
 }
 
 // The m rows from row k + 1 on go down by one.
@@ -231,5 +231,5 @@ pub fn remove(s: &mut [u8], i: usize)
     let n = crate::header::capacity(s);
     let c = crate::header::count(s);
     close_up(s, n, i, c - 1 - i);
-    le::fields::put_u64(s, 16, (c - 1) as u64);
+    le::fields::put_u64(s, crate::header::COUNT_AT, (c - 1) as u64);
 }

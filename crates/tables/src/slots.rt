@@ -11,6 +11,11 @@ ghost use Rattle.tables.specs.View.{slotAt};
 ghost use Rattle.tables.specs.Write.{setSlot};
 ghost use Rattle.tables.specs.Answer.{tagIn, heldAt};
 
+// Where the column of held or not stands, and that of the tags (docs/LAYOUT.md).
+pub const HELD_AT: usize = 256;
+
+pub const TAGS_AT: usize = 512;
+
 // What a slot holds (R56).
 pub enum Tag {
     Held(u32),
@@ -23,10 +28,10 @@ pub fn tag_of(s: &[u8], k: u8) -> Tag
     ensures { λ r. ⌜ tagIn r ≡ tagInSlot (slotAt (now (s .entry)) k) ⌝ }
 {
     let at = k as usize;
-    if le::fields::get_u8(s, 256 + at) == 0 {
+    if le::fields::get_u8(s, HELD_AT + at) == 0 {
         return Tag::Empty;
     }
-    Tag::Held(le::fields::get_u32(s, 512 + 4 * at))
+    Tag::Held(le::fields::get_u32(s, TAGS_AT + 4 * at))
 }
 
 // Slot k holds the tag (R76).
@@ -35,8 +40,8 @@ pub fn hold(s: &mut [u8], k: u8, tag: u32)
     ensures { λ _. ⌜ now (s .exit) ≡ setSlot k true tag (now (s .entry)) ⌝ }
 {
     let at = k as usize;
-    le::fields::put_u8(s, 256 + at, 1);
-    le::fields::put_u32(s, 512 + 4 * at, tag);
+    le::fields::put_u8(s, HELD_AT + at, 1);
+    le::fields::put_u32(s, TAGS_AT + 4 * at, tag);
 }
 
 // Slot k is empty, without a tag (R56).
@@ -45,8 +50,8 @@ pub fn free(s: &mut [u8], k: u8)
     ensures { λ _. ⌜ now (s .exit) ≡ setSlot k false 0 (now (s .entry)) ⌝ }
 {
     let at = k as usize;
-    le::fields::put_u8(s, 256 + at, 0);
-    le::fields::put_u32(s, 512 + 4 * at, 0);
+    le::fields::put_u8(s, HELD_AT + at, 0);
+    le::fields::put_u32(s, TAGS_AT + 4 * at, 0);
 }
 
 // The first free index going round from the counter on (R80 to R84).
@@ -55,5 +60,5 @@ pub fn search(s: &[u8]) -> index::Allocated
     ensures { λ r. ⌜ readOf r ≡ told (allocate (heldAt (now (s .entry))) (counterAt (now (s .entry)))) ⌝ }
 {
     let c = crate::header::counter(s);
-    index::allocate_fs_idx(&s[256..512], c)
+    index::allocate_fs_idx(&s[HELD_AT..TAGS_AT], c)
 }
