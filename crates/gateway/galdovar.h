@@ -166,11 +166,11 @@ typedef struct GaldovarFsIndexes {
 } GaldovarFsIndexes;
 
 /* A step of the allocator (R80 to R84). */
-typedef struct GaldovarStep {
-    uint32_t code;  /* 0, or FULL */
-    uint32_t index; /* the index handed out, 1 to 255 */
-    uint32_t count; /* how many indexes were visited; FULL has 257 */
-} GaldovarStep;
+typedef struct GaldovarAllocateAnswer {
+    uint32_t code;   /* 0, or FULL */
+    uint32_t fs_idx; /* the index handed out, 1 to 255 */
+    uint32_t count;  /* how many indexes were visited; FULL has 257 */
+} GaldovarAllocateAnswer;
 
 /* ---- an instance */
 
@@ -244,7 +244,7 @@ GaldovarCodeAnswer galdovar_validate_path_component(const uint8_t *name, size_t 
 
 /* Takes the next free index for a tag, in the host's own allocator: slots and counter are changed in place; FULL moves the
  * counter alone (R80 to R84, R90). t is never null, and is aligned as a struct is. */
-GaldovarStep galdovar_allocate_in(GaldovarFsIndexes *t, uint32_t tag);
+GaldovarAllocateAnswer galdovar_allocate_in(GaldovarFsIndexes *t, uint32_t tag);
 
 #ifdef __cplusplus
 }

@@ -113,9 +113,9 @@ pub struct FsIndexes {
 }
 
 #[repr(C)]
-pub struct Step {
+pub struct AllocateAnswer {
     pub code: u32,
-    pub index: u32,
+    pub fs_idx: u32,
     pub count: u32,
 }
 
@@ -218,5 +218,5 @@ extern "C" {
     pub fn galdovar_map_out(internal: u32, external: u32, range: u32, id: u32) -> u32;
     pub fn galdovar_map_back(internal: u32, external: u32, range: u32, id: u32) -> u32;
     pub fn galdovar_validate_path_component(name: *const u8, name_len: usize) -> CodeAnswer;
-    pub fn galdovar_allocate_in(t: *mut FsIndexes, tag: u32) -> Step;
+    pub fn galdovar_allocate_in(t: *mut FsIndexes, tag: u32) -> AllocateAnswer;
 }

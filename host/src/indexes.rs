@@ -49,7 +49,7 @@ impl Indexes {
     pub fn allocate_in(&mut self, tag: Tag) -> Result<Allocated, Refused> {
         let a = sys::allocate_in(&mut self.table, tag.0);
         Refused::of(a.code, a.count)?;
-        Ok(Allocated { fs_idx: a.index as u8, count: a.count })
+        Ok(Allocated { fs_idx: a.fs_idx as u8, count: a.count })
     }
 
     /// Holds a slot for a tag, and answers the tag that it held before.

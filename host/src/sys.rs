@@ -165,7 +165,7 @@ pub fn validate_path_component(name: &[u8]) -> CodeAnswer {
     unsafe { galdovar_validate_path_component(name.as_ptr(), name.len()) }
 }
 
-pub fn allocate_in(t: &mut FsIndexes, tag: u32) -> Step {
+pub fn allocate_in(t: &mut FsIndexes, tag: u32) -> AllocateAnswer {
     // SAFETY: `FsIndexes` is laid out as the header says, every pattern of it has a meaning, and `t` is lent mutably.
     unsafe { galdovar_allocate_in(t, tag) }
 }

@@ -10,8 +10,8 @@ ghost use Rattle.gateway.specs.Calls.{mappingBy};
 use flat::CodeAnswer;
 use flat::InodeAnswer;
 use id_map::IdMapping;
+use index::AllocateAnswer;
 use index::FsIndexes;
-use index::Step;
 use inode::BackendNumber;
 
 // The full number of a backend's number under its index, or INODE (R7).
@@ -58,7 +58,7 @@ pub extern "C" fn galdovar_validate_path_component(name: &[u8]) -> CodeAnswer
 
 // The allocator's step: the slots and the counter are lent together, and both are changed in place (R90).
 #[no_mangle]
-pub extern "C" fn galdovar_allocate_in(t: &mut FsIndexes, tag: u32) -> Step
+pub extern "C" fn galdovar_allocate_in(t: &mut FsIndexes, tag: u32) -> AllocateAnswer
     ensures { λ r. ⌜ Steps (now (t .entry)) tag r (now (t .exit)) ⌝ }
 {
     index::take(&mut t.used, &mut t.tags, &mut t.next_super, tag)

@@ -13,7 +13,7 @@ use Rattle.index.specs.Search.{codeFor, told}
 use Rattle.index.specs.Take.{takeRule}
 use Rattle.index.specs.Lap.{Taking, Allowed, Run, searchOf, stepOf, stepsOf, counts, EveryLapOfLent}
 use Rattle.index.specs.declared.FsIndexes.{FsIndexes}
-use Rattle.index.specs.declared.Step.{Step as Answer}
+use Rattle.index.specs.declared.AllocateAnswer.{AllocateAnswer as Answer}
 
 -- ---- one call
 
@@ -30,14 +30,14 @@ module _ (t : Taking) (a : Allowed t) where
   unfolding takeRule told
   coded = ap (λ (r : Answer). r .code) (a .answer)
 
-  indexed : t .answer .index ≡ orZero (searchOf t .found)
+  indexed : t .answer .«fs_idx» ≡ orZero (searchOf t .found)
   unfolding takeRule told
-  indexed = ap (λ (r : Answer). r .index) (a .answer)
+  indexed = ap (λ (r : Answer). r .«fs_idx») (a .answer)
 
-  handed-out : t .answer .code ≡ DONE → searchOf t .found ≡ some (t .answer .index)
+  handed-out : t .answer .code ≡ DONE → searchOf t .found ≡ some (t .answer .«fs_idx»)
   handed-out e = go (searchOf t .found) refl
     where
-      go : (o : Option ℕ) → searchOf t .found ≡ o → searchOf t .found ≡ some (t .answer .index)
+      go : (o : Option ℕ) → searchOf t .found ≡ o → searchOf t .found ≡ some (t .answer .«fs_idx»)
       go (some k) q = q ∙ ap some (sym (indexed ∙ ap orZero q))
       go none q = let z : codeFor none ≡ DONE = sym (coded ∙ ap codeFor q) ∙ e in absurd (omega arith)
 
@@ -60,5 +60,5 @@ pub laps-of-lent : EveryLapOfLent
 laps-of-lent t h a d ts r last =
     let found = handed-out t a d in
     let g : Going (searchOf t .counter) (stepsOf ts) = subst (λ n. Going n (stepsOf ts)) (moved t a) (run-goes ts (t .after .«next_super») r) in
-    let l = every-allocator (t .before .«next_super») h (stepOf t) (t .answer .index) (refl, refl) found (stepsOf ts) g last in
+    let l = every-allocator (t .before .«next_super») h (stepOf t) (t .answer .«fs_idx») (refl, refl) found (stepsOf ts) g last in
     subst (λ n. LapsBy n (stepsOf ts)) (sym (same-total ts (t .after .«next_super») r)) l

@@ -41,11 +41,11 @@ use denote.Triple.Clauses.{ensured, lasts}
 use denote.Exit.{yes}
 use Rattle.index.specs.Take.{tableOf, Steps}
 use Rattle.index.specs.declared.FsIndexes.{FsIndexes}
-use Rattle.index.specs.declared.Step.{Step}
+use Rattle.index.specs.declared.AllocateAnswer.{AllocateAnswer}
 use Rattle.index.proofs.FsIndexes as T
 use Rattle.index.proofs.FsIndexes.Laws as T′
-use Rattle.index.proofs.Step as R
-use Rattle.index.proofs.Step.Laws as R′
+use Rattle.index.proofs.AllocateAnswer as R
+use Rattle.index.proofs.AllocateAnswer.Laws as R′
 use Rattle.index.proofs.take as take
 use Rattle.index.proofs.take.Symbol.{name as #index·take}
 use Rattle.index.proofs.Lent.{Names, refAt, Lent, Kept, lends, comes-back}
@@ -78,7 +78,7 @@ Sends 𝓤 H Å W tag sent = (K : Type 0) (Γ : List (Item 𝓤)) (E : Env 𝓤 
 
 -- the step for the tag that is sent is the step for the caller's
 abbrev pub Same : (ℕ → ℕ) → Type 0
-Same sent = (h : FsIndexes) (n : ℕ) (r : Step) (h′ : FsIndexes) → Steps h (sent n) r h′ → Steps h n r h′
+Same sent = (h : FsIndexes) (n : ℕ) (r : AllocateAnswer) (h′ : FsIndexes) → Steps h (sent n) r h′ → Steps h n r h′
 
 -- the contract that the proof cites
 abbrev pub Take : {M : Type 1} (𝓤 : URA M) (H : Heap 𝓤) (Å : Atoms 𝓤) (at-mem : Memory → SProp 𝓤) (run : Routine → Fun 𝓤) → Contract 𝓤
@@ -94,7 +94,7 @@ module _ {M : Type 1} (𝓤 : URA M) (H : Heap 𝓤) (Å : Atoms 𝓤) (W : Give
   abbrev Post : Val → SProp 𝓤
   Post = walkOf 𝓤 H Å allocate-in.ended stayed (allocate-in.clauses 𝓤 H Å at-mem run) .post (((κ, tt), (q, tt), tt, x, at), tt)
 
-  exits : (r : Step) (v : Val) (h′ : FsIndexes) → Steps h n r h′ → n < 2 ^ 32
+  exits : (r : AllocateAnswer) (v : Val) (h′ : FsIndexes) → Steps h n r h′ → n < 2 ^ 32
       → ent 𝓤 (sep 𝓤 (Å .obs γ (T.the-row .coded .code h′)) (sep 𝓤 (Å .bor κ (Body (mem T.the-row) b o γ)) (sep 𝓤 (Å .lft κ q) (sem 𝓤 H Å (R.the-row .own r (v ∷ [])))))) (Post v)
   exits r v h′ e fits =
       qed W (‵ (fobs γ (T.the-row .coded .code h′)) ∷ ‵ (fbor κ (Body (mem T.the-row) b o γ)) ∷ ‵ (flft κ q) ∷ ‵ (R.the-row .own r (v ∷ [])) ∷ []) ∵
@@ -151,7 +151,7 @@ module _ {M : Type 1} (𝓤 : URA M) (H : Heap 𝓤) (Å : Atoms 𝓤) (W : Give
         -- [what `take` asks; what the lender keeps; the open borrow; obs; auth; _5; …; _4; …; _3; …; _2; …; _1; …; room for _0; …]
         calls-at ! fm (Take 𝓤 H Å at-mem run) known (told ν g)
         (and-then ! (load ! (from ! (stop !)) (look ! 9 refl)) (and-then ! (load ! (from ! (stop !)) (look ! 7 refl)) (and-then ! (load ! (from ! (stop !)) (look ! 5 refl)) (and-then ! (sends _ _ _ _ n ! (from ! (stop !)) (look ! 11 refl)) (no-more !))))) (λ v.
-        use1 W (later (some (λ (r : Step). ((‵ (flft (ν ∷ []) fullShare) ⊛ ‵ ftrue) ⊛ ‵ (R.the-row .own r (v ∷ []))) ⊛ raw (ensured 𝓤 H Å take.ended (take.clauses 𝓤 H Å at-mem run) (ν ∷ [], tt) (told ν g .0 .3) tt r)))) (id⊢ 𝓤 _) $ await ! tt $ pick ! (λ r.
+        use1 W (later (some (λ (r : AllocateAnswer). ((‵ (flft (ν ∷ []) fullShare) ⊛ ‵ ftrue) ⊛ ‵ (R.the-row .own r (v ∷ []))) ⊛ raw (ensured 𝓤 H Å take.ended (take.clauses 𝓤 H Å at-mem run) (ν ∷ [], tt) (told ν g .0 .3) tt r)))) (id⊢ 𝓤 _) $ await ! tt $ pick ! (λ r.
         split ! $ move ! (1 ∷ []) $ use1 W (some (λ (zs : Last). ‵ (lasts take.ended (ν ∷ [], tt) (told ν g .0 .3) zs) ⊛ raw (fact 𝓤 (Steps h (sent n) r (after zs))))) (id⊢ 𝓤 _) $ pick ! (λ zs.
         split ! $ move ! (1 ∷ []) $ heard ! (Steps h (sent n) r (after zs)) (λ e. move ! (1 ∷ []) $ split ! $ move ! (1 ∷ []) $ peeks ! R.the-row (Is R.the-row) (shows 𝓤 H Å R.the-row) r (v ∷ []) (λ isv.
         -- [what the answer owns; the call's token; the last values; what the lender keeps; the open borrow; obs; auth; _5; …; _4; …; _3; …; _2; …; _1; …; room for _0; …]

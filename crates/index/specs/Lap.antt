@@ -9,7 +9,7 @@ use Rattle.rules.specs.Laps.{Step, lastFound, LapsBy}
 use Rattle.index.specs.Slots.{heldIn}
 use Rattle.index.specs.Take.{Steps}
 use Rattle.index.specs.declared.FsIndexes.{FsIndexes}
-use Rattle.index.specs.declared.Step.{Step as Answer}
+use Rattle.index.specs.declared.AllocateAnswer.{AllocateAnswer as Answer}
 
 -- a call: what the host lends, the tag, the answer, and what the host finds after
 pub record Taking : Type 0 where
@@ -47,4 +47,4 @@ counts (t ∷ ts) = t .answer .count + counts ts
 -- a call answered the index k, and the last of the calls after it hands k out again (R87, R88, R90)
 abbrev pub EveryLapOfLent : Type 0
 EveryLapOfLent = (t : Taking) → t .before .«next_super» < 256 → Allowed t → t .answer .code ≡ DONE → (ts : List Taking) → Run (t .after .«next_super») ts
-    → lastFound none (stepsOf ts) ≡ some (t .answer .index) → LapsBy (counts ts) (stepsOf ts)
+    → lastFound none (stepsOf ts) ≡ some (t .answer .«fs_idx») → LapsBy (counts ts) (stepsOf ts)

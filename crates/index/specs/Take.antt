@@ -9,7 +9,7 @@ use Rattle.rules.specs.Round.{allocate}
 use Rattle.index.specs.Slots.{heldIn}
 use Rattle.index.specs.Search.{Told, told}
 use Rattle.index.specs.declared.FsIndexes.{FsIndexes}
-use Rattle.index.specs.declared.Step.{Step}
+use Rattle.index.specs.declared.AllocateAnswer.{AllocateAnswer}
 
 -- the slots and the counter as one table
 abbrev pub tableOf : List ℕ → List ℕ → ℕ → FsIndexes
@@ -17,7 +17,7 @@ tableOf used tags counter = record { used = used; tags = tags; «next_super» = 
 
 -- what taking an index gives: its answer, and the slots and the counter after it
 pub record Taken : Type 0 where
-  pub step : Step
+  pub answer : AllocateAnswer
   pub table : FsIndexes
 
 -- a column of the slots with a value at the index found; where none is found it is as it was
@@ -28,7 +28,7 @@ putAt none column v = column
 -- the slot found is held, with the tag; the index answered is 0 where none is found (R90)
 abbrev pub takenOf : FsIndexes → ℕ → Told → Taken
 takenOf t tag a = record {
-  step = record { code = a .code; index = orZero (a .found); count = a .count };
+  answer = record { code = a .code; «fs_idx» = orZero (a .found); count = a .count };
   table = tableOf (putAt (a .found) (t .used) 1) (putAt (a .found) (t .tags) tag) (a .counter);
 }
 
@@ -37,6 +37,6 @@ unfoldable pub takeRule : FsIndexes → ℕ → Taken
 takeRule t tag = takenOf t tag (told (allocate (heldIn (t .used)) (t .«next_super»)))
 
 -- the same where slots and counter are lent: the answer, and what the host finds after (R90, R177)
-pub record Steps (before : FsIndexes) (tag : ℕ) (r : Step) (after : FsIndexes) : Type 0 where
-  pub answer : r ≡ takeRule before tag .step
+pub record Steps (before : FsIndexes) (tag : ℕ) (r : AllocateAnswer) (after : FsIndexes) : Type 0 where
+  pub answer : r ≡ takeRule before tag .answer
   pub table : after ≡ takeRule before tag .table

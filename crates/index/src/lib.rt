@@ -30,9 +30,9 @@ pub struct Allocated {
 
 // The number of the answer, the index or 0, and the count.
 #[repr(C)]
-pub struct Step {
+pub struct AllocateAnswer {
     pub code: u32,
-    pub index: u32,
+    pub fs_idx: u32,
     pub count: u32,
 }
 
@@ -102,7 +102,7 @@ pub fn take<'a>(
     tags: &'a mut [u32; 256],
     next_super: &'a mut u8,
     tag: u32,
-) -> Step
+) -> AllocateAnswer
     ensures { λ r. ⌜ Steps (tableOf (now (used .entry)) (now (tags .entry)) (now («next_super» .entry))) tag r
         (tableOf (now (used .exit)) (now (tags .exit)) (now («next_super» .exit))) ⌝ }
 {
@@ -115,22 +115,22 @@ pub fn take<'a>(
             let at = i as usize;
             used[at] = HELD;
             tags[at] = tag;
-            Step {
+            AllocateAnswer {
                 code: DONE,
-                index: i as u32,
+                fs_idx: i as u32,
                 count: a.count,
             }
         }
-        FsIndex::Full => Step {
+        FsIndex::Full => AllocateAnswer {
             code: FULL,
-            index: 0,
+            fs_idx: 0,
             count: a.count,
         },
     }
 }
 
 // The host's call: the slots and the counter are lent together, and both are changed in place (R90).
-pub fn allocate_in(t: &mut FsIndexes, tag: u32) -> Step
+pub fn allocate_in(t: &mut FsIndexes, tag: u32) -> AllocateAnswer
     ensures { λ r. ⌜ Steps (now (t .entry)) tag r (now (t .exit)) ⌝ }
 {
     take(&mut t.used, &mut t.tags, &mut t.next_super, tag)

@@ -265,7 +265,7 @@ impl<'a> Table<'a> {
             plain(|| {
                 let step = unsafe { galdovar_allocate_in(&mut *t, opaque(7)) };
                 if step.code == 0 {
-                    t.used[step.index as usize & 255] = 0;
+                    t.used[step.fs_idx as usize & 255] = 0;
                 }
                 step
             }),

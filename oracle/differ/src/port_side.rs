@@ -59,7 +59,7 @@ impl PortSide {
         let before = (t.used, t.tags);
         // SAFETY: the struct is laid out as the call declares it, and is lent for the call alone.
         let step = unsafe { exports::galdovar_allocate_in(&mut t, tag) };
-        let found = if step.code == 0 { Some(step.index as u8) } else { None };
+        let found = if step.code == 0 { Some(step.fs_idx as u8) } else { None };
         for k in 0..256 {
             let expected = if found == Some(k as u8) { (1, tag) } else { (before.0[k], before.1[k]) };
             assert_eq!((t.used[k], t.tags[k]), expected, "slot {} after a step", k);

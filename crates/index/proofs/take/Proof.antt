@@ -41,9 +41,9 @@ module _ (t : FsIndexes) (tag : ℕ) (a : Allocated) (search : readOf a ≡ told
   abbrev taken : FsIndex → Taken
   taken x = takenOf t tag (record { code = codeOf x; found = foundOf x; count = a .count; counter = a .«next_super» })
 
-  stepped : (x : FsIndex) → a .answer ≡ x → Steps t tag (taken x .step) (taken x .table)
+  stepped : (x : FsIndex) → a .answer ≡ x → Steps t tag (taken x .answer) (taken x .table)
   unfolding takeRule readOf
-  stepped x e = subst (λ (y : FsIndex). Steps t tag (taken y .step) (taken y .table)) e (record { answer = ap (λ (b : Told). takenOf t tag b .step) search; table = ap (λ (b : Told). takenOf t tag b .table) search })
+  stepped x e = subst (λ (y : FsIndex). Steps t tag (taken y .answer) (taken y .table)) e (record { answer = ap (λ (b : Told). takenOf t tag b .answer) search; table = ap (λ (b : Told). takenOf t tag b .table) search })
 
 returns : tie.Need-returns
 unfolding foundOf codeOf
