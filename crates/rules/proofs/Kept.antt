@@ -14,15 +14,15 @@ use Rattle.rules.specs.Instance.{Instance, counterOf, emptySlot, slotOf,
 use Rattle.rules.specs.Outcome.{refused, says, toBackend}
 use Rattle.rules.specs.Mount.{Request, allocation}
 use Rattle.rules.specs.Lookup.{routeTag, routeRule}
-use Rattle.rules.specs.Calls.{Call, mount, rule}
+use Rattle.rules.specs.Calls.{Call, mount, route, rule}
 use Rattle.rules.specs.Laps.{Step, Going, total, lastFound, Has}
 use Rattle.rules.specs.Trace.{Unrestored, afterAll, stepOf, stepsOf}
-use Rattle.rules.specs.Kept.{named, before, namedIn, handedOut, stays, emptied, handed-out, put-back, LeadsTo, MountedAt, EveryOwn, EveryKept}
+use Rattle.rules.specs.Kept.{named, before, namedIn, handedOut, Ungiven, LeadsTo, MountedAt, EveryOwn, EveryKept, EveryJudged}
 use Rattle.rules.proofs.Allocation.{exact}
 use Rattle.rules.proofs.Laps.{every-allocator, last-append}
 use Rattle.rules.proofs.Turn.{mounts-allocate}
 use Rattle.rules.proofs.Trace.{searches, steps-going}
-use Rattle.rules.proofs.Slots.{every-slot}
+use Rattle.rules.proofs.Given.{not-given, ungiven-slot}
 
 -- ---- lists of indexes
 
@@ -40,20 +40,14 @@ has-split none j ks h = inr h
 has-split (some k) j ks (inl e) = inl (ap {B = Option ℕ} some e)
 has-split (some k) j ks (inr h) = inr h
 
--- ---- the slot of an index that no call gives away
-
-own-slot : (cs : List Call) (i : Instance) (k : ℕ) → (Has k (handedOut (stepsOf i cs)) → ⊥) → (Has k (namedIn cs) → ⊥)
-    → (slotOf (afterAll i cs) k ≡ slotOf i k) ⊎ (slotOf (afterAll i cs) k ≡ emptySlot)
-unfolding stepsOf afterAll handedOut namedIn
-own-slot [] i k h n = inl refl
-own-slot (c ∷ cs) i k h n =
-    let on = own-slot cs (rule i c .after) k (λ w. h (has-later (rule i c .found) k _ w)) (λ w. n (has-later (named c) k _ w)) in
-    elim (every-slot i c k) [
-      | stays e ↦ ⊎-elim (λ a. inl (a ∙ e)) (λ a. inr a) on
-      | emptied e ↦ inr (⊎-elim (λ a. a ∙ e) (λ a. a) on)
-      | handed-out z e ↦ absurd (h (has-first (rule i c .found) k _ e))
-      | put-back z e ↦ absurd (n (has-first (named c) k _ e))
-    ]
+-- an index that is neither handed out nor named is not given away
+ungiven : (cs : List Call) (i : Instance) (k : ℕ) → (Has k (handedOut (stepsOf i cs)) → ⊥) → (Has k (namedIn cs) → ⊥) → Ungiven k i cs
+unfolding stepsOf handedOut namedIn Ungiven
+ungiven [] i k h n = tt
+ungiven (c ∷ cs) i k h n = (
+  not-given k c (rule i c) (λ e. h (has-first (rule i c .found) k _ e)) (λ e. n (has-first (named c) k _ e)),
+  ungiven cs (rule i c .after) k (λ w. h (has-later (rule i c .found) k _ w)) (λ w. n (has-later (named c) k _ w)),
+)
 
 -- ---- where a number leads
 
@@ -79,12 +73,33 @@ mounted-tag i r k m =
     let same : a .0 ≡ k = let e = sym (a .1 .found) ∙ m .found in cc in
     (first .1 .least, subst (λ (j : ℕ). tagOf (rule i (mount r) .after) j ≡ some (r .tag)) same (a .1 .holds (omega (arith, m .slots, first .1 .most))))
 
--- the theorem: until its index is handed out again or named
+-- the tag in the slot of an index that no call gave away
+tag-since : (cs : List Call) (i : Instance) (k t : ℕ) → Ungiven k i cs → tagOf i k ≡ some t → (tagOf (afterAll i cs) k ≡ some t) ⊎ (tagOf (afterAll i cs) k ≡ none)
+tag-since cs i k t u e =
+    ⊎-elim (λ (s : slotOf (afterAll i cs) k ≡ slotOf i k). inl (ap tagIn s ∙ e)) (λ (s : slotOf (afterAll i cs) k ≡ emptySlot). inr (ap tagIn s)) (ungiven-slot cs i k u)
+
+-- the theorem: until its index is given away
 pub every-own : EveryOwn
-every-own i r k m cs h n x e =
+every-own i r k m cs u x e =
     let a = rule i (mount r) .after in
     let t = mounted-tag i r k m in
-    leads (afterAll a cs) x k (r .tag) e (t .0) (⊎-elim (λ (s : slotOf (afterAll a cs) k ≡ slotOf a k). inl (ap tagIn s ∙ t .1)) (λ (s : slotOf (afterAll a cs) k ≡ emptySlot). inr (ap tagIn s)) (own-slot cs a k h n))
+    leads (afterAll a cs) x k (r .tag) e (t .0) (tag-since cs a k (r .tag) u (t .1))
+
+-- the tag that a route tells is in the slot
+told-tag : (i : Instance) (k n t : ℕ) (y : Option ℕ) → routeTag i k n y .answer ≡ toBackend t k n → y ≡ some t
+unfolding routeTag
+told-tag i k n t none e = let z : _≡_ {A = ℕ} 0 1 = cc in absurd (omega arith)
+told-tag i k n t (some u) e = let s : u ≡ t = cc in ap {B = Option ℕ} some s
+
+-- the theorem: a number that led somewhere, until its index is given away
+pub judged : EveryJudged
+unfolding rule routeRule
+judged i x t p led cs u done =
+    let k = indexOf x in
+    let z : eqb k 0 ≡ false = ne-eqb k 0 (λ e. omega arith) in
+    let tag : tagOf i k ≡ some t = told-tag i k (numberOf x) t (tagOf i k) (rw z at led) in
+    ⊎-elim (λ (e : rule (afterAll i cs) (route x) ≡ refused NOENT (afterAll i cs)). absurd (let w : NOENT ≡ 0 = sym (λ j. e j .code) ∙ done in omega arith))
+    (λ (e : rule (afterAll i cs) (route x) ≡ says (toBackend t k (numberOf x)) (afterAll i cs)). (λ j. e j .answer)) (leads (afterAll i cs) x k t refl p (tag-since cs i k t u tag))
 
 -- ---- not before a lap is over
 
@@ -128,4 +143,4 @@ not-sooner i r k m cs u h =
 
 -- the theorem: within a lap
 pub every-kept : EveryKept
-every-kept i r k m cs u n few = every-own i r k m cs (λ h. omega (arith, not-sooner i r k m cs u h)) n
+every-kept i r k m cs u n few = every-own i r k m cs (ungiven cs (rule i (mount r) .after) k (λ h. omega (arith, not-sooner i r k m cs u h)) n)

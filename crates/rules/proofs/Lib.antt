@@ -34,7 +34,7 @@ pub mod Stays
 pub mod Again
 pub mod Others
 pub mod Slots
+pub mod Given
 pub mod Kept
 pub mod Wait
-pub mod Ledger
 pub mod Needed

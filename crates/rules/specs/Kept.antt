@@ -1,10 +1,12 @@
 -- What becomes of a number that a session keeps: it leads into its own mount or nowhere until its index is handed out again.
 use Prim.Native.Nat.{ℕ, _<_}
+use mathlib.Core.Bool.{Bool, false, _&&_, _||_}
 use mathlib.Core.Logic.{_⊎_}
 use mathlib.Core.List.{List, [], _∷_}
 use mathlib.Core.Option.{Option, none, some}
 use mathlib.Core.Path.{_≡_}
 use lib.ListN.{length}
+use lib.Dec.{eqb}
 use Rattle.rules.specs.Numbers.{indexOf, numberOf, NOENT}
 use Rattle.rules.specs.Instance.{Instance, counterOf, emptySlot, slotOf}
 use Rattle.rules.specs.Outcome.{toBackend, Outcome, refused, says}
@@ -47,6 +49,20 @@ unfoldable pub handedOut : List Step → List ℕ
 handedOut [] = []
 handedOut (s ∷ ss) = before (s .found) (handedOut ss)
 
+-- it is there, and it is k
+abbrev pub isIt : ℕ → Option ℕ → Bool
+isIt k none = false
+isIt k (some j) = eqb j k
+
+-- the call is done and gives k away: a mount hands it out, or a restored mount names it
+abbrev pub gives : ℕ → Call → Outcome → Bool
+gives k c o = eqb (o .code) 0 && (isIt k (o .found) || isIt k (named c))
+
+-- no call gives k away, each on what the one before left
+unfoldable pub Ungiven : ℕ → Instance → List Call → Type 0
+Ungiven k i [] = Unit {0}
+Ungiven k i (c ∷ cs) = (gives k c (rule i c) ≡ false) × Ungiven k (rule i c .after) cs
+
 -- ---- what changes a slot
 
 -- the slot of j after a call: as it was, or emptied; or the call is done, and hands j out or names it in a restored mount (R56, R76, R85, R93, R98)
@@ -73,10 +89,9 @@ pub record MountedAt (i : Instance) (r : Request) (k : ℕ) : Type 0 where
   pub done : rule i (mount r) .code ≡ 0
   pub found : rule i (mount r) .found ≡ some k
 
--- a number of its index leads into that mount's backend or nowhere, as long as no call hands the index out again or names it in a restored mount (R85, R105, R106)
+-- a number of its index leads into that mount's backend or nowhere, as long as no call gives the index away (R85, R105, R106)
 abbrev pub EveryOwn : Type 0
-EveryOwn = (i : Instance) (r : Request) (k : ℕ) → MountedAt i r k → (cs : List Call)
-    → (Has k (handedOut (stepsOf (rule i (mount r) .after) cs)) → ⊥) → (Has k (namedIn cs) → ⊥)
+EveryOwn = (i : Instance) (r : Request) (k : ℕ) → MountedAt i r k → (cs : List Call) → Ungiven k (rule i (mount r) .after) cs
     → (x : ℕ) → indexOf x ≡ k → LeadsTo (afterAll (rule i (mount r) .after) cs) x (r .tag)
 
 -- and so as long as the counts sum to less than 256, with no state restore and no restored mount that names the index (R82, R87, R105, R106)
@@ -84,3 +99,10 @@ abbrev pub EveryKept : Type 0
 EveryKept = (i : Instance) (r : Request) (k : ℕ) → MountedAt i r k → (cs : List Call) → Unrestored (rule i (mount r) .after) cs
     → (Has k (namedIn cs) → ⊥) → total (stepsOf (rule i (mount r) .after) cs) < 256
     → (x : ℕ) → indexOf x ≡ k → LeadsTo (afterAll (rule i (mount r) .after) cs) x (r .tag)
+
+-- a number that led into the backend of the tag t, and whose index no call gave away since, leads there still if it leads anywhere; on any tables, over any calls, state
+-- restores among them: a gateway that marks an index anew at each call that gives it away can judge a number by the mark (R105, R106)
+abbrev pub EveryJudged : Type 0
+EveryJudged = (i : Instance) (x t : ℕ) → 0 < indexOf x → rule i (route x) .answer ≡ toBackend t (indexOf x) (numberOf x)
+    → (cs : List Call) → Ungiven (indexOf x) i cs → rule (afterAll i cs) (route x) .code ≡ 0
+    → rule (afterAll i cs) (route x) .answer ≡ toBackend t (indexOf x) (numberOf x)

@@ -34,5 +34,4 @@ pub mod Restart
 pub mod Stays
 pub mod Kept
 pub mod Wait
-pub mod Ledger
 pub mod Needed
