@@ -36,7 +36,7 @@ pub fn write_short(out: &mut [u8], ino: u64, off: u64, len: u64, word: u64) -> u
         return 0;
     }
     put_front(out, ino, off, len as u32);
-    le::fields::put_u64(out, 24, word % (1 << (8 * len)));
+    le::fields::put_u64(out, FRONT, word % (1 << (8 * len)));
     SHORT
 }
 

@@ -1,4 +1,5 @@
 // The record writer of listings: a record is laid whole at the start of the lent bytes, or not at all.
+use inner::FRONT;
 ghost use mathlib.Core.List.{[], _∷_};
 ghost use lib.ListN.{length};
 ghost use Rattle.le.specs.Mem.{read};
@@ -10,24 +11,24 @@ pub mod inner;
 // One more than the largest number of four bytes, in which the name length stands (R64).
 const TWO_32: usize = 4294967296;
 
-// Lays the name behind a fixed part of `front` bytes, which is the caller's to write, and zeros to a multiple of 8: the
-// length of the whole record, or 0 with every byte as it was where that does not fit (R64, R65).
-fn put_name(out: &mut [u8], front: usize, name: &[u8]) -> usize
-    ensures { λ r. ⌜ Lays (now (out .entry)) (length (now (out .entry))) (recordOf (read (now (out .entry)) 0 front) (now (name .entry)) ∷ []) r (now (out .exit)) ⌝ }
+// Lays the name behind the fixed part, which is the caller's to write, and zeros to a multiple of 8: the length of the
+// whole record, or 0 with every byte as it was where that does not fit (R64, R65).
+fn put_name(out: &mut [u8], name: &[u8]) -> usize
+    ensures { λ r. ⌜ Lays (now (out .entry)) (length (now (out .entry))) (recordOf (read (now (out .entry)) 0 24) (now (name .entry)) ∷ []) r (now (out .exit)) ⌝ }
 {
-    if out.len() < front {
+    if out.len() < FRONT {
         return 0;
     }
-    if out.len() - front < name.len() {
+    if out.len() - FRONT < name.len() {
         return 0;
     }
-    let end = front + name.len();
+    let end = FRONT + name.len();
     let room = out.len() - end;
     let pad = (8 - end % 8) % 8;
     if room < pad {
         return 0;
     }
-    le::runs::copy_at(out, front, name);
+    le::runs::copy_at(out, FRONT, name);
     le::runs::fill_at(out, end, pad, 0);
     end + pad
 }
@@ -36,7 +37,7 @@ fn put_name(out: &mut [u8], front: usize, name: &[u8]) -> usize
 pub fn write_dirent(out: &mut [u8], ino: u64, off: u64, name: &[u8]) -> usize
     ensures { λ r. ⌜ Lays (now (out .entry)) (length (now (out .entry))) (dirent ino off (now (name .entry)) ∷ []) r (now (out .exit)) ⌝ }
 {
-    let size = put_name(out, inner::FRONT, name);
+    let size = put_name(out, name);
     if size == 0 {
         return 0;
     }

@@ -7,13 +7,13 @@ use Rattle.dirent.proofs.put_name.Statement.{statement}
 use Rattle.dirent.proofs.put_name.Tie as tie
 
 returns : tie.Need-returns
-returns c = let a = c .before .before .before .args in name-out (now (a .out)) (a .front) (now (a .name)) (omega arith)
+returns c = let a = c .before .before .before .args in name-out (now (a .out)) 24 (now (a .name)) (omega arith)
 
 returns-2 : tie.Need-returns-2
-returns-2 c = let a = c .before .before .before .before .args in name-out (now (a .out)) (a .front) (now (a .name)) (omega arith)
+returns-2 c = let a = c .before .before .before .before .args in name-out (now (a .out)) 24 (now (a .name)) (omega arith)
 
 returns-3 : tie.Need-returns-3
-returns-3 c = let a = c .before .before .before .before .before .args in name-out (now (a .out)) (a .front) (now (a .name)) (omega arith)
+returns-3 c = let a = c .before .before .before .before .before .args in name-out (now (a .out)) 24 (now (a .name)) (omega arith)
 
 fill-at-requires : tie.Need-fill-at-requires
 fill-at-requires c κs = search needs
@@ -21,7 +21,7 @@ fill-at-requires c κs = search needs
 returns-4 : tie.Need-returns-4
 returns-4 c =
     let a = c .before .before .before .before .before .before .before .before .before .before .before .before .before .args in
-    name-in (now (a .out)) (a .front) (now (a .name)) _ _ (omega arith) (c .before .before .before .before .before .before .copy-at .ensures) (c .before .before .fill-at .ensures)
+    name-in (now (a .out)) 24 (now (a .name)) _ _ (omega arith) (c .before .before .before .before .before .before .copy-at .ensures) (c .before .before .fill-at .ensures)
 
 pub put-name-spec : {M : Type 1} → statement M
 put-name-spec =
