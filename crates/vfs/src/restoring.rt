@@ -27,7 +27,7 @@ pub enum Restored {
     Small,
 }
 
-// Rows 7 and 8 on the node x, at the index given (R93).
+// Rows 7 and 8 on the node x, at the index given (R92, R93).
 fn restore_at(s: &mut [u8], k: u8, x: u64, b: Backend) -> Restored
     requires { ⌜ laid (now s) ≡ true ⌝ }
     requires { ⌜ 1 ≤ k ⌝ }
@@ -80,7 +80,7 @@ fn restore_rooted(s: &mut [u8], k: u8, path: &[u8], b: Backend) -> Restored
     }
 }
 
-// The first of the rows of a restored mount that applies, or the mount at the index given (R91 to R95).
+// SMALL, then the first of the rows of a restored mount that applies, or the mount at the index given (R19, R91 to R95).
 pub fn restore_mount(s: &mut [u8], k: u8, path: &[u8], b: Backend) -> Restored
     ensures { λ r. ⌜ Does (now (s .entry)) (λ (i : Instance). restoreMountRule i k (requestOf (now (path .entry)) b)) (restoredTold r) (now (s .exit)) (restoreMem k (requestOf (now (path .entry)) b) (now (s .entry))) ⌝ }
 {
