@@ -62,14 +62,14 @@ pub enum Looked {
 }
 
 // The backend of an index, or NOENT where its slot is empty (R105, R106).
-fn route_tag(s: &[u8], index: u8, number: u64) -> Routed
+fn route_tag(s: &[u8], fs_idx: u8, number: u64) -> Routed
     requires { ⌜ laid (now s) ≡ true ⌝ }
-    ensures { λ r. ⌜ routedTold r ≡ toldBy (routeTag (view (now (s .entry))) index number (tagOf (view (now (s .entry))) index)) ⌝ }
+    ensures { λ r. ⌜ routedTold r ≡ toldBy (routeTag (view (now (s .entry))) «fs_idx» number (tagOf (view (now (s .entry))) «fs_idx»)) ⌝ }
 {
-    match tag_of(s, index) {
+    match tag_of(s, fs_idx) {
         Tag::Held(tag) => Routed::Backend {
             tag,
-            fs_idx: index,
+            fs_idx,
             ino: BackendNumber(number),
         },
         Tag::Empty => Routed::NoEnt,
@@ -97,12 +97,12 @@ pub fn route(s: &[u8], x: VfsInode) -> Routed
 }
 
 // Tag and index of a mount, or NOTFOUND where its slot is empty (R103).
-fn root_held(s: &[u8], index: u8) -> Rootfs
+fn root_held(s: &[u8], fs_idx: u8) -> Rootfs
     requires { ⌜ laid (now s) ≡ true ⌝ }
-    ensures { λ r. ⌜ rootfsTold r ≡ toldBy (rootHeld (view (now (s .entry))) index (tagOf (view (now (s .entry))) index)) ⌝ }
+    ensures { λ r. ⌜ rootfsTold r ≡ toldBy (rootHeld (view (now (s .entry))) «fs_idx» (tagOf (view (now (s .entry))) «fs_idx»)) ⌝ }
 {
-    match tag_of(s, index) {
-        Tag::Held(tag) => Rootfs::Backend { tag, fs_idx: index },
+    match tag_of(s, fs_idx) {
+        Tag::Held(tag) => Rootfs::Backend { tag, fs_idx },
         Tag::Empty => Rootfs::NotFound,
     }
 }
