@@ -12,7 +12,7 @@ pub const MAX_NODES: usize = 1024;
 pub const DIRECTORY_MODE: u32 = 16895;
 
 /// How many bytes the longest saved state has.
-pub const LONGEST_SAVE: usize = STATE_END + LONGEST_RECORD * (MAX_NODES - 1);
+pub const MAX_SAVED: usize = STATE_END + LONGEST_RECORD * (MAX_NODES - 1);
 
 /// The bytes of an instance besides those of its nodes, and those of one node.
 const TABLES: usize = 8192;
@@ -587,7 +587,7 @@ impl Vfs {
     }
 
     /// Saves the state at the start of `out`, and answers how many bytes it wrote. SMALL where `out` has too few, and
-    /// then `out` is as it was. [`LONGEST_SAVE`] bytes are always enough.
+    /// then `out` is as it was. [`MAX_SAVED`] bytes are always enough.
     ///
     /// ```
     /// use galdovar::{Vfs, VfsError, VfsOptions};
@@ -609,7 +609,7 @@ impl Vfs {
     /// [`Vfs::restore_mount`].
     ///
     /// Refused, in this order, with nothing changed: SMALL, NOTFRESH, BADSAVE, BADOPT, NOROOM. The cost grows with the
-    /// square of the records, so a host that does not trust the bytes refuses what is longer than [`LONGEST_SAVE`].
+    /// square of the records, so a host that does not trust the bytes refuses what is longer than [`MAX_SAVED`].
     ///
     /// ```
     /// use galdovar::{Vfs, VfsError, VfsOptions};

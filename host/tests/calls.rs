@@ -341,7 +341,7 @@ fn the_longest_state() {
     }
     assert_eq!(vfs.mount(backend(1), "/more"), refused(VfsError::NoRoom, 0));
     let saved = vfs.save_to_bytes().unwrap();
-    assert_eq!(saved.len(), LONGEST_SAVE);
+    assert_eq!(saved.len(), MAX_SAVED);
     let mut next = fresh(MAX_NODES);
     assert_eq!(next.restore_from_bytes(&saved), Ok(()));
     assert_eq!(next.save_to_bytes().unwrap(), saved);

@@ -1,11 +1,11 @@
 -- The plain numbers of each answer: its number, its values in a fixed order with zeros where it has none, and the count.
 use Prim.Native.Nat.{ℕ}
-use mathlib.Core.Bool.{Bool, true, false}
 use mathlib.Core.List.{List, [], _∷_}
 use mathlib.Core.Option.{Option, none, some}
 use lib.ListN.{getD}
 use Rattle.rules.specs.Numbers.{orZero}
 use Rattle.rules.specs.Outcome.{Answer, nothing, mounted, restored, unmounted, walked, rootfs, toTree, toBackend, entry, ids, wrote, settings, truth}
+use Rattle.tables.specs.Write.{yesByte}
 use Rattle.tables.specs.Call.{Told}
 use Rattle.flat.specs.declared.CodeAnswer.{CodeAnswer}
 use Rattle.flat.specs.declared.InitializedAnswer.{InitializedAnswer}
@@ -28,11 +28,6 @@ abbrev pub has : Option ℕ → ℕ
 has none = 0
 has (some x) = 1
 
--- 1 or 0
-abbrev pub truthNumber : Bool → ℕ
-truthNumber false = 0
-truthNumber true = 1
-
 -- the numbers of each answer's values, in order; a refusal has none, and a place behind the last counts as 0 (R16)
 abbrev pub values : Answer → List ℕ
 values nothing = []
@@ -48,7 +43,7 @@ values (entry x m u g b) = x ∷ m ∷ u ∷ g ∷ b ∷ []
 values (ids u g) = u ∷ g ∷ []
 values (wrote n) = n ∷ []
 values (settings o) = o .inOpts ∷ o .outOpts ∷ o .mapping .internal ∷ o .mapping .external ∷ o .mapping .range ∷ o .flags ∷ []
-values (truth b) = truthNumber b ∷ []
+values (truth b) = yesByte b ∷ []
 
 -- the value at a place
 abbrev pub value : Told → ℕ → ℕ

@@ -3,6 +3,7 @@ ghost use mathlib.Core.Path.{_≡_};
 ghost use Rattle.rules.specs.Numbers.{orZero};
 ghost use Rattle.inode.specs.Converted.{codeOf, fullOf};
 ghost use Rattle.path.specs.Checks.{code};
+ghost use Rattle.tables.specs.Write.{yesByte};
 ghost use Rattle.tables.specs.Answer.{tagIn};
 ghost use Rattle.tables.specs.Call.{counted, refuses};
 ghost use Rattle.storage.specs.Creation.{createdCode};
@@ -15,7 +16,7 @@ ghost use Rattle.vfs.specs.Restoring.{restoredTold};
 ghost use Rattle.vfs.specs.Unmounting.{unmountedTold};
 ghost use Rattle.persist.specs.Saving.{savedTold};
 ghost use Rattle.persist.specs.Restoring.{stateTold};
-ghost use Rattle.flat.specs.Flat.{has, truthNumber, codeAlone, codeNumbers, initializedNumbers, optionsNumbers, mountNumbers, restoreMountNumbers, umountNumbers, rootfsNumbers, walkNumbers, routeNumbers, lookupNumbers, wroteNumbers, idsNumbers, inodeNumbers};
+ghost use Rattle.flat.specs.Flat.{has, codeAlone, codeNumbers, initializedNumbers, optionsNumbers, mountNumbers, restoreMountNumbers, umountNumbers, rootfsNumbers, walkNumbers, routeNumbers, lookupNumbers, wroteNumbers, idsNumbers, inodeNumbers};
 use inode::Converted;
 use listing::Listed;
 use path::names::Checked;
@@ -186,7 +187,7 @@ fn tag_or_0(t: Tag) -> u32
 
 // A bool as a number.
 fn number_of(b: bool) -> u32
-    ensures { λ r. ⌜ r ≡ truthNumber b ⌝ }
+    ensures { λ r. ⌜ r ≡ yesByte b ⌝ }
 {
     if b { 1 } else { 0 }
 }

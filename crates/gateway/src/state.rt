@@ -1,9 +1,7 @@
 // Saved state: save and restore.
-ghost use Rattle.rules.specs.Instance.{Instance};
-ghost use Rattle.rules.specs.Restore.{restoreRule};
 ghost use Rattle.tables.specs.Call.{WritesBy, DoesBy};
 ghost use Rattle.persist.specs.Saving.{saving};
-ghost use Rattle.persist.specs.Restoring.{restoreStateMem};
+ghost use Rattle.persist.specs.Restoring.{restoring, restoreStateMem};
 ghost use Rattle.flat.specs.Flat.{codeNumbers, wroteNumbers};
 use flat::CodeAnswer;
 use flat::WroteAnswer;
@@ -19,7 +17,7 @@ pub extern "C" fn galdovar_save_to_bytes(storage: &[u8], out: &mut [u8]) -> Wrot
 // NOTFRESH, BADSAVE, BADOPT, NOROOM, or the state of the bytes in place of the instance's own (R128 to R134).
 #[no_mangle]
 pub extern "C" fn galdovar_restore_from_bytes(storage: &mut [u8], bytes: &[u8]) -> CodeAnswer
-    ensures { λ r. ⌜ DoesBy codeNumbers (now (storage .entry)) (λ (i : Instance). restoreRule i (now (bytes .entry))) r (now (storage .exit)) (restoreStateMem (now (bytes .entry)) (now (storage .entry))) ⌝ }
+    ensures { λ r. ⌜ DoesBy codeNumbers (now (storage .entry)) (restoring (now (bytes .entry))) r (now (storage .exit)) (restoreStateMem (now (bytes .entry)) (now (storage .entry))) ⌝ }
 {
     flat::state_restored(persist::restoring::restore_from_bytes(storage, bytes))
 }

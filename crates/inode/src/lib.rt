@@ -23,8 +23,8 @@ pub enum Converted {
 const VFS_INDEX_SHIFT: u64 = 56;
 
 // The full number of an index and a number (R6, R7).
-fn joined(index: u8, number: u64) -> Converted
-    ensures { λ r. ⌜ Converts index number r ⌝ }
+fn joined(fs_idx: u8, number: u64) -> Converted
+    ensures { λ r. ⌜ Converts «fs_idx» number r ⌝ }
 {
     if rules::VFS_MAX_INO < number {
         return Converted::Inode;
@@ -32,14 +32,14 @@ fn joined(index: u8, number: u64) -> Converted
     if number == 0 {
         return Converted::Full(VfsInode(0));
     }
-    Converted::Full(VfsInode(((index as u64) << VFS_INDEX_SHIFT) + number))
+    Converted::Full(VfsInode(((fs_idx as u64) << VFS_INDEX_SHIFT) + number))
 }
 
 // The full number of a backend's number under its index, or INODE (R7).
-pub fn convert_inode(index: u8, number: BackendNumber) -> Converted
-    ensures { λ r. ⌜ Converts index (number .0) r ⌝ }
+pub fn convert_inode(fs_idx: u8, number: BackendNumber) -> Converted
+    ensures { λ r. ⌜ Converts «fs_idx» (number .0) r ⌝ }
 {
-    joined(index, number.0)
+    joined(fs_idx, number.0)
 }
 
 // The full number of a node of the tree, which has index 0, or INODE (R7, R11).

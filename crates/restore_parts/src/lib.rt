@@ -97,11 +97,11 @@ fn put_options(s: &mut [u8], o: SavedOptions)
     le::fields::put_u8(s, tables::header::FLAGS_AT, o.flags);
 }
 
-// 1 where a bit is set, else 0.
-fn has_bits(bits: u64) -> u8
-    ensures { λ r. ⌜ r ≡ yesByte (hasBits bits) ⌝ }
+// `initialized` as a byte: 1 where in_opts has a bit, else 0 (R134).
+fn initialized_byte(in_opts: u64) -> u8
+    ensures { λ r. ⌜ r ≡ yesByte (hasBits «in_opts») ⌝ }
 {
-    if bits == 0 {
+    if in_opts == 0 {
         return 0;
     }
     1
@@ -112,7 +112,7 @@ fn put_state(s: &mut [u8], next: u64, counter: u8, o: SavedOptions)
     requires { ⌜ 8192 ≤ length (now s) ⌝ }
     ensures { λ _. ⌜ now (s .exit) ≡ setState next counter (meant o) (now (s .entry)) ⌝ }
 {
-    let initialized = has_bits(o.in_opts);
+    let initialized = initialized_byte(o.in_opts);
     le::fields::put_u64(s, tables::header::NEXT_AT, next);
     put_options(s, o);
     le::fields::put_u8(s, tables::header::COUNTER_AT, counter);

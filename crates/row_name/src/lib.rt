@@ -18,7 +18,7 @@ pub fn name_len(s: &[u8], i: usize) -> usize
     le::fields::get_u8(s, tables::rows::TABLE + 24 * n + 8 * i) as usize
 }
 
-// The cell of the name of row i as one number: the lowest byte is its length, and those above are its last seven bytes (R10).
+// The cell of the name of row i as one number: the lowest byte is its length, and those above are its last seven bytes (R64).
 pub fn name_cell(s: &[u8], i: usize) -> u64
     requires { ⌜ Laid (now s) ⌝ }
     requires { ⌜ i < countOf (now s) ⌝ }
@@ -28,7 +28,7 @@ pub fn name_cell(s: &[u8], i: usize) -> u64
     le::fields::get_u64(s, tables::rows::TABLE + 24 * n + 8 * i)
 }
 
-// Where the bytes before the last seven of the name of row i stand (R10).
+// Where the bytes before the last seven of the name of row i stand (R64).
 pub fn first_at(s: &[u8], i: usize) -> usize
     requires { ⌜ Laid (now s) ⌝ }
     requires { ⌜ i < countOf (now s) ⌝ }
@@ -38,7 +38,7 @@ pub fn first_at(s: &[u8], i: usize) -> usize
     tables::rows::TABLE + 44 * n + 248 * i
 }
 
-// Copies the name of row i into the lent bytes at a place: its length. Its last seven bytes stand apart from those before them (R10).
+// Copies the name of row i into the lent bytes at a place: its length. Its last seven bytes stand apart from those before them (R120).
 pub fn copy_name(s: &[u8], i: usize, out: &mut [u8], to: usize) -> usize
     requires { ⌜ Laid (now s) ⌝ }
     requires { ⌜ i < countOf (now s) ⌝ }

@@ -81,7 +81,7 @@ INVAL = 2
 abbrev pub TOOLONG : ℕ
 TOOLONG = 3
 
--- the largest number or the root number is too big (R15)
+-- the largest number, the root number, or the number of a conversion is too big (R7, R15)
 abbrev pub INODE : ℕ
 INODE = 4
 

@@ -10,7 +10,8 @@ ghost use Rattle.saved.specs.Columns.{keyAt, listed, Fills, Among, Colum
 
 pub mod inner;
 
-// Whether the options and the trailer are in order: length, offset, version, zero bytes, flags, next number (R129).
+// Whether the options and the trailer are in order: length, offset, version, zero bytes, flags, next number. The version and six zeros
+// are one number, and so are the flags and three zeros (R129 a, b, d, e, f, h).
 fn is_framed(b: &[u8]) -> bool
     ensures { λ r. ⌜ r ≡ framed (now (b .entry)) ⌝ }
 {
@@ -36,7 +37,7 @@ fn is_framed(b: &[u8]) -> bool
     next <= rules::NUMBERS
 }
 
-// Whether a name has 1 to 255 bytes, no slash, is not `.` or `..`, and is UTF-8 (R129).
+// Whether a name has 1 to 255 bytes, no slash, is not `.` or `..`, and is UTF-8 (R129 j).
 fn is_good_name(name: &[u8]) -> bool
     ensures { λ r. ⌜ r ≡ goodName (now (name .entry)) ⌝ }
 {
@@ -58,7 +59,7 @@ fn is_good_name(name: &[u8]) -> bool
     utf8::is_utf8(name)
 }
 
-// Whether the record at a place has a number above the last one and below the next, and a good name (R129).
+// Whether the record at a place has a number above the last one and below the next, and a good name (R129 g, h, j).
 fn is_sound(b: &[u8], at: usize, last: u64, next: u64) -> bool
     requires { ⌜ behind (now b) at ≤ length (now b) ⌝ }
     ensures { λ r. ⌜ r ≡ sound next last (nodeAt (now (b .entry)) at) ⌝ }
@@ -75,7 +76,7 @@ fn is_sound(b: &[u8], at: usize, last: u64, next: u64) -> bool
     is_good_name(&b[start..end])
 }
 
-// Whether `count` records fill the bytes up to a place exactly, and each is sound (R129).
+// Whether `count` records fill the bytes up to a place exactly, and each is sound (R129 c, g, h, j).
 fn are_sound(b: &[u8], to: usize, count: usize, next: u64) -> bool
     requires { ⌜ to ≤ length (now b) ⌝ }
     ensures { λ r. ⌜ r ≡ soundTo (now (b .entry)) next to count 0 1 ⌝ }
@@ -101,7 +102,7 @@ fn are_sound(b: &[u8], to: usize, count: usize, next: u64) -> bool
     at == to
 }
 
-// Whether two records have one parent and equal names (R129).
+// Whether two records have one parent and equal names (R129 k).
 fn is_twin(b: &[u8], p: usize, q: usize) -> bool
     requires { ⌜ behind (now b) p ≤ length (now b) ⌝ }
     requires { ⌜ behind (now b) q ≤ length (now b) ⌝ }
@@ -117,7 +118,7 @@ fn is_twin(b: &[u8], p: usize, q: usize) -> bool
     le::runs::same_at(b, p + rules::RECORD, b, q + rules::RECORD, len)
 }
 
-// Whether the parent of the record at a place, before which i stand, is there, and no twin, by a scan of the bytes (R129).
+// Whether the parent of the record at a place, before which i stand, is there, and no twin, by a scan of the bytes (R129 i, k).
 fn is_placed_by_scan(b: &[u8], at: usize, i: usize) -> bool
     requires { ⌜ at ≡ startOf (now b) i ⌝ }
     requires { ⌜ behind (now b) at ≤ length (now b) ⌝ }
@@ -149,7 +150,7 @@ fn key_at(b: &[u8], at: usize) -> u64
     std::num::wrapping_add_u64(inner::parent_at(b, at), le::fields::get_u64(b, end - 8))
 }
 
-// Whether a number is the root's or one of the first i (R129).
+// Whether a number is the root's or one of the first i (R129 i).
 fn is_listed(numbers: &[u64; 1023], i: usize, number: u64) -> bool
     requires { ⌜ i ≤ 1023 ⌝ }
     ensures { λ r. ⌜ r ≡ listed number (now (numbers .entry)) i ⌝ }
@@ -164,7 +165,7 @@ fn is_listed(numbers: &[u64; 1023], i: usize, number: u64) -> bool
     number == rules::ROOT_ID
 }
 
-// Whether one of the i records before has the parent and the name of the record at a place: only those with its key are read (R129).
+// Whether one of the i records before has the parent and the name of the record at a place: only those with its key are read (R129 k).
 fn is_used(b: &[u8], at: usize, i: usize, starts: &[usize; 1023], keys: &[u64; 1023]) -> bool
     requires { ⌜ Among (now b) at i (now starts) (now keys) ⌝ }
     ensures { λ r. ⌜ r ≡ used (nodeAt (now (b .entry)) at .above) (nodeAt (now (b .entry)) at .called) (earlier (now (b .entry)) i) ⌝ }
@@ -185,7 +186,7 @@ fn is_used(b: &[u8], at: usize, i: usize, starts: &[usize; 1023], keys: &[u64; 1
 }
 
 // Whether the parent of the record at a place, before which i stand, is there, and no twin: by the columns, which hold where each of the first k records
-// starts, its number and its key, or by a scan of the bytes where i is above k (R129).
+// starts, its number and its key, or by a scan of the bytes where i is above k (R129 i, k).
 fn is_placed(
     b: &[u8],
     at: usize,
@@ -208,7 +209,7 @@ fn is_placed(
     !is_used(b, at, i, starts, keys)
 }
 
-// Whether all of the records are placed, with columns of the first k (R129).
+// Whether all of the records are placed, with columns of the first k (R129 i, k).
 fn all_placed(
     b: &[u8],
     count: usize,
@@ -249,7 +250,7 @@ fn fill(b: &[u8], k: usize, starts: &mut [usize], numbers: &mut [u64], keys: &mu
     }
 }
 
-// Whether each parent is 1 or an earlier record, and no two names under one parent are equal (R129).
+// Whether each parent is 1 or an earlier record, and no two names under one parent are equal (R129 i, k).
 fn are_placed(b: &[u8], count: usize) -> bool
     requires { ⌜ startOf (now b) count ≤ length (now b) ⌝ }
     ensures { λ r. ⌜ r ≡ allPlaced [] (nodesAt (now (b .entry)) count 0) ⌝ }

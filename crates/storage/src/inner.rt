@@ -1,4 +1,4 @@
-// The test of option bits, for creation and for a state restore, and the options of the header, for a save: nothing here is for a host.
+// The test of option bits, for creation, the layout rule and a state restore; and the options of the header, for their query and a save: nothing here is for a host.
 use crate::VfsOptions;
 ghost use mathlib.Core.Path.{_≡_};
 ghost use mathlib.Core.Bool.{_||_};

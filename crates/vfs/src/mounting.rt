@@ -125,7 +125,7 @@ fn mount_rooted(s: &mut [u8], path: &[u8], b: Backend) -> Mounted
     }
 }
 
-// The first of the rows of a mount that applies, or the mount (R68 to R79).
+// SMALL, then the first of the rows of a mount that applies, or the mount (R19, R68 to R79).
 pub fn mount(s: &mut [u8], path: &[u8], b: Backend) -> Mounted
     ensures { λ r. ⌜ Does (now (s .entry)) (λ i. mountRule i (requestOf (now (path .entry)) b)) (mountedTold r) (now (s .exit)) (mountMem (requestOf (now (path .entry)) b) (now (s .entry))) ⌝ }
 {

@@ -27,17 +27,17 @@ pub enum Restored {
     Small,
 }
 
-// Rows 7 and 8 on the node x, at the index given (R93).
-fn restore_at(s: &mut [u8], k: u8, x: u64, b: Backend) -> Restored
+// Rows 7 and 8 on the node x, at the index given (R92, R93).
+fn restore_at(s: &mut [u8], fs_idx: u8, x: u64, b: Backend) -> Restored
     requires { ⌜ laid (now s) ≡ true ⌝ }
-    requires { ⌜ 1 ≤ k ⌝ }
-    ensures { λ r. ⌜ RestoresAt (now (s .entry)) k x b r (now (s .exit)) ⌝ }
+    requires { ⌜ 1 ≤ «fs_idx» ⌝ }
+    ensures { λ r. ⌜ RestoresAt (now (s .entry)) «fs_idx» x b r (now (s .exit)) ⌝ }
 {
     let root = b.root;
     if rules::VFS_MAX_INO < root.0 {
         return Restored::Inode;
     }
-    let tags = crate::inner::finish(s, k, x, b);
+    let tags = crate::inner::finish(s, fs_idx, x, b);
     let replaced = tags.replaced;
     let displaced = tags.displaced;
     Restored::Done {
@@ -47,12 +47,12 @@ fn restore_at(s: &mut [u8], k: u8, x: u64, b: Backend) -> Restored
 }
 
 // Rows 4, 7 and 8, of a path with leading slash: the missing nodes are planned and made (R91 to R95).
-fn restore_new(s: &mut [u8], k: u8, path: &[u8], b: Backend) -> Restored
+fn restore_new(s: &mut [u8], fs_idx: u8, path: &[u8], b: Backend) -> Restored
     requires { ⌜ laid (now s) ≡ true ⌝ }
     requires { ⌜ tooLong (now path) ≡ false ⌝ }
     requires { ⌜ rooted (now path) ≡ true ⌝ }
-    requires { ⌜ 1 ≤ k ⌝ }
-    ensures { λ r. ⌜ Follows (restoredRule (view (now (s .entry))) k (requestOf (now (path .entry)) b)) (restoredMem k (requestOf (now (path .entry)) b) (now (s .entry))) (restoredTold r) (now (s .exit)) ⌝ }
+    requires { ⌜ 1 ≤ «fs_idx» ⌝ }
+    ensures { λ r. ⌜ Follows (restoredRule (view (now (s .entry))) «fs_idx» (requestOf (now (path .entry)) b)) (restoredMem «fs_idx» (requestOf (now (path .entry)) b) (now (s .entry))) (restoredTold r) (now (s .exit)) ⌝ }
 {
     let mut parents = [0u64; 1024];
     let mut starts = [0u16; 1024];
@@ -61,28 +61,28 @@ fn restore_new(s: &mut [u8], k: u8, path: &[u8], b: Backend) -> Restored
         Planned::NoRoom => Restored::NoRoom,
         Planned::Fits { node, count } => {
             plan::apply_plan(s, path, &parents, &starts, &lens, count);
-            restore_at(s, k, node, b)
+            restore_at(s, fs_idx, node, b)
         }
     }
 }
 
 // Rows 4, 7 and 8, of a path with leading slash: nothing is planned where the walk finds the whole path (R91 to R95).
-fn restore_rooted(s: &mut [u8], k: u8, path: &[u8], b: Backend) -> Restored
+fn restore_rooted(s: &mut [u8], fs_idx: u8, path: &[u8], b: Backend) -> Restored
     requires { ⌜ laid (now s) ≡ true ⌝ }
     requires { ⌜ tooLong (now path) ≡ false ⌝ }
     requires { ⌜ rooted (now path) ≡ true ⌝ }
-    requires { ⌜ 1 ≤ k ⌝ }
-    ensures { λ r. ⌜ Follows (restoredRule (view (now (s .entry))) k (requestOf (now (path .entry)) b)) (restoredMem k (requestOf (now (path .entry)) b) (now (s .entry))) (restoredTold r) (now (s .exit)) ⌝ }
+    requires { ⌜ 1 ≤ «fs_idx» ⌝ }
+    ensures { λ r. ⌜ Follows (restoredRule (view (now (s .entry))) «fs_idx» (requestOf (now (path .entry)) b)) (restoredMem «fs_idx» (requestOf (now (path .entry)) b) (now (s .entry))) (restoredTold r) (now (s .exit)) ⌝ }
 {
     match pseudo_fs::inner::walk(s, path) {
-        Found::Nothing => restore_new(s, k, path, b),
-        Found::Node(x) => restore_at(s, k, x, b),
+        Found::Nothing => restore_new(s, fs_idx, path, b),
+        Found::Node(x) => restore_at(s, fs_idx, x, b),
     }
 }
 
-// The first of the rows of a restored mount that applies, or the mount at the index given (R91 to R95).
-pub fn restore_mount(s: &mut [u8], k: u8, path: &[u8], b: Backend) -> Restored
-    ensures { λ r. ⌜ Does (now (s .entry)) (λ (i : Instance). restoreMountRule i k (requestOf (now (path .entry)) b)) (restoredTold r) (now (s .exit)) (restoreMem k (requestOf (now (path .entry)) b) (now (s .entry))) ⌝ }
+// SMALL, then the first of the rows of a restored mount that applies, or the mount at the index given (R19, R91 to R95).
+pub fn restore_mount(s: &mut [u8], fs_idx: u8, path: &[u8], b: Backend) -> Restored
+    ensures { λ r. ⌜ Does (now (s .entry)) (λ (i : Instance). restoreMountRule i «fs_idx» (requestOf (now (path .entry)) b)) (restoredTold r) (now (s .exit)) (restoreMem «fs_idx» (requestOf (now (path .entry)) b) (now (s .entry))) ⌝ }
 {
     if !storage::is_laid(s) {
         return Restored::Small;
@@ -93,7 +93,7 @@ pub fn restore_mount(s: &mut [u8], k: u8, path: &[u8], b: Backend) -> Restored
     if !utf8::is_utf8(path) {
         return Restored::Inval;
     }
-    if k == 0 {
+    if fs_idx == 0 {
         return Restored::BadIndex;
     }
     if rules::VFS_MAX_INO < b.max {
@@ -102,5 +102,5 @@ pub fn restore_mount(s: &mut [u8], k: u8, path: &[u8], b: Backend) -> Restored
     if !path::components::is_rooted(path) {
         return Restored::Inval;
     }
-    restore_rooted(s, k, path, b)
+    restore_rooted(s, fs_idx, path, b)
 }

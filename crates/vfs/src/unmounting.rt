@@ -44,7 +44,7 @@ fn unmount_at(s: &mut [u8], x: u64) -> Unmounted
     }
 }
 
-// Takes the mount off the node that the path leads to, and frees its index (R96 to R100).
+// Takes the mount off the node that the path leads to, and frees its index; SMALL before all else (R19, R96 to R100).
 pub fn umount(s: &mut [u8], path: &[u8]) -> Unmounted
     ensures { λ r. ⌜ Does (now (s .entry)) (λ (i : Instance). unmountRule i (now (path .entry))) (unmountedTold r) (now (s .exit)) (unmountMem (now (path .entry)) (now (s .entry))) ⌝ }
 {

@@ -62,21 +62,21 @@ pub enum Looked {
 }
 
 // The backend of an index, or NOENT where its slot is empty (R105, R106).
-fn route_tag(s: &[u8], index: u8, number: u64) -> Routed
+fn route_tag(s: &[u8], fs_idx: u8, number: u64) -> Routed
     requires { ⌜ laid (now s) ≡ true ⌝ }
-    ensures { λ r. ⌜ routedTold r ≡ toldBy (routeTag (view (now (s .entry))) index number (tagOf (view (now (s .entry))) index)) ⌝ }
+    ensures { λ r. ⌜ routedTold r ≡ toldBy (routeTag (view (now (s .entry))) «fs_idx» number (tagOf (view (now (s .entry))) «fs_idx»)) ⌝ }
 {
-    match tag_of(s, index) {
+    match tag_of(s, fs_idx) {
         Tag::Held(tag) => Routed::Backend {
             tag,
-            fs_idx: index,
+            fs_idx,
             ino: BackendNumber(number),
         },
         Tag::Empty => Routed::NoEnt,
     }
 }
 
-// Where a full number goes, the Rust's get_real_rootfs: index 0 to the tree, but number 1 to what is mounted on the root, if anything is; any other index to its tag; NOENT where a slot is empty (R105, R106, R107).
+// Where a full number goes, the Rust's get_real_rootfs: index 0 to the tree, but number 1 to what is mounted on the root, if anything is; any other index to its tag; NOENT where a slot is empty; SMALL before all else (R19, R105, R106, R107).
 pub fn route(s: &[u8], x: VfsInode) -> Routed
     ensures { λ r. ⌜ routedTold r ≡ answeredBy (now (s .entry)) (λ (i : Instance). routeRule i (x .0)) ⌝ }
 {
@@ -97,17 +97,17 @@ pub fn route(s: &[u8], x: VfsInode) -> Routed
 }
 
 // Tag and index of a mount, or NOTFOUND where its slot is empty (R103).
-fn root_held(s: &[u8], index: u8) -> Rootfs
+fn root_held(s: &[u8], fs_idx: u8) -> Rootfs
     requires { ⌜ laid (now s) ≡ true ⌝ }
-    ensures { λ r. ⌜ rootfsTold r ≡ toldBy (rootHeld (view (now (s .entry))) index (tagOf (view (now (s .entry))) index)) ⌝ }
+    ensures { λ r. ⌜ rootfsTold r ≡ toldBy (rootHeld (view (now (s .entry))) «fs_idx» (tagOf (view (now (s .entry))) «fs_idx»)) ⌝ }
 {
-    match tag_of(s, index) {
-        Tag::Held(tag) => Rootfs::Backend { tag, fs_idx: index },
+    match tag_of(s, fs_idx) {
+        Tag::Held(tag) => Rootfs::Backend { tag, fs_idx },
         Tag::Empty => Rootfs::NotFound,
     }
 }
 
-// The backend mounted where a path leads, nothing for no path or no mount, or NOTFOUND where its slot is empty (R103, R104).
+// The backend mounted where a path leads, nothing for no path or no mount, or NOTFOUND where its slot is empty; SMALL before all else (R19, R103, R104).
 pub fn get_rootfs(s: &[u8], path: &[u8]) -> Rootfs
     ensures { λ r. ⌜ rootfsTold r ≡ answeredBy (now (s .entry)) (λ (i : Instance). rootRule i (now (path .entry))) ⌝ }
 {
@@ -134,7 +134,7 @@ fn remap(s: &[u8], id: u32, outward: bool) -> u32
     id_map::map_back(m, id)
 }
 
-// The ids of an attribute by the mapping in force, out or back (R113, R114, R118).
+// The ids of an attribute by the mapping in force, out or back; SMALL before all else (R19, R113, R114, R118).
 pub fn remap_attr_id(s: &[u8], uid: u32, gid: u32, outward: bool) -> Remapped
     ensures { λ r. ⌜ remappedTold r ≡ answeredBy (now (s .entry)) (λ (i : Instance). remapRule i outward uid gid) ⌝ }
 {
@@ -164,7 +164,7 @@ fn root_entry(s: &[u8], m: MountPoint) -> Entry
     }
 }
 
-// In a directory by a name, the Rust's lookup_pseudo: the root entry of the mount on what is found, by `.` and `..` too, or its pseudo entry (R57 to R60, R108 to R111).
+// In a directory by a name, the Rust's lookup_pseudo: the root entry of the mount on what is found, by `.` and `..` too, or its pseudo entry; SMALL before all else (R19, R57 to R60, R108 to R111).
 pub fn lookup(s: &[u8], parent: NodeNumber, name: &[u8]) -> Looked
     ensures { λ r. ⌜ lookedTold r ≡ answeredBy (now (s .entry)) (λ (i : Instance). lookupRule i (parent .0) (now (name .entry))) ⌝ }
 {

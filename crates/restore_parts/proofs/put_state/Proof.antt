@@ -12,7 +12,7 @@ returns c =
     let u₂ = u₃ .before .before .before .before in
     let u₁ = u₂ .before .before .before .before in
     let a = u₁ .before .before .before .before .args in
-    c .before .before .put-u82 .ensures ∙ (rw (u₃ .put-u8 .ensures, u₂ .put-options .ensures, u₁ .put-u64 .ensures, u₁ .before .before .has-bits .ensures) (state-put (a .s .now) (a .next) (a .counter) (meant (a .o))))
+    c .before .before .put-u82 .ensures ∙ (rw (u₃ .put-u8 .ensures, u₂ .put-options .ensures, u₁ .put-u64 .ensures, u₁ .before .before .initialized-byte .ensures) (state-put (a .s .now) (a .next) (a .counter) (meant (a .o))))
 
 pub put-state-spec : {M : Type 1} → statement M
 put-state-spec =

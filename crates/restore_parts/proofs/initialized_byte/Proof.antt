@@ -1,8 +1,8 @@
 -- Both returns are the byte of the flag. Assumes nothing.
 use borrow.Author.Needs.{needs}
 use Rattle.restore_parts.proofs.StateTests.{no-bits, some-bits}
-use Rattle.restore_parts.proofs.has_bits.Statement.{statement}
-use Rattle.restore_parts.proofs.has_bits.Tie as tie
+use Rattle.restore_parts.proofs.initialized_byte.Statement.{statement}
+use Rattle.restore_parts.proofs.initialized_byte.Tie as tie
 
 returns : tie.Need-returns
 returns c = search (no-bits, needs)
@@ -10,5 +10,5 @@ returns c = search (no-bits, needs)
 returns-2 : tie.Need-returns-2
 returns-2 c = search (some-bits, needs)
 
-pub has-bits-spec : {M : Type 1} → statement M
-has-bits-spec = tie.close (tie.spec returns returns-2)
+pub initialized-byte-spec : {M : Type 1} → statement M
+initialized-byte-spec = tie.close (tie.spec returns returns-2)
