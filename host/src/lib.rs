@@ -22,6 +22,9 @@
 //! # Ok(())
 //! # }
 //! ```
+//!
+//! An index comes round again. So a gateway whose sessions keep numbers gives a stamp along with each, and judges by it:
+//! README.md of this crate, "Kept numbers".
 #![deny(unsafe_code)]
 #![warn(missing_docs)]
 

@@ -257,6 +257,9 @@ impl Vfs {
 
     /// From now on a done unmount also removes its node; the root always stays. Nothing unsets this.
     ///
+    /// Then unmount what is mounted below a path before the path itself. Else what stands below stays mounted where no
+    /// path reaches it, and its numbers still lead into it.
+    ///
     /// ```
     /// use galdovar::{Backend, Tag, Vfs, VfsOptions};
     ///
@@ -367,6 +370,9 @@ impl Vfs {
 
     /// Mounts a backend at a path under the index that it had before. The counter does not move.
     ///
+    /// Numbers that were kept of another mount at that index lead into this one at once. So a host whose sessions keep
+    /// numbers draws a new stamp for the index, unless it puts back what had it: README.md of this crate, "Kept numbers".
+    ///
     /// Refused, in this order: SMALL, TOOLONG, INVAL (not UTF-8), BADINDEX, INODE (largest number), NOROOM, INVAL (no
     /// leading `/`), INODE (root number).
     ///
@@ -378,7 +384,7 @@ impl Vfs {
     /// vfs.restore_mount(Backend::new(Tag(7)), 9, "/a")?;
     /// let other = vfs.restore_mount(Backend::new(Tag(8)), 9, "/b")?;
     /// assert_eq!((other.replaced, other.displaced), (None, Some(Tag(7))));
-    /// assert_eq!(vfs.restore_mount(Backend::new(Tag(7)), 0, "/a"), Err(VfsError::BadIndex));
+    /// assert_eq!(vfs.restore_mount(Backend::new(Tag(9)), 0, "/c"), Err(VfsError::BadIndex));
     /// # Ok(())
     /// # }
     /// ```
@@ -471,8 +477,8 @@ impl Vfs {
 
     /// Where a full number goes: to the tree, to a backend, or NOENT where nothing is mounted at its index.
     ///
-    /// An index comes round again, so this does not say whether a number that was kept belongs to the mount that is
-    /// there now. The host tells by the counts of its mounts: README.md of this crate, "How old a kept number may be".
+    /// An index comes round again, so this does not say whether a number that was kept was handed out for the mount that
+    /// is there now. The host tells by a stamp for each index: README.md of this crate, "Kept numbers".
     ///
     /// ```
     /// use galdovar::{convert_inode, Backend, BackendNumber, Route, Tag, Vfs, VfsError, VfsOptions};
@@ -606,7 +612,7 @@ impl Vfs {
     }
 
     /// Takes over a saved state: its tree, next number, counter and options. The mounts are then made again, each by
-    /// [`Vfs::restore_mount`].
+    /// [`Vfs::restore_mount`], before any new one: README.md of this crate, "Around a restart".
     ///
     /// Refused, in this order, with nothing changed: SMALL, NOTFRESH, BADSAVE, BADOPT, NOROOM. The cost grows with the
     /// square of the records, so a host that does not trust the bytes refuses what is longer than [`MAX_SAVED`].
