@@ -35,7 +35,7 @@ module _ (P : List ℕ → Type 0) where
   rest-names (parent at) ps h = h
   rest-names (name at p) ps h = h .1
 
--- what the pieces that are kept as names get of a property of all pieces, the names have
+-- the law: each piece has P, and one that is a name has Q then; so each name has Q
 pub kept-names : (P Q : List ℕ → Type 0) → ((p : List ℕ) → same p [] ≡ false → isDot p ≡ false → isDots p ≡ false → P p → Q p)
     → (at : ℕ) (ps : List (List ℕ)) → EachPiece P ps → EachName Q (kept at ps)
 unfolding EachPiece EachName kept sorted

@@ -58,10 +58,10 @@ pub record DoesBy {A : Type 0} (says : Told → A) (mem : List ℕ) (f : Instanc
   pub stands : laid mem ≡ true → view after ≡ f (view mem) .after
   pub keeps : laid mem ≡ true → laid after ≡ true
 
--- the first, where the answer is what is told (R15, R17)
+-- `WritesBy` where the answer is what is told (R15, R17)
 abbrev pub Writes : List ℕ → (Instance → Outcome) → List ℕ → Told → List ℕ → Type 0
 Writes = WritesBy (λ (t : Told). t)
 
--- the second (R15, R21)
+-- `DoesBy` where it is (R15, R21)
 abbrev pub Does : List ℕ → (Instance → Outcome) → Told → List ℕ → List ℕ → Type 0
 Does = DoesBy (λ (t : Told). t)
