@@ -1,4 +1,4 @@
--- What the places of a line's spaces say of the line. Assumes nothing.
+-- What the places of a line's spaces say of the line, and where it is cut. Assumes nothing.
 use Prim.Native.Nat.{ℕ, _+_, _≤_, _<_}
 use native.Mathlib.Omega.{arith}
 use mathlib.Core.Path.{_≡_, refl, sym, ap, _∙_}

@@ -1,4 +1,4 @@
--- The first fault of a path, the rule of the walk by it, and the pseudo entry, which is the rules'. Assumes nothing.
+-- The first fault of a path, the rule of the walk by it, what a walk's answer says, and the pseudo entry, which is the rules'. Assumes nothing.
 use mathlib.Core.Path.{_≡_, refl, sym, ap, _∙_}
 use mathlib.Core.Bool.{Bool, true, false, cond, not, _||_}
 use mathlib.Core.List.{List}
