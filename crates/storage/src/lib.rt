@@ -213,7 +213,7 @@ pub fn create(
     Created::Done
 }
 
-// From now on a done unmount also removes its node; the root always stays (R32, R100).
+// From now on a done unmount also removes its node; the root always stays; SMALL before all else (R19, R32, R100).
 pub fn set_remove_pseudo_root(s: &mut [u8]) -> Removal
     ensures { λ r. ⌜ Does (now (s .entry)) removeCall (removalTold r) (now (s .exit)) (cond (laid (now (s .entry))) (setRemoval (now (s .entry))) (now (s .entry))) ⌝ }
 {
@@ -224,7 +224,7 @@ pub fn set_remove_pseudo_root(s: &mut [u8]) -> Removal
     Removal::Done
 }
 
-// Whether the instance is initialized (R33, R134).
+// Whether the instance is initialized; SMALL before all else (R19, R33, R134).
 pub fn initialized(s: &[u8]) -> IsInitialized
     ensures { λ r. ⌜ initializedTold r ≡ answeredBy (now (s .entry)) initializedCall ⌝ }
 {
@@ -234,7 +234,7 @@ pub fn initialized(s: &[u8]) -> IsInitialized
     IsInitialized::Is(le::fields::get_u8(s, tables::header::INITIALIZED_AT) != 0)
 }
 
-// The options, with their own mapping (R27, R34).
+// The options, with their own mapping; SMALL before all else (R19, R27, R34).
 pub fn options(s: &[u8]) -> OptionsOf
     ensures { λ r. ⌜ optionsTold r ≡ answeredBy (now (s .entry)) optionsCall ⌝ }
 {
