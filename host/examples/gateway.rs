@@ -1,8 +1,9 @@
 //! A small gateway: the tolerance limits of some laboratories, each in a file system of its own, under one tree.
 //!
 //! It tells by stamps whether a kept number is still good, and hands all that it knows to the next gateway. It writes no
-//! record on a disk, so after a crash all stamps are new, and sessions open all again. docs/GUARANTEES.md, "Around a
-//! restart", says what to write, and when.
+//! record on a disk, so after a crash all stamps are new, and sessions open all again. A call here waits for the requests
+//! that use the backend which it took off, and not for those of an earlier call; a handover does not wait. docs/GUARANTEES.md,
+//! "How a gateway tells" and "Around a restart", says what a gateway owes besides.
 use galdovar::{
     convert_inode, Backend, BackendNumber, Route, Tag, Vfs, VfsError, VfsIndex, VfsInode,
     VfsOptions,
