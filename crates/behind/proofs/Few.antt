@@ -2,8 +2,8 @@
 use mathlib.Core.Path.{sym, ap, subst}
 use mathlib.Core.Bool.{Bool, true, false, cond}
 use mathlib.Core.List.{List, [], _∷_, _++_}
-use mathlib.Core.Option.{none, some}
-use Prim.Native.Nat.{ℕ, zero, suc, _+_, _/_, _%_, _^_, _<_}
+use mathlib.Core.Option.{some}
+use Prim.Native.Nat.{ℕ, zero, suc, _+_, _^_, _<_}
 use native.Mathlib.Omega.{arith}
 use lib.Dec.{eqb}
 use Rattle.le.specs.Mem.{get}
@@ -15,6 +15,7 @@ use Rattle.rules.proofs.Fields.{get-fits}
 use Rattle.tables.specs.Table.{row, tab}
 use Rattle.tables.specs.Layout.{capacityOf, countOf}
 use Rattle.tables.proofs.Cells.{mountCellAt}
+use Rattle.tables.proofs.Spells.{from-word}
 use Rattle.tables.specs.View.{mountFrom, nodeFrom, nodeAt, view}
 use Rattle.tables.proofs.Find.{nodes-of}
 use Rattle.placing.specs.Place.{InSlots}
@@ -31,12 +32,7 @@ pub record TreeIn (t : Tree) : Type 0 where
 -- ---- in the bytes
 
 from-in : (word uid gid mode : ℕ) → word < 2 ^ 64 → InSlots (mountFrom word uid gid mode)
-unfolding mountFrom
-from-in word uid gid mode h = go (eqb (word / 2 ^ 56) 0)
-  where
-    go : (b : Bool) → InSlots (cond b none (some (record { index = word / 2 ^ 56; root = word % 2 ^ 56; uid = uid; gid = gid; mode = mode })))
-    go true = tt
-    go false = omega arith
+from-in word uid gid mode h = from-word InSlots word uid gid mode tt (omega arith)
 
 module _ (mem : List ℕ) (b : Bytes mem) where
   row-in : (n i : ℕ) → InSlots (nodeAt n mem i .mount)

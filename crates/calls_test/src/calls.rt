@@ -17,7 +17,13 @@ fn create(n: &[u64; 8], s: &mut [u8], regs: &mut [u64; CELLS]) {
         external: low32(n[6]),
         range: low32(n[7]),
     };
-    let a = storage::create(s, n[0] as usize, n[1], n[2], n[3], low8(n[4]), mapping);
+    let o = storage::VfsOptions {
+        in_opts: n[2],
+        out_opts: n[3],
+        mapping,
+        flags: low8(n[4]),
+    };
+    let a = storage::create(s, n[0] as usize, n[1], o);
     sink::code(flat::created(a).code, regs);
 }
 

@@ -23,7 +23,7 @@ fn digits(out: &mut [u8], at: usize, n: u64) -> usize
 }
 
 // Writes a number as a decimal without leading zeros from the place `at` on, where 20 bytes fit (R152).
-pub fn put(out: &mut [u8], at: usize, n: u64) -> usize
+pub fn put_decimal(out: &mut [u8], at: usize, n: u64) -> usize
     requires { ⌜ at + 20 ≤ length (now out) ⌝ }
     ensures { λ r. ⌜ Wrote (now (out .entry)) at 20 (decimal n) r (now (out .exit)) ⌝ }
 {
@@ -40,7 +40,7 @@ pub fn put_byte(out: &mut [u8], at: usize, b: u8) -> usize
 }
 
 // Writes a number of one byte, of at most three digits, from the place `at` on (R152).
-pub fn put_u8(out: &mut [u8], at: usize, n: u8) -> usize
+pub fn put_decimal_u8(out: &mut [u8], at: usize, n: u8) -> usize
     requires { ⌜ at + 3 ≤ length (now out) ⌝ }
     ensures { λ r. ⌜ Wrote (now (out .entry)) at 3 (decimal n) r (now (out .exit)) ⌝ }
 {

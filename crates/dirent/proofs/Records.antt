@@ -8,7 +8,7 @@ use native.Mathlib.Decide.{decLe}
 use lib.ListN.{length, drop, replicate, length-append, length-replicate}
 use borrow.Author.Tests.{le-leb, lt-leb}
 use Rattle.rules.specs.Fields.{fields}
-use Rattle.rules.specs.Listing.{padding, recordOf, direntRow, dirent, laid}
+use Rattle.rules.specs.Listing.{padding, recordOf, direntRow, dirent, laidRecords}
 use Rattle.rules.proofs.Fields.{length-read, total, fields-length}
 use Rattle.le.specs.Mem.{read, write, put}
 use Rattle.le.proofs.Lens.{length-write, write-append, put-write, low-bytes}
@@ -45,26 +45,26 @@ module _ (ino off : ℕ) (name : List ℕ) where
 
 -- ---- laid or not
 
-pub laid-in : (room : ℕ) (r : List ℕ) (rs : List (List ℕ)) → length r ≤ room → laid room (r ∷ rs) ≡ r ++ laid (room - length r) rs
-unfolding laid
+pub laid-in : (room : ℕ) (r : List ℕ) (rs : List (List ℕ)) → length r ≤ room → laidRecords room (r ∷ rs) ≡ r ++ laidRecords (room - length r) rs
+unfolding laidRecords
 laid-in room r rs h = rw (le-leb (length r) room h)
 
-pub laid-out : (room : ℕ) (r : List ℕ) (rs : List (List ℕ)) → room < length r → laid room (r ∷ rs) ≡ []
-unfolding laid
+pub laid-out : (room : ℕ) (r : List ℕ) (rs : List (List ℕ)) → room < length r → laidRecords room (r ∷ rs) ≡ []
+unfolding laidRecords
 laid-out room r rs h = rw (lt-leb (length r) room h)
 
-laid-within : (room : ℕ) (rs : List (List ℕ)) → length (laid room rs) ≤ room
-unfolding laid
+laid-within : (room : ℕ) (rs : List (List ℕ)) → length (laidRecords room rs) ≤ room
+unfolding laidRecords
 laid-within room [] = omega arith
 laid-within room (r ∷ rs) = go (decLe (length r) room) (laid-within (room - length r) rs)
   where
-    go : Dec (length r ≤ room) → length (laid (room - length r) rs) ≤ room - length r → length (laid room (r ∷ rs)) ≤ room
-    go (yes h) w = omega (arith, ap length (laid-in room r rs h), length-append r (laid (room - length r) rs))
+    go : Dec (length r ≤ room) → length (laidRecords (room - length r) rs) ≤ room - length r → length (laidRecords room (r ∷ rs)) ≤ room
+    go (yes h) w = omega (arith, ap length (laid-in room r rs h), length-append r (laidRecords (room - length r) rs))
     go (no h) w = omega (arith, ap length (laid-out room r rs (omega arith)))
 
 -- the bytes after, part by part: the records, and what stood behind them
-pub lays-over : (d : List ℕ) (room : ℕ) (rs : List (List ℕ)) (n : ℕ) (e : List ℕ) → room ≤ length d → Lays d room rs n e → e ≡ laid room rs ++ drop n d
-lays-over d room rs n e h w = rw (w .count) (w .bytes ∙ write-over d (laid room rs) (omega (arith, laid-within room rs)))
+pub lays-over : (d : List ℕ) (room : ℕ) (rs : List (List ℕ)) (n : ℕ) (e : List ℕ) → room ≤ length d → Lays d room rs n e → e ≡ laidRecords room rs ++ drop n d
+lays-over d room rs n e h w = rw (w .count) (w .bytes ∙ write-over d (laidRecords room rs) (omega (arith, laid-within room rs)))
 
 -- a record that was laid, and one that was not
 pub record Laid-in (d : List ℕ) (room : ℕ) (r : List ℕ) (n : ℕ) (e : List ℕ) : Type 0 where
@@ -78,8 +78,8 @@ pub record Laid-out (d : List ℕ) (room : ℕ) (r : List ℕ) (n : ℕ) (e : Li
   pub bytes : e ≡ d
 
 module _ (d : List ℕ) (room : ℕ) (r : List ℕ) (n : ℕ) (e : List ℕ) where
-  one : length r ≤ room → laid room (r ∷ []) ≡ r
-  unfolding laid
+  one : length r ≤ room → laidRecords room (r ∷ []) ≡ r
+  unfolding laidRecords
   one h = laid-in room r [] h ∙ append-nil r
 
   pub lays-in : Laid-in d room r n e → Lays d room (r ∷ []) n e

@@ -58,7 +58,7 @@ fn put_number(out: &mut [u8], n: usize, v: u64) -> usize
     ensures { λ r. ⌜ Wrote (now (out .entry)) n (length (now (out .entry)) - n) (take (length (now (out .entry)) - n) (decimal v)) r (now (out .exit)) ⌝ }
 {
     let mut text = [0u8; 20];
-    let k = decimal::inner::put(&mut text, 0, v);
+    let k = decimal::inner::put_decimal(&mut text, 0, v);
     put_run(out, n, &text[0..k])
 }
 

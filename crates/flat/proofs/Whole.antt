@@ -6,7 +6,7 @@ use Rattle.rules.specs.Numbers.{DONE, NOROOM, BADMAP, BADSAVE, NOTFRESH, BADOPT
 use Rattle.inode.specs.Converted.{codeOf, fullOf}
 use Rattle.inode.specs.declared.Converted.{Converted}
 use Rattle.inode.specs.declared.Converted.the-variants.{Full as ConvertedFull, Inode as ConvertedInode}
-use Rattle.path.specs.Checks.{code}
+use Rattle.path.specs.Checks.{checkedCode}
 use Rattle.path.specs.declared.names.Checked.{Checked}
 use Rattle.path.specs.declared.names.Checked.the-variants.{Done as CheckedDone, Inval as CheckedInval}
 use Rattle.storage.specs.Creation.{createdCode}
@@ -129,9 +129,9 @@ converted-apart = apart (λ (a : Converted). inodeNumbers (codeOf a) (fullOf a))
 abbrev checkedBack : CodeAnswer → Checked
 checkedBack r = at DONE (r .code) CheckedDone CheckedInval
 
-checked-back : (a : Checked) → checkedBack (codeAlone (code a)) ≡ a
+checked-back : (a : Checked) → checkedBack (codeAlone (checkedCode a)) ≡ a
 checked-back CheckedDone = refl
 checked-back CheckedInval = refl
 
-pub checked-apart : (a b : Checked) → codeAlone (code a) ≡ codeAlone (code b) → a ≡ b
-checked-apart = apart (λ (a : Checked). codeAlone (code a)) checkedBack checked-back
+pub checked-apart : (a b : Checked) → codeAlone (checkedCode a) ≡ codeAlone (checkedCode b) → a ≡ b
+checked-apart = apart (λ (a : Checked). codeAlone (checkedCode a)) checkedBack checked-back

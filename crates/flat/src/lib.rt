@@ -2,7 +2,7 @@
 ghost use mathlib.Core.Path.{_≡_};
 ghost use Rattle.rules.specs.Numbers.{orZero};
 ghost use Rattle.inode.specs.Converted.{codeOf, fullOf};
-ghost use Rattle.path.specs.Checks.{code};
+ghost use Rattle.path.specs.Checks.{checkedCode};
 ghost use Rattle.tables.specs.Write.{yesByte};
 ghost use Rattle.tables.specs.Answer.{tagIn};
 ghost use Rattle.tables.specs.Call.{counted, refuses};
@@ -580,7 +580,7 @@ pub fn converted(a: Converted) -> InodeAnswer
 
 // What the component check answers, as its number (R61).
 pub fn checked(a: Checked) -> CodeAnswer
-    ensures { λ r. ⌜ r ≡ codeAlone (code a) ⌝ }
+    ensures { λ r. ⌜ r ≡ codeAlone (checkedCode a) ⌝ }
 {
     match a {
         Checked::Done => CodeAnswer { code: DONE },

@@ -5,7 +5,7 @@ use Rattle.rules.specs.Ids.{Mapping}
 use Rattle.rules.specs.Create.{Creation}
 use Rattle.rules.specs.Mount.{Request}
 
--- a mapping (R112)
+-- a mapping (R27)
 abbrev pub mappingBy : ℕ → ℕ → ℕ → Mapping
 mappingBy internal external range = record { internal = internal; external = external; range = range }
 

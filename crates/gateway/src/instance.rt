@@ -16,6 +16,7 @@ use flat::IdsAnswer;
 use flat::InitializedAnswer;
 use flat::OptionsAnswer;
 use id_map::IdMapping;
+use storage::VfsOptions;
 
 // A new instance of N nodes, whatever the bytes held: SMALL, then BADOPT, then BADMAP, or done (R19, R26 to R34).
 #[no_mangle]
@@ -37,7 +38,13 @@ pub extern "C" fn galdovar_create(
         external,
         range,
     };
-    flat::created(storage::create(storage, n, known, in_opts, out_opts, flags, mapping))
+    let o = VfsOptions {
+        in_opts,
+        out_opts,
+        mapping,
+        flags,
+    };
+    flat::created(storage::create(storage, n, known, o))
 }
 
 // From now on a done unmount also removes its node; the root always stays (R32, R100).

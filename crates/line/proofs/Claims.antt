@@ -10,7 +10,7 @@ use borrow.Author.Tests.{ltb-true, ltb-false, ne-eqb}
 use Rattle.rules.specs.Bytes.{holds, ascii}
 use Rattle.rules.specs.Instance.{Instance}
 use Rattle.rules.specs.Outcome.{Answer, nothing, mounted, restored, unmounted, walked, rootfs, toTree, toBackend, entry, ids, wrote, settings, truth, Outcome}
-use Rattle.rules.specs.Session.{Line, mount, umount, walk, look, digits, decimal, joined, numbers, textOf, routed, says, answers, parsed, replyTo}
+use Rattle.rules.specs.Session.{Line, mount, umount, walk, look, digits, decimal, joined, numbers, textOf, routed, lineReply, answers, parsed, replyTo}
 use Rattle.tables.specs.View.{view}
 use Rattle.tables.specs.Rule.{laid}
 use Rattle.vfs.specs.Mounting.{mountMem}
@@ -84,8 +84,8 @@ module _ (b : ℕ) (no-digit : (n : ℕ) → n < 10 → 48 + n ≡ b → ⊥) (n
   in-routed i p o (settings s) = in-text _
   in-routed i p o (truth t) = in-text _
 
-  in-says : (i : Instance) (l : Line) → holds b (says i l .text) ≡ false
-  unfolding says
+  in-says : (i : Instance) (l : Line) → holds b (lineReply i l .text) ≡ false
+  unfolding lineReply
   in-says i (mount path tag root largest) = in-text _
   in-says i (umount path) = in-text _
   in-says i (walk path) = in-text _

@@ -12,8 +12,8 @@ use Rattle.rules.specs.Bytes.{same, ascii}
 use Rattle.rules.proofs.Tests.{and-both}
 use Rattle.decimal.proofs.Steps.{some-by}
 use Rattle.rules.specs.Session.{Line, mount, umount, walk, look, allDigits, spelt, number, anyEmpty, mountLine, lineOf}
-use Rattle.line.specs.declared.forms.Request.the-variants.{Numbers, Bad as BadRequest}
-use Rattle.line.specs.Fields.{formed, requestFrom}
+use Rattle.line.specs.declared.forms.MountNumbers.the-variants.{Numbers, Bad as BadNumbers}
+use Rattle.line.specs.Fields.{formed, mountNumbersFrom}
 
 -- ---- empty and filled
 
@@ -86,15 +86,15 @@ module _ (v x p : List ℕ) where
 
 -- ---- five fields
 
-request-good : (x y z : Option ℕ) (a b c : ℕ) → requestFrom x y z ≡ Numbers a b c → (x ≡ some a) × ((y ≡ some b) × (z ≡ some c))
-unfolding requestFrom
+request-good : (x y z : Option ℕ) (a b c : ℕ) → mountNumbersFrom x y z ≡ Numbers a b c → (x ≡ some a) × ((y ≡ some b) × (z ≡ some c))
+unfolding mountNumbersFrom
 request-good none y z a b c e = absurd (let n : _≡_ {A = ℕ} 0 1 = cc in let m : ⊥ = omega arith in m)
 request-good (some t) none z a b c e = absurd (let n : _≡_ {A = ℕ} 0 1 = cc in let m : ⊥ = omega arith in m)
 request-good (some t) (some r) none a b c e = absurd (let n : _≡_ {A = ℕ} 0 1 = cc in let m : ⊥ = omega arith in m)
 request-good (some t) (some r) (some m) a b c e = (cc, (cc, cc))
 
-request-bad : (p : List ℕ) (x y z : Option ℕ) → requestFrom x y z ≡ BadRequest → mountLine p x y z ≡ none
-unfolding requestFrom
+request-bad : (p : List ℕ) (x y z : Option ℕ) → mountNumbersFrom x y z ≡ BadNumbers → mountLine p x y z ≡ none
+unfolding mountNumbersFrom
 request-bad p none y z e = refl
 request-bad p (some t) none z e = refl
 request-bad p (some t) (some r) none e = refl
@@ -109,11 +109,11 @@ module _ (v p t r m : List ℕ) where
   unfolding formed lineOf
   five-other e = rw e (either (anyEmpty (v ∷ p ∷ t ∷ r ∷ m ∷ [])) none)
 
-  pub five-bad : requestFrom (number 32 t) (number 64 r) (number 64 m) ≡ BadRequest → formed (v ∷ p ∷ t ∷ r ∷ m ∷ []) ≡ none
+  pub five-bad : mountNumbersFrom (number 32 t) (number 64 r) (number 64 m) ≡ BadNumbers → formed (v ∷ p ∷ t ∷ r ∷ m ∷ []) ≡ none
   unfolding formed lineOf
   five-bad e = rw (request-bad p (number 32 t) (number 64 r) (number 64 m) e, either {A = Option Line} (same v (ascii "mount")) none) (either (anyEmpty (v ∷ p ∷ t ∷ r ∷ m ∷ [])) none)
 
-  pub five-mount : (length p ≡ 0 → ⊥) → same v (ascii "mount") ≡ true → (a b c : ℕ) → requestFrom (number 32 t) (number 64 r) (number 64 m) ≡ Numbers a b c
+  pub five-mount : (length p ≡ 0 → ⊥) → same v (ascii "mount") ≡ true → (a b c : ℕ) → mountNumbersFrom (number 32 t) (number 64 r) (number 64 m) ≡ Numbers a b c
       → formed (v ∷ p ∷ t ∷ r ∷ m ∷ []) ≡ some (mount p a b c)
   unfolding formed anyEmpty lineOf ascii
   five-mount h e a b c f =

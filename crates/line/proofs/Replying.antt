@@ -12,7 +12,7 @@ use Rattle.rules.specs.Instance.{Instance}
 use Rattle.rules.specs.Outcome.{Answer, nothing, mounted, restored, unmounted, walked, rootfs, toTree, toBackend, entry, ids, wrote, settings, truth, Outcome}
 use Rattle.rules.specs.Lookup.{routeRule}
 use Rattle.rules.specs.Calls.{rule}
-use Rattle.rules.specs.Session.{Line, mount, umount, walk, look, number, routed, says, answers}
+use Rattle.rules.specs.Session.{Line, mount, umount, walk, look, number, routed, lineReply, answers}
 use Rattle.rules.proofs.Still.{walk-still, route-still, lookup-still}
 use Rattle.tables.specs.View.{view}
 use Rattle.tables.specs.Rule.{laid}
@@ -21,10 +21,10 @@ use Rattle.decimal.specs.Wrote.{Wrote}
 use Rattle.decimal.specs.declared.Number.{Number}
 use Rattle.decimal.specs.declared.Number.the-variants.{Value, Bad}
 use Rattle.decimal.proofs.Texts.{wrote-wider}
-use Rattle.line.specs.declared.forms.Request.{Request}
-use Rattle.line.specs.declared.forms.Request.the-variants.{Numbers, Bad as BadRequest}
+use Rattle.line.specs.declared.forms.MountNumbers.{MountNumbers}
+use Rattle.line.specs.declared.forms.MountNumbers.the-variants.{Numbers, Bad as BadNumbers}
 use Rattle.line_calls.specs.Answered.{smallText, lineText, lineMem, Answered}
-use Rattle.line.specs.Fields.{formed, requestFrom}
+use Rattle.line.specs.Fields.{formed, mountNumbersFrom}
 use Rattle.line_text.proofs.Writes.{wrote-as}
 use Rattle.line.proofs.Verbs.{of-64}
 use Rattle.line.proofs.Formed.{either, two-empty, two-umount, two-walk, two-other, three-empty, three-other, three-bad, three-look, five-empty, five-other, five-bad, five-mount}
@@ -45,7 +45,7 @@ module _ (mem was left : List ℕ) (at r : ℕ) where
   no-form l e w = rw e (still none refl refl (wrote-wider (lit≤ tt) (wrote-as (sym (question-text mem)) w)))
 
 walk-instance : (i : Instance) (p : List ℕ) → answers i (some (walk p)) .instance ≡ i
-unfolding answers says rule
+unfolding answers lineReply rule
 walk-instance i p = walk-still i p .after
 
 routed-instance : (i : Instance) (p : List ℕ) (o : Outcome) → o .after ≡ i → (a : Answer) → routed i p o a .instance ≡ i
@@ -65,7 +65,7 @@ routed-instance i p o e (settings s) = e
 routed-instance i p o e (truth b) = e
 
 look-instance : (i : Instance) (x : ℕ) (p : List ℕ) → answers i (some (look x p)) .instance ≡ i
-unfolding answers says rule
+unfolding answers lineReply rule
 look-instance i x p = routed-instance i p (routeRule i x) (route-still i x .after) (routeRule i x .answer)
 
 -- ---- the answers by the fields
@@ -131,8 +131,8 @@ module _ (mem was left : List ℕ) (at r : ℕ) where
     unfolding ascii
     not-mount b e f w = no-form mem was left at r _ (five-other v p t o m (sym e ∙ not-true b f)) w
 
-    module _ (q : Request) (e : q ≡ requestFrom (number 32 t) (number 64 o) (number 64 m)) where
-      pub no-numbers : q ≡ BadRequest → Wrote was at 1 (ascii "?") r left → Answered mem (formed (v ∷ p ∷ t ∷ o ∷ m ∷ [])) was at r left mem
+    module _ (q : MountNumbers) (e : q ≡ mountNumbersFrom (number 32 t) (number 64 o) (number 64 m)) where
+      pub no-numbers : q ≡ BadNumbers → Wrote was at 1 (ascii "?") r left → Answered mem (formed (v ∷ p ∷ t ∷ o ∷ m ∷ [])) was at r left mem
       no-numbers f w = no-form mem was left at r _ (five-bad v p t o m (sym e ∙ f)) w
 
       pub mounts : (after : List ℕ) (b : Bool) (x y z : ℕ) → (length p ≡ 0 → ⊥) → b ≡ same v mount-word → not b ≡ false → q ≡ Numbers x y z

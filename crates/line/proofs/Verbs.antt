@@ -16,8 +16,8 @@ use Rattle.decimal.specs.Read.{valueIn, numberTo}
 use Rattle.decimal.specs.declared.Number.{Number}
 use Rattle.decimal.specs.declared.Number.the-variants.{Value, Bad}
 use Rattle.decimal.proofs.Steps.{some-by, of-width}
-use Rattle.line.specs.declared.forms.Request.the-variants.{Numbers, Bad as BadRequest}
-use Rattle.line.specs.Fields.{requestFrom}
+use Rattle.line.specs.declared.forms.MountNumbers.the-variants.{Numbers, Bad as BadNumbers}
+use Rattle.line.specs.Fields.{mountNumbersFrom}
 
 -- ---- words
 
@@ -42,20 +42,20 @@ at-most max v s r e f =
     omega (arith, found .1, leb-true (spelt 0 s) max (and-both (not (same s []) && allDigits s) (leb (spelt 0 s) max) (found .0) .1))
 
 module _ (tag root largest : List ℕ) (p q o : Number) (ep : valueIn p ≡ numberTo 4294967295 tag) where
-  pub no-tag : p ≡ Bad → BadRequest ≡ requestFrom (number 32 tag) (number 64 root) (number 64 largest)
-  unfolding requestFrom valueIn
+  pub no-tag : p ≡ Bad → BadNumbers ≡ mountNumbersFrom (number 32 tag) (number 64 root) (number 64 largest)
+  unfolding mountNumbersFrom valueIn
   no-tag e = rw (of-32 p tag ep, e)
 
   module _ (eq : valueIn q ≡ numberTo 18446744073709551615 root) (t : ℕ) (et : p ≡ Value t) where
-    pub no-root : q ≡ Bad → BadRequest ≡ requestFrom (number 32 tag) (number 64 root) (number 64 largest)
-    unfolding requestFrom valueIn
+    pub no-root : q ≡ Bad → BadNumbers ≡ mountNumbersFrom (number 32 tag) (number 64 root) (number 64 largest)
+    unfolding mountNumbersFrom valueIn
     no-root e = rw (of-32 p tag ep, et, of-64 q root eq, e)
 
     module _ (eo : valueIn o ≡ numberTo 18446744073709551615 largest) (r : ℕ) (er : q ≡ Value r) where
-      pub no-largest : o ≡ Bad → BadRequest ≡ requestFrom (number 32 tag) (number 64 root) (number 64 largest)
-      unfolding requestFrom valueIn
+      pub no-largest : o ≡ Bad → BadNumbers ≡ mountNumbersFrom (number 32 tag) (number 64 root) (number 64 largest)
+      unfolding mountNumbersFrom valueIn
       no-largest e = rw (of-32 p tag ep, et, of-64 q root eq, er, of-64 o largest eo, e)
 
-      pub three-numbers : (m : ℕ) → o ≡ Value m → Numbers t r m ≡ requestFrom (number 32 tag) (number 64 root) (number 64 largest)
-      unfolding requestFrom valueIn
+      pub three-numbers : (m : ℕ) → o ≡ Value m → Numbers t r m ≡ mountNumbersFrom (number 32 tag) (number 64 root) (number 64 largest)
+      unfolding mountNumbersFrom valueIn
       three-numbers m e = rw (of-32 p tag ep, et, of-64 q root eq, er, of-64 o largest eo, e)

@@ -11,8 +11,8 @@ use Rattle.rules.specs.Session.{space, Line, anyEmpty, lineOf, parsed}
 use Rattle.path.specs.Steps.{between, partEnd}
 use Rattle.line.specs.declared.Cut.{Cut}
 use Rattle.line.specs.declared.Cut.the-variants.{Two, Three, Five, Other}
-use Rattle.line.specs.declared.forms.Request.{Request}
-use Rattle.line.specs.declared.forms.Request.the-variants.{Numbers, Bad}
+use Rattle.line.specs.declared.forms.MountNumbers.{MountNumbers}
+use Rattle.line.specs.declared.forms.MountNumbers.the-variants.{Numbers, Bad}
 
 -- where the field that stands at a place ends
 abbrev pub fieldEnd : List ℕ → ℕ → ℕ
@@ -71,8 +71,8 @@ pub record Splits (s : List ℕ) (r : Cut) : Type 0 where
   pub says : Cuts s r
 
 -- three numbers, where each is one (R138, R149)
-unfoldable pub requestFrom : Option ℕ → Option ℕ → Option ℕ → Request
-requestFrom none root largest = Bad
-requestFrom (some t) none largest = Bad
-requestFrom (some t) (some r) none = Bad
-requestFrom (some t) (some r) (some m) = Numbers t r m
+unfoldable pub mountNumbersFrom : Option ℕ → Option ℕ → Option ℕ → MountNumbers
+mountNumbersFrom none root largest = Bad
+mountNumbersFrom (some t) none largest = Bad
+mountNumbersFrom (some t) (some r) none = Bad
+mountNumbersFrom (some t) (some r) (some m) = Numbers t r m

@@ -6,7 +6,7 @@ ghost use lib.ListN.{length};
 ghost use Rattle.rules.specs.Bytes.{same};
 ghost use Rattle.rules.specs.Session.{number};
 ghost use Rattle.line_calls.specs.Answered.{Answered};
-ghost use Rattle.line.specs.Fields.{formed, requestFrom};
+ghost use Rattle.line.specs.Fields.{formed, mountNumbersFrom};
 use decimal::Number;
 use line_calls::look_line;
 use line_calls::mount_line;
@@ -15,7 +15,7 @@ use line_calls::walk_line;
 use line_text::put_question;
 
 // The three numbers of a mount line, where each is one.
-enum Request {
+enum MountNumbers {
     Numbers { tag: u32, root: u64, max: u64 },
     Bad,
 }
@@ -31,22 +31,22 @@ fn is_word(field: &[u8], word: &[u8]) -> bool
 }
 
 // TAG, ROOT and MAX as numbers, of 32, 64 and 64 bits (R148, R149).
-fn numbers(tag: &[u8], root: &[u8], max: &[u8]) -> Request
-    ensures { λ r. ⌜ r ≡ requestFrom (number 32 (now (tag .entry))) (number 64 (now (root .entry))) (number 64 (now (max .entry))) ⌝ }
+fn numbers(tag: &[u8], root: &[u8], max: &[u8]) -> MountNumbers
+    ensures { λ r. ⌜ r ≡ mountNumbersFrom (number 32 (now (tag .entry))) (number 64 (now (root .entry))) (number 64 (now (max .entry))) ⌝ }
 {
     match decimal::read(tag, 4294967295) {
         Number::Value(t) => match decimal::read(root, u64::MAX) {
             Number::Value(r) => match decimal::read(max, u64::MAX) {
-                Number::Value(m) => Request::Numbers {
+                Number::Value(m) => MountNumbers::Numbers {
                     tag: t as u32,
                     root: r,
                     max: m,
                 },
-                Number::Bad => Request::Bad,
+                Number::Bad => MountNumbers::Bad,
             },
-            Number::Bad => Request::Bad,
+            Number::Bad => MountNumbers::Bad,
         },
-        Number::Bad => Request::Bad,
+        Number::Bad => MountNumbers::Bad,
     }
 }
 
@@ -112,7 +112,7 @@ pub fn five_fields(
         return put_question(out, at);
     }
     match numbers(tag, root, max) {
-        Request::Numbers { tag, root, max } => mount_line(s, path, tag, root, max, out, at),
-        Request::Bad => put_question(out, at),
+        MountNumbers::Numbers { tag, root, max } => mount_line(s, path, tag, root, max, out, at),
+        MountNumbers::Bad => put_question(out, at),
     }
 }

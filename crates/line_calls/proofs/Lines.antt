@@ -13,7 +13,7 @@ use Rattle.rules.specs.Mount.{mountRule}
 use Rattle.rules.specs.Unmount.{walkRule, unmountRule}
 use Rattle.rules.specs.Lookup.{routeRule, lookupRule}
 use Rattle.rules.specs.Calls.{rule}
-use Rattle.rules.specs.Session.{mount, umount, walk, look, textOf, values, shown, requestOf, routed, says, answers}
+use Rattle.rules.specs.Session.{mount, umount, walk, look, textOf, values, shown, lineRequest, routed, lineReply, answers}
 use Rattle.tables.specs.View.{view}
 use Rattle.tables.specs.Rule.{laid}
 use Rattle.tables.specs.Call.{Told, tells, refuses, answeredBy, Does}
@@ -42,25 +42,25 @@ by-laid f true a b x y p q = p
 by-laid f false a b x y p q = q
 
 module _ (mem path : List ℕ) where
-  mount-text : (tag root largest : ℕ) → countText (answeredBy mem (λ (i : Instance). mountRule i (requestOf path tag root largest))) ≡ lineText mem (some (mount path tag root largest))
-  unfolding countText values shown answeredBy lineText answers says rule smallText
+  mount-text : (tag root largest : ℕ) → countText (answeredBy mem (λ (i : Instance). mountRule i (lineRequest path tag root largest))) ≡ lineText mem (some (mount path tag root largest))
+  unfolding countText values shown answeredBy lineText answers lineReply rule smallText
   mount-text tag root largest = by-laid countText (laid mem) _ _ _ _ refl refl
 
   umount-text : valuesText 2 (answeredBy mem (λ (i : Instance). unmountRule i path)) ≡ lineText mem (some (umount path))
-  unfolding valuesText values shown answeredBy lineText answers says rule smallText
+  unfolding valuesText values shown answeredBy lineText answers lineReply rule smallText
   umount-text = by-laid (valuesText 2) (laid mem) _ _ _ _ refl refl
 
   walk-text : valuesText 1 (answeredBy mem (λ (i : Instance). walkRule i path)) ≡ lineText mem (some (walk path))
-  unfolding valuesText values shown answeredBy lineText answers says rule smallText
+  unfolding valuesText values shown answeredBy lineText answers lineReply rule smallText
   walk-text = by-laid (valuesText 1) (laid mem) _ _ _ _ refl refl
 
 -- ---- mount, umount, walk
 
 module _ (mem path was left after : List ℕ) (at r : ℕ) where
   pub mount-answered : (tag root largest : ℕ) (a : Mounted)
-      → Does mem (λ (i : Instance). mountRule i (requestOf path tag root largest)) (mountedTold a) after (mountMem (requestOf path tag root largest) mem)
+      → Does mem (λ (i : Instance). mountRule i (lineRequest path tag root largest)) (mountedTold a) after (mountMem (lineRequest path tag root largest) mem)
       → Wrote was at 45 (countText (mountedTold a)) r left → Answered mem (some (mount path tag root largest)) was at r left after
-  unfolding lineMem answers says rule
+  unfolding lineMem answers lineReply rule
   mount-answered tag root largest a d w = record {
     text = wrote-as (ap countText (d .answer) ∙ mount-text mem path tag root largest) w;
     bytes = d .bytes;
@@ -70,7 +70,7 @@ module _ (mem path was left after : List ℕ) (at r : ℕ) where
 
   pub umount-answered : (a : Unmounted) → Does mem (λ (i : Instance). unmountRule i path) (unmountedTold a) after (unmountMem path mem)
       → Wrote was at 45 (valuesText 2 (unmountedTold a)) r left → Answered mem (some (umount path)) was at r left after
-  unfolding lineMem answers says rule
+  unfolding lineMem answers lineReply rule
   umount-answered a d w = record {
     text = wrote-as (ap (valuesText 2) (d .answer) ∙ umount-text mem path) w;
     bytes = d .bytes;
@@ -95,7 +95,7 @@ module _ (mem : List ℕ) (x : ℕ) (p : List ℕ) where
   goes a o = routed (view mem) p o a .text
 
   laid-text : laid mem ≡ true → lineText mem (some (look x p)) ≡ goes (routeRule (view mem) x .answer) (routeRule (view mem) x)
-  unfolding lineText answers says rule
+  unfolding lineText answers lineReply rule
   laid-text h = rw h
 
   unlaid-text : laid mem ≡ false → lineText mem (some (look x p)) ≡ textOf (SMALL ∷ 0 ∷ [])

@@ -6,7 +6,7 @@ use mathlib.Core.Option.{Option, none, some}
 use mathlib.Core.Path.{_≡_}
 use Rattle.rules.specs.Numbers.{SMALL}
 use Rattle.rules.specs.Bytes.{ascii}
-use Rattle.rules.specs.Session.{Line, mount, umount, walk, look, textOf, requestOf, answers}
+use Rattle.rules.specs.Session.{Line, mount, umount, walk, look, textOf, lineRequest, answers}
 use Rattle.tables.specs.View.{view}
 use Rattle.tables.specs.Rule.{laid}
 use Rattle.vfs.specs.Mounting.{mountMem}
@@ -28,7 +28,7 @@ lineText mem l = cond (laid mem) (answers (view mem) l .text) (smallText l)
 -- the bytes after it: a mount's and an unmount's, else as they were
 unfoldable pub lineMem : Option Line → List ℕ → List ℕ
 lineMem none mem = mem
-lineMem (some (mount path tag root largest)) mem = mountMem (requestOf path tag root largest) mem
+lineMem (some (mount path tag root largest)) mem = mountMem (lineRequest path tag root largest) mem
 lineMem (some (umount path)) mem = unmountMem path mem
 lineMem (some (walk path)) mem = mem
 lineMem (some (look node name)) mem = mem

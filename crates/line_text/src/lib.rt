@@ -10,9 +10,9 @@ ghost use Rattle.vfs_query.specs.Told.{lookedTold};
 ghost use Rattle.vfs.specs.Mounting.{mountedTold};
 ghost use Rattle.vfs.specs.Unmounting.{unmountedTold};
 ghost use Rattle.line_text.specs.Texts.{valuesText, countText, backendText};
-use decimal::inner::put;
 use decimal::inner::put_byte;
-use decimal::inner::put_u8;
+use decimal::inner::put_decimal;
+use decimal::inner::put_decimal_u8;
 use pseudo_fs::PathWalk;
 use rules::codes::DONE;
 use rules::codes::FULL;
@@ -41,9 +41,9 @@ pub fn put_two(out: &mut [u8], at: usize, code: u32, x: u64) -> usize
     requires { ⌜ code < 256 ⌝ }
     ensures { λ r. ⌜ Wrote (now (out .entry)) at 24 (textOf (code ∷ x ∷ [])) r (now (out .exit)) ⌝ }
 {
-    let i = put_u8(out, at, code as u8);
+    let i = put_decimal_u8(out, at, code as u8);
     let j = put_byte(out, i, b' ');
-    put(out, j, x)
+    put_decimal(out, j, x)
 }
 
 // A code and two numbers (R152).
@@ -54,7 +54,7 @@ fn put_three(out: &mut [u8], at: usize, code: u32, x: u64, y: u64) -> usize
 {
     let i = put_two(out, at, code, x);
     let j = put_byte(out, i, b' ');
-    put(out, j, y)
+    put_decimal(out, j, y)
 }
 
 // `r`, a tag and a number (R141, R143).
@@ -64,9 +64,9 @@ pub fn put_backend(out: &mut [u8], at: usize, tag: u64, number: u64) -> usize
 {
     let i = put_byte(out, at, b'r');
     let j = put_byte(out, i, b' ');
-    let k = put(out, j, tag);
+    let k = put_decimal(out, j, tag);
     let l = put_byte(out, k, b' ');
-    put(out, l, number)
+    put_decimal(out, l, number)
 }
 
 // What a mount answers: code, index, count (R138, R144).

@@ -8,7 +8,7 @@ use borrow.Author.Tests.{eq-eqb, ne-eqb}
 use Rattle.rules.specs.Numbers.{NOENT}
 use Rattle.rules.specs.Tree.{isKnown, childrenIn}
 use Rattle.rules.specs.Outcome.{Outcome, refused, writes, firstOf}
-use Rattle.rules.specs.Listing.{direntsFrom, laid as laidRecords, listRule}
+use Rattle.rules.specs.Listing.{direntsFrom, laidRecords, listRule}
 use Rattle.le.specs.Mem.{write}
 use Rattle.tables.specs.View.{nodesOf, view}
 use Rattle.tables.specs.Rule.{laid}

@@ -8,9 +8,9 @@ use Rattle.path.specs.declared.names.Checked.{Checked}
 use Rattle.path.specs.declared.names.Checked.the-variants.{Done, Inval}
 
 -- the number of each answer
-abbrev pub code : Checked → ℕ
-code Done = DONE
-code Inval = INVAL
+abbrev pub checkedCode : Checked → ℕ
+checkedCode Done = DONE
+checkedCode Inval = INVAL
 
 -- the number that the rules give
 unfoldable pub checkCode : List ℕ → ℕ

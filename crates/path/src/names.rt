@@ -2,7 +2,7 @@
 ghost use mathlib.Core.Path.{_≡_};
 ghost use Rattle.rules.specs.Bytes.{holds};
 ghost use Rattle.rules.specs.Path.{isDot, isDots};
-ghost use Rattle.path.specs.Checks.{code, checkCode};
+ghost use Rattle.path.specs.Checks.{checkedCode, checkCode};
 
 // What the component check answers (R61).
 pub enum Checked {
@@ -67,7 +67,7 @@ pub fn has_byte(name: &[u8], b: u8) -> bool
 
 // The check of one component: `.`, `..`, a slash or a byte 0 is refused (R61, R62).
 pub fn validate_path_component(name: &[u8]) -> Checked
-    ensures { λ r. ⌜ code r ≡ checkCode (now (name .entry)) ⌝ }
+    ensures { λ r. ⌜ checkedCode r ≡ checkCode (now (name .entry)) ⌝ }
 {
     if is_dot(name) {
         return Checked::Inval;

@@ -15,7 +15,7 @@ use Rattle.rules.specs.Tree.{Node, isNone}
 use Rattle.rules.specs.Instance.{Instance}
 use Rattle.rules.specs.Outcome.{nothing, Outcome, refused, says, firstOf}
 use Rattle.rules.specs.Create.{unknown}
-use Rattle.rules.specs.Saved.{State, countOf as recordsOf, stateOf, accepted}
+use Rattle.rules.specs.Saved.{State, recordsOf, stateOf, accepted}
 use Rattle.rules.specs.Restore.{nodesFrom, noNodes, fresh, restoredTo, restoreRule}
 use Rattle.rules.proofs.Tests.{and-both}
 use Rattle.rules.proofs.Accepted.{fits}

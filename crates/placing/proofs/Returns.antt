@@ -8,7 +8,7 @@ use lib.Dec.{eqb}
 use borrow.Author.Tests.{not-true, not-false}
 use Rattle.rules.specs.Numbers.{rootNumber}
 use Rattle.rules.specs.Tree.{Mount, Node, mountAt, withMount}
-use Rattle.rules.specs.Instance.{Tree, Instance, tagIn as tagInSlot, tagOf, mountOf, setMount}
+use Rattle.rules.specs.Instance.{Tree, Instance, tagInSlot, tagOf, mountOf, setMount}
 use Rattle.rules.specs.Mount.{tagAt}
 use Rattle.tables.specs.View.{flag, headOf, slotAt, nodesOf, view}
 use Rattle.tables.specs.Rule.{laid}

@@ -9,7 +9,7 @@ use native.Mathlib.Omega.{arith}
 use lib.Dec.{eqb}
 use Rattle.rules.specs.Numbers.{rootNumber}
 use Rattle.rules.specs.Tree.{Mount}
-use Rattle.rules.specs.Instance.{Tree, Instance, emptySlot, heldBy, slotOf, tagIn as tagInSlot, tagOf, mountOf, setMount, withSlot, withTree, cut}
+use Rattle.rules.specs.Instance.{Tree, Instance, emptySlot, heldBy, slotOf, tagInSlot, tagOf, mountOf, setMount, withSlot, withTree, cut}
 use Rattle.rules.specs.Mount.{Request, mountOn, freedSlots, freed, placed}
 use Rattle.rules.specs.Unmount.{taken}
 use Rattle.tables.specs.View.{flag, headOf, slotAt, slotsOf, nodesOf, view}

@@ -39,8 +39,8 @@ pub fn place(s: &mut [u8], x: u64, m: MountPoint, tag: u32) -> Tags
     requires { ⌜ m .ino < 2 ^ 56 ⌝ }
     ensures { λ r. ⌜ Places (now (s .entry)) (mountOfPoint m) tag x r (now (s .exit)) ⌝ }
 {
-    let here = tables::mounts::under_parent(s, x);
-    let old = here.on;
+    let here = tables::mounts::with_parent(s, x);
+    let old = here.mount;
     let row = here.row;
     let replaced = free_old(s, old);
     let displaced = tables::slots::tag_of(s, m.fs_idx);

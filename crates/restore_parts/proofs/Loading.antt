@@ -6,7 +6,7 @@ use Prim.Native.Nat.{ℕ, suc, _+_, _-_, _≤_, _<_}
 use native.Mathlib.Nat.{sub-zero}
 use native.Mathlib.Omega.{arith}
 use lib.ListN.{length}
-use Rattle.rules.specs.Saved.{nodeAt, behind, nodesAt, countOf as recordsOf, stateOf, accepted}
+use Rattle.rules.specs.Saved.{nodeAt, behind, nodesAt, recordsOf, stateOf, accepted}
 use Rattle.saved.specs.Scan.{startOf}
 use Rattle.saved.proofs.Walk.{start-next}
 use Rattle.tables.specs.Layout.{capacityOf, countOf}

@@ -7,7 +7,7 @@ use native.Mathlib.Nat.{add-zero, zero-add}
 use native.Mathlib.Omega.{arith}
 use lib.ListN.{length}
 use borrow.Author.Tests.{leb-true}
-use Rattle.rules.specs.Saved.{Entry, nodeAt, nodesAt, countOf, stateOf, valid, accepted}
+use Rattle.rules.specs.Saved.{Entry, nodeAt, nodesAt, recordsOf, stateOf, valid, accepted}
 use Rattle.rules.specs.Driven.{Rises, Below, Named, Shape}
 use Rattle.rules.proofs.Tests.{passed}
 use Rattle.rules.proofs.Accepted.{nodes-count, clauses}
@@ -41,9 +41,9 @@ load-at b (suc k) (suc i) j a h =
     let e : suc j + i ≡ j + suc i = omega arith in
     subst (λ (x : ℕ). Loads (nodeAt b (startOf b x))) e (load-at b k i (suc j) (a .1) (omega arith))
 
-pub count-is : (b : List ℕ) → length (stateOf b .nodes) ≡ countOf b
+pub count-is : (b : List ℕ) → length (stateOf b .nodes) ≡ recordsOf b
 unfolding stateOf
-count-is b = nodes-count b (countOf b) 0
+count-is b = nodes-count b (recordsOf b) 0
 
 -- ---- of accepted bytes
 
@@ -62,8 +62,8 @@ module _ (b : List ℕ) (a : accepted b ≡ true) where
       let s : Shape (stateOf b .nodes) (stateOf b .next) = good-shape (stateOf b .next) (stateOf b .nodes) next-low (passed _ (clauses b a .1) .1 .1 .0) in
       shape-loads 2 (stateOf b .next) (stateOf b .nodes) (omega arith) next-top (s .rises) (s .below) (s .named)
 
-  pub record-loads : (i at : ℕ) → at ≡ startOf b i → i < countOf b → Loads (nodeAt b at)
+  pub record-loads : (i at : ℕ) → at ≡ startOf b i → i < recordsOf b → Loads (nodeAt b at)
   unfolding stateOf startOf
   record-loads i at e h =
       let z : 0 + i ≡ i = zero-add i in
-      rw (e, ← z) (load-at b (countOf b) i 0 all-load h)
+      rw (e, ← z) (load-at b (recordsOf b) i 0 all-load h)

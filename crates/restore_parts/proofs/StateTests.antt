@@ -11,7 +11,7 @@ use borrow.Author.Tests.{eq-eqb, ne-eqb, le-leb, lt-leb, lt-ltb, le-ltb}
 use Rattle.le.specs.Mem.{get, put}
 use Rattle.rules.specs.Tree.{Node, isNone}
 use Rattle.rules.specs.Create.{outside, unknown}
-use Rattle.rules.specs.Saved.{nodeAt, behind, optionsAt, optionsIn, countOf as recordsOf, nextOf, counterIn, stateOf}
+use Rattle.rules.specs.Saved.{nodeAt, behind, optionsAt, optionsIn, recordsOf, nextOf, counterIn, stateOf}
 use Rattle.rules.specs.Restore.{noNodes, fresh}
 use Rattle.rules.proofs.Tests.{le-or-lt}
 use Rattle.saved.specs.Options.{meant}

@@ -5,7 +5,7 @@ ghost use Prim.Native.Nat.{_+_, _≤_, _<_};
 ghost use lib.ListN.{length};
 ghost use lib.Dec.{ltb};
 ghost use Rattle.rules.specs.Create.{unknown};
-ghost use Rattle.rules.specs.Saved.{nodeAt, behind, countOf as recordsOf, stateOf, accepted};
+ghost use Rattle.rules.specs.Saved.{nodeAt, behind, recordsOf, stateOf, accepted};
 ghost use Rattle.rules.specs.Restore.{fresh};
 ghost use Rattle.saved.specs.Options.{meant};
 ghost use Rattle.tables.specs.Layout.{capacityOf, countOf};

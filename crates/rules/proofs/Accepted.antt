@@ -10,7 +10,7 @@ use lib.Dec.{eqb}
 use borrow.Author.Tests.{leb-true, eqb-true, ltb-true}
 use Rattle.rules.specs.Bytes.{Bytes}
 use Rattle.rules.specs.Fields.{read, get, fields}
-use Rattle.rules.specs.Saved.{Entry, nodeRow, optionsRow, trailerRow, nodeBytes, nodesBytes, optionsBytes, trailerBytes, encode, nodeAt, behind, nodesAt, endAt, optionsAt, optionsIn, trailerIn, offsetOf, countOf, nextOf, counterIn, stateOf, frame, laidOut, valid, accepted}
+use Rattle.rules.specs.Saved.{Entry, nodeRow, optionsRow, trailerRow, nodeBytes, nodesBytes, optionsBytes, trailerBytes, encode, nodeAt, behind, nodesAt, endAt, optionsAt, optionsIn, trailerIn, offsetOf, recordsOf, nextOf, counterIn, stateOf, frame, laidOut, valid, accepted}
 use Rattle.rules.specs.RoundTrip.{EntriesFit, Fits}
 use Rattle.rules.proofs.Tests.{and-both, Holds, passed}
 use Rattle.rules.proofs.Fields.{fieldsAt, length-read, read-add, read-all, get-fits, total, fields-back}
@@ -71,17 +71,17 @@ module _ (b : List ℕ) (h : Bytes b) (a : accepted b ≡ true) where
   abbrev t : ℕ
   t = trailerIn b
 
-  laid : Holds (frame b ++ (eqb (endAt b (countOf b) 0) E ∷ []))
+  laid : Holds (frame b ++ (eqb (endAt b (recordsOf b) 0) E ∷ []))
   unfolding laidOut
   laid = passed _ (clauses b a .0)
 
   long : length b ≡ E + 56
   long = omega (arith, leb-true 56 (length b) (laid .0))
 
-  records-back : nodesBytes (nodesAt b (countOf b) 0) ≡ read b 0 E
+  records-back : nodesBytes (nodesAt b (recordsOf b) 0) ≡ read b 0 E
   records-back =
-      let e : endAt b (countOf b) 0 - 0 ≡ E = omega (arith, eqb-true (endAt b (countOf b) 0) E (laid .1 .1 .1 .1 .1 .1 .0)) in
-      nodes-written b (countOf b) 0 h ∙ ap (read b 0) e
+      let e : endAt b (recordsOf b) 0 - 0 ≡ E = omega (arith, eqb-true (endAt b (recordsOf b) 0) E (laid .1 .1 .1 .1 .1 .1 .0)) in
+      nodes-written b (recordsOf b) 0 h ∙ ap (read b 0) e
 
   options-back : optionsBytes (optionsAt b E) ≡ read b E 32
   unfolding optionsBytes optionsAt fieldsAt total
@@ -95,8 +95,8 @@ module _ (b : List ℕ) (h : Bytes b) (a : accepted b ≡ true) where
   unfolding offsetOf
   offset-is = eqb-true (get 4 b t) E (laid .1 .0)
 
-  trailer-back : trailerBytes E (countOf b) (nextOf b) (counterIn b) ≡ read b t 24
-  unfolding trailerBytes fieldsAt total countOf nextOf counterIn
+  trailer-back : trailerBytes E (recordsOf b) (nextOf b) (counterIn b) ≡ read b t 24
+  unfolding trailerBytes fieldsAt total recordsOf nextOf counterIn
   trailer-back =
       let v : get 1 b (t + 17) ≡ 1 = eqb-true (get 1 b (t + 17)) 1 (laid .1 .1 .0) in
       let z : get 6 b (t + 18) ≡ 0 = eqb-true (get 6 b (t + 18)) 0 (laid .1 .1 .1 .0) in
@@ -105,7 +105,7 @@ module _ (b : List ℕ) (h : Bytes b) (a : accepted b ≡ true) where
       rw (offset-is, v, z) at r
 
   abbrev N : List Entry
-  N = nodesAt b (countOf b) 0
+  N = nodesAt b (recordsOf b) 0
 
   N-length : length (nodesBytes N) ≡ E
   N-length = ap length records-back ∙ length-read b 0 E
@@ -116,12 +116,12 @@ module _ (b : List ℕ) (h : Bytes b) (a : accepted b ≡ true) where
       let e : t ≡ E + 32 = omega (arith, long) in
       let p : read b E 32 ++ read b t 24 ≡ read b E 56 = rw e (sym (read-add b E 32 24)) in
       let q : read b 0 E ++ read b E 56 ≡ read b 0 (E + 56) = rw (read-add b 0 E 56, zero-add E) in
-      rw (N-length, nodes-count b (countOf b) 0, records-back, options-back, trailer-back, p, q, ← long) (read-all b)
+      rw (N-length, nodes-count b (recordsOf b) 0, records-back, options-back, trailer-back, p, q, ← long) (read-all b)
 
   pub fits : Fits (stateOf b)
-  unfolding stateOf optionsAt countOf nextOf counterIn
+  unfolding stateOf optionsAt recordsOf nextOf counterIn
   fits = record {
-    nodes = nodes-fit b (countOf b) 0 h;
+    nodes = nodes-fit b (recordsOf b) 0 h;
     options = record {
       inOpts = get-fits 8 b E h;
       outOpts = get-fits 8 b (E + 8) h;
@@ -131,7 +131,7 @@ module _ (b : List ℕ) (h : Bytes b) (a : accepted b ≡ true) where
       flags = ltb-true (get 1 b (E + 28)) 64 (laid .1 .1 .1 .1 .1 .0);
     };
     offset = rw (N-length, ← offset-is) (get-fits 4 b t h);
-    count = rw (nodes-count b (countOf b) 0) (get-fits 4 b (t + 4) h);
+    count = rw (nodes-count b (recordsOf b) 0) (get-fits 4 b (t + 4) h);
     next = get-fits 8 b (t + 8) h;
     counter = get-fits 1 b (t + 16) h;
   }

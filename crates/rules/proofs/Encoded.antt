@@ -9,7 +9,7 @@ use lib.ListN.{length, length-append}
 use borrow.Author.Tests.{le-leb, lt-ltb, eq-eqb}
 use Rattle.rules.specs.Fields.{read, get, fields}
 use Rattle.rules.specs.Instance.{Options}
-use Rattle.rules.specs.Saved.{Entry, State, nodeRow, optionsRow, trailerRow, nodeBytes, nodesBytes, optionsBytes, trailerBytes, encode, nodeAt, behind, nodesAt, endAt, optionsAt, optionsIn, offsetOf, countOf, nextOf, counterIn, stateOf, laidOut, valid, accepted}
+use Rattle.rules.specs.Saved.{Entry, State, nodeRow, optionsRow, trailerRow, nodeBytes, nodesBytes, optionsBytes, trailerBytes, encode, nodeAt, behind, nodesAt, endAt, optionsAt, optionsIn, offsetOf, recordsOf, nextOf, counterIn, stateOf, laidOut, valid, accepted}
 use Rattle.rules.specs.RoundTrip.{EntryFits, EntriesFit, Fits}
 use Rattle.rules.proofs.Tests.{pass}
 use Rattle.rules.proofs.Fields.{fieldsAt, read-behind, total, Fit, fields-length, fields-read}
@@ -170,8 +170,8 @@ module _ (s : State) (f : Fits s) where
   unfolding fieldsAt
   trailer-places = simp add-assoc (simp add-assoc at trailer-row)
 
-  count-read : countOf b ≡ length (s .nodes)
-  unfolding countOf
+  count-read : recordsOf b ≡ length (s .nodes)
+  unfolding recordsOf
   count-read =
       let e = trailer-places in
       let r : get 4 b (L + 32 + 4) ≡ length (s .nodes) = cc in
@@ -189,11 +189,11 @@ module _ (s : State) (f : Fits s) where
       let p₆ : get 1 b (L + 28) ≡ o .flags = cc in
       rw at-options (λ i. record { inOpts = p₁ i; outOpts = p₂ i; mapping = record { internal = p₃ i; external = p₄ i; range = p₅ i }; flags = p₆ i })
 
-  nodes-back : nodesAt b (countOf b) 0 ≡ s .nodes
+  nodes-back : nodesAt b (recordsOf b) 0 ≡ s .nodes
   unfolding encode
   nodes-back = ap (λ (k : ℕ). nodesAt (encode s) k 0) count-read ∙ nodes-read (s .nodes) [] (optionsBytes o ++ T) 0 refl (f .nodes)
 
-  ends : endAt b (countOf b) 0 ≡ L
+  ends : endAt b (recordsOf b) 0 ≡ L
   unfolding encode
   ends = ap (λ (k : ℕ). endAt (encode s) k 0) count-read ∙ nodes-end (s .nodes) [] (optionsBytes o ++ T) 0 refl (f .nodes) ∙ zero-add L
 

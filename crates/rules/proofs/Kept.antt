@@ -10,7 +10,7 @@ use lib.Dec.{eqb}
 use borrow.Author.Tests.{ne-eqb}
 use Rattle.rules.specs.Numbers.{indexOf, numberOf, NOENT}
 use Rattle.rules.specs.Round.{allocate}
-use Rattle.rules.specs.Instance.{Instance, counterOf, emptySlot, slotOf, tagIn, tagOf, heldIn}
+use Rattle.rules.specs.Instance.{Instance, counterOf, emptySlot, slotOf, tagInSlot, tagOf, heldIn}
 use Rattle.rules.specs.Outcome.{refused, says, toBackend}
 use Rattle.rules.specs.Mount.{Request, allocation}
 use Rattle.rules.specs.Lookup.{routeTag, routeRule}
@@ -76,7 +76,7 @@ mounted-tag i r k m =
 -- the tag in the slot of an index that no call gave away
 tag-since : (cs : List Call) (i : Instance) (k t : ℕ) → Ungiven k i cs → tagOf i k ≡ some t → (tagOf (afterAll i cs) k ≡ some t) ⊎ (tagOf (afterAll i cs) k ≡ none)
 tag-since cs i k t u e =
-    ⊎-elim (λ (s : slotOf (afterAll i cs) k ≡ slotOf i k). inl (ap tagIn s ∙ e)) (λ (s : slotOf (afterAll i cs) k ≡ emptySlot). inr (ap tagIn s)) (ungiven-slot cs i k u)
+    ⊎-elim (λ (s : slotOf (afterAll i cs) k ≡ slotOf i k). inl (ap tagInSlot s ∙ e)) (λ (s : slotOf (afterAll i cs) k ≡ emptySlot). inr (ap tagInSlot s)) (ungiven-slot cs i k u)
 
 -- the theorem: until its index is given away
 pub every-own : EveryOwn

@@ -14,10 +14,10 @@ use Rattle.rules.specs.Mount.{planned, needed, noRoom, freedSlots, tagAt
 use Rattle.rules.specs.Unmount.{badPath, reached, walkRule, taken, unmounts, unmountAt, unmountRule}
 use Rattle.rules.specs.Lookup.{routeTag, routeTree, routeRule, entryOf, entryAt, lookupBy, lookupRule}
 use Rattle.rules.specs.Calls.{rule}
-use Rattle.rules.specs.Session.{isDigit, allDigits, spelt, number, digits, decimal, anyEmpty, lineOf, parsed, joined, numbers, textOf, values, shown, routed, says, answers, replyTo}
+use Rattle.rules.specs.Session.{isDigit, allDigits, spelt, number, digits, decimal, anyEmpty, lineOf, parsed, joined, numbers, textOf, values, shown, routed, lineReply, answers, replyTo}
 use Rattle.rules.specs.Whole.{linesOf, replies, session}
 use Rattle.rules.specs.Worked.{Worked, input, output, results, expected}
 
 pub worked : Worked
-unfolding same holds ascii table fits firstRow sequence endFrom validTo wellFormed partsBy sorted kept components rooted anyLonger tooLong full indexOf numberOf inside mapped goingRound untilTwice visited firstFree allocate isChild childIn nodeIn isKnown parentIn walk step makes mountAt without mountOf setMount firstOf newInstance planned needed noRoom freedSlots tagAt placed allocation mountAs mountRule badPath reached walkRule taken unmounts unmountAt unmountRule routeTag routeTree routeRule entryOf entryAt lookupBy lookupRule rule isDigit allDigits spelt number digits decimal anyEmpty lineOf parsed joined numbers textOf values shown routed says answers replyTo linesOf replies session input output results expected
+unfolding same holds ascii table fits firstRow sequence endFrom validTo wellFormed partsBy sorted kept components rooted anyLonger tooLong full indexOf numberOf inside mapped goingRound untilTwice visited firstFree allocate isChild childIn nodeIn isKnown parentIn walk step makes mountAt without mountOf setMount firstOf newInstance planned needed noRoom freedSlots tagAt placed allocation mountAs mountRule badPath reached walkRule taken unmounts unmountAt unmountRule routeTag routeTree routeRule entryOf entryAt lookupBy lookupRule rule isDigit allDigits spelt number digits decimal anyEmpty lineOf parsed joined numbers textOf values shown routed lineReply answers replyTo linesOf replies session input output results expected
 worked = refl

@@ -5,7 +5,7 @@ use mathlib.Core.List.{List, [], _++_}
 use mathlib.Core.Option.{Option, none, some}
 use lib.ListN.{length, replicate, getD, set}
 use lib.Dec.{eqb}
-use Rattle.rules.specs.Numbers.{rootNumber, firstNumber, indexes}
+use Rattle.rules.specs.Numbers.{rootNumber, firstNumber, slotCount}
 use Rattle.rules.specs.Ids.{Mapping}
 use Rattle.rules.specs.Tree.{Mount, Node, nodeIn, mountAt, without}
 
@@ -84,12 +84,12 @@ abbrev pub slotOf : Instance → ℕ → Slot
 slotOf i k = getD (i .indexes .slots) k emptySlot
 
 -- the tag in a slot, or none, which is kept apart from tag 0 (R78, R97)
-abbrev pub tagIn : Slot → Option ℕ
-tagIn s = cond (s .held) (some (s .tag)) none
+abbrev pub tagInSlot : Slot → Option ℕ
+tagInSlot s = cond (s .held) (some (s .tag)) none
 
 -- the tag in the slot of an index, or none
 abbrev pub tagOf : Instance → ℕ → Option ℕ
-tagOf i k = tagIn (slotOf i k)
+tagOf i k = tagInSlot (slotOf i k)
 
 -- the slot of an index is held (R81)
 abbrev pub heldIn : Instance → ℕ → Bool
@@ -105,7 +105,7 @@ withSlot k s i = withSlots (set (i .indexes .slots) k s) i
 
 -- a new instance's: 256 empty slots, counter 1 (R31)
 abbrev pub newIndexes : Indexes
-newIndexes = record { slots = replicate indexes emptySlot; counter = 1 }
+newIndexes = record { slots = replicate slotCount emptySlot; counter = 1 }
 
 -- ---- mounts
 

@@ -32,9 +32,9 @@ direntsFrom place [] = []
 direntsFrom place (n ∷ ns) = dirent (n .number) (place + 1) (n .called) ∷ direntsFrom (place + 1) ns
 
 -- each record behind the one before it, whole ones only, stopping at the first that does not fit (R65)
-unfoldable pub laid : ℕ → List (List ℕ) → List ℕ
-laid room [] = []
-laid room (r ∷ rs) = cond (leb (length r) room) (r ++ laid (room - length r) rs) []
+unfoldable pub laidRecords : ℕ → List (List ℕ) → List ℕ
+laidRecords room [] = []
+laidRecords room (r ∷ rs) = cond (leb (length r) room) (r ++ laidRecords (room - length r) rs) []
 
 -- a node number, the size asked for, the offset, and the length of the lent buffer (R60, R66)
 pub record ListRequest : Type 0 where
@@ -50,4 +50,4 @@ listRule i q =
     ((eqb (q .size) 0 ⇒ writes [] i)
     ∷ (not (isKnown (i .tree .nodes) (q .node)) ⇒ refused NOENT i)
     ∷ [])
-    (writes (laid (min (q .size) (q .buffer)) (direntsFrom (q .offset) (drop (q .offset) (childrenIn (i .tree .nodes) (q .node))))) i)
+    (writes (laidRecords (min (q .size) (q .buffer)) (direntsFrom (q .offset) (drop (q .offset) (childrenIn (i .tree .nodes) (q .node))))) i)

@@ -25,8 +25,8 @@ abbrev pub maxNodes : ℕ
 maxNodes = 1024
 
 -- the number of index slots (R31)
-abbrev pub indexes : ℕ
-indexes = 256
+abbrev pub slotCount : ℕ
+slotCount = 256
 
 -- the mode of a pseudo entry (R13)
 abbrev pub dirMode : ℕ

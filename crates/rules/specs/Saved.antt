@@ -104,8 +104,8 @@ unfoldable pub offsetOf : List ℕ → ℕ
 offsetOf b = get 4 b (trailerIn b)
 
 -- the number of node records, as the trailer says it (R123)
-unfoldable pub countOf : List ℕ → ℕ
-countOf b = get 4 b (trailerIn b + 4)
+unfoldable pub recordsOf : List ℕ → ℕ
+recordsOf b = get 4 b (trailerIn b + 4)
 
 -- the next number (R123)
 unfoldable pub nextOf : List ℕ → ℕ
@@ -117,7 +117,7 @@ counterIn b = get 1 b (trailerIn b + 16)
 
 -- the state that any bytes spell
 unfoldable pub stateOf : List ℕ → State
-stateOf b = record { nodes = nodesAt b (countOf b) 0; options = optionsAt b (optionsIn b); next = nextOf b; counter = counterIn b }
+stateOf b = record { nodes = nodesAt b (recordsOf b) 0; options = optionsAt b (optionsIn b); next = nextOf b; counter = counterIn b }
 
 -- ---- judged
 
@@ -139,7 +139,7 @@ frame b =
 
 -- and the records fill the bytes exactly (R129 c)
 unfoldable pub laidOut : List ℕ → Bool
-laidOut b = every (frame b ++ (eqb (endAt b (countOf b) 0) (optionsIn b) ∷ []))
+laidOut b = every (frame b ++ (eqb (endAt b (recordsOf b) 0) (optionsIn b) ∷ []))
 
 -- a record is judged among those before it, the nearest first; the root stands before all (R129 g)
 unfoldable pub lastNumber : List Entry → ℕ

@@ -133,8 +133,8 @@ abbrev pub reply : ℕ → List ℕ → Outcome → Reply
 reply k more o = record { text = textOf (o .code ∷ (shown k (values (o .answer)) ++ more)); instance = o .after }
 
 -- ids 0 and mode 16895 (R138)
-abbrev pub requestOf : List ℕ → ℕ → ℕ → ℕ → Request
-requestOf path tag root largest = record { path = path; tag = tag; root = root; largest = largest; uid = 0; gid = 0; mode = dirMode }
+abbrev pub lineRequest : List ℕ → ℕ → ℕ → ℕ → Request
+lineRequest path tag root largest = record { path = path; tag = tag; root = root; largest = largest; uid = 0; gid = 0; mode = dirMode }
 
 -- a look goes where the route goes: to the tree, or to a backend, which gives r, tag and number (R141, R142, R143)
 unfoldable pub routed : Instance → List ℕ → Outcome → Answer → Reply
@@ -153,18 +153,18 @@ routed i p o (settings s) = reply 1 [] o
 routed i p o (truth b) = reply 1 [] o
 
 -- mount answers code, index, count; umount code, node, parent; walk code, node; look code, full number (R138 to R141)
-unfoldable pub says : Instance → Line → Reply
-says i (mount path tag root largest) =
-    let o = rule i (mount-call (requestOf path tag root largest)) in
+unfoldable pub lineReply : Instance → Line → Reply
+lineReply i (mount path tag root largest) =
+    let o = rule i (mount-call (lineRequest path tag root largest)) in
     reply 1 (count o ∷ []) o
-says i (umount path) = reply 2 [] (rule i (umount-call path))
-says i (walk path) = reply 1 [] (rule i (path-walk path))
-says i (look x p) = routed i p (rule i (route x)) (rule i (route x) .answer)
+lineReply i (umount path) = reply 2 [] (rule i (umount-call path))
+lineReply i (walk path) = reply 1 [] (rule i (path-walk path))
+lineReply i (look x p) = routed i p (rule i (route x)) (rule i (route x) .answer)
 
 -- a line of no such form answers `?` and changes nothing (R145)
 unfoldable pub answers : Instance → Option Line → Reply
 answers i none = record { text = ascii "?"; instance = i }
-answers i (some l) = says i l
+answers i (some l) = lineReply i l
 
 -- one line in, one line out, and the instance after (R137)
 unfoldable pub replyTo : Instance → List ℕ → Reply

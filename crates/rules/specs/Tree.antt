@@ -9,7 +9,7 @@ use Rattle.rules.specs.Bytes.{same}
 use Rattle.rules.specs.Numbers.{rootNumber}
 use Rattle.rules.specs.Path.{Part, name, parent}
 
--- a mount on a node, with the numbers as the request brought them (R3, R77)
+-- a mount on a node, with the numbers as the request brought them (R3)
 pub record Mount : Type 0 where
   pub index : ℕ
   pub root : ℕ

@@ -4,7 +4,7 @@ use Prim.Native.String.{String}
 use mathlib.Core.Path.{_≡_}
 use mathlib.Core.List.{List, [], _∷_, _++_}
 use lib.ListN.{replicate, set}
-use Rattle.rules.specs.Numbers.{indexes}
+use Rattle.rules.specs.Numbers.{slotCount}
 use Rattle.rules.specs.Bytes.{ascii}
 use Rattle.rules.specs.Instance.{Slot, Instance, withIndexes, emptySlot, heldBy, counterOf}
 use Rattle.rules.specs.Create.{newInstance}
@@ -24,7 +24,7 @@ holding slots c = withIndexes (record { slots = slots; counter = c }) (plain 64)
 
 -- every slot is held (R156)
 abbrev pub allHeld : List Slot
-allHeld = replicate indexes (heldBy 7)
+allHeld = replicate slotCount (heldBy 7)
 
 infix 20 _↝_
 -- a line, and its answer

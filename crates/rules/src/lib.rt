@@ -28,6 +28,9 @@ pub const MAX_PATH: usize = 4096;
 // The bytes of the longest line of a session (R150).
 pub const MAX_LINE: usize = 8192;
 
+// The flags of the options are below this (R29, R122).
+pub const FLAGS: u8 = 64;
+
 // The bytes of a node record without its name (R120).
 pub const RECORD: usize = 18;
 

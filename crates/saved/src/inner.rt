@@ -3,7 +3,7 @@ ghost use mathlib.Core.Path.{_≡_};
 ghost use Prim.Native.Nat.{_+_, _≤_};
 ghost use lib.ListN.{length};
 ghost use Rattle.rules.specs.Fields.{get};
-ghost use Rattle.rules.specs.Saved.{nodeAt, behind, optionsAt, optionsIn, countOf, nextOf, counterIn};
+ghost use Rattle.rules.specs.Saved.{nodeAt, behind, optionsAt, optionsIn, recordsOf, nextOf, counterIn};
 ghost use Rattle.saved.specs.Options.{meant};
 
 // The options, as they are saved (R121).
@@ -19,7 +19,7 @@ pub struct SavedOptions {
 // How many records there are (R123).
 pub fn count_of(b: &[u8]) -> usize
     requires { ⌜ 24 ≤ length (now b) ⌝ }
-    ensures { λ r. ⌜ r ≡ countOf (now (b .entry)) ⌝ }
+    ensures { λ r. ⌜ r ≡ recordsOf (now (b .entry)) ⌝ }
 {
     le::fields::get_u32(b, b.len() - rules::TRAILER + 4) as usize
 }

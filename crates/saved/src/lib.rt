@@ -27,7 +27,7 @@ fn is_framed(b: &[u8]) -> bool
     if le::fields::get_u64(b, t + 16) / 256 != 1 {
         return false;
     }
-    if 64 <= le::fields::get_u32(b, o + 28) {
+    if (rules::FLAGS as u32) <= le::fields::get_u32(b, o + 28) {
         return false;
     }
     let next = inner::next_of(b);

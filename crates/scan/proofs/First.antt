@@ -9,7 +9,7 @@ use borrow.Author.Tests.{eq-eqb, ne-eqb}
 use lib.Bits.{bitAnd}
 use Rattle.rules.proofs.Tests.{or-neither}
 use Rattle.le.specs.Mem.{get}
-use Rattle.scan.specs.First.{cellIs, anyOf, firstOf}
+use Rattle.scan.specs.First.{cellIs, anyOf, firstPlace}
 
 -- ---- one cell
 
@@ -24,7 +24,7 @@ module _ (mem : List ℕ) (at mask x i v : ℕ) (e : v ≡ get 8 mem (at + 8 * i
 
 -- ---- the mask by another name
 
-pub by-mask : (mem : List ℕ) (at mask all x i k : ℕ) → mask ≡ all → firstOf (cellIs mem at all x) i k ≡ firstOf (cellIs mem at mask x) i k
+pub by-mask : (mem : List ℕ) (at mask all x i k : ℕ) → mask ≡ all → firstPlace (cellIs mem at all x) i k ≡ firstPlace (cellIs mem at mask x) i k
 by-mask mem at mask all x i k e = rw e
 
 -- ---- eight together
@@ -60,77 +60,77 @@ module _ (f : ℕ → Bool) (i : ℕ) where
 -- ---- the first
 
 -- places where the test fails are passed over
-first-skip : (f : ℕ → Bool) (i j k : ℕ) → anyOf f i j ≡ false → firstOf f i (j + k) ≡ firstOf f (i + j) k
-unfolding anyOf firstOf
+first-skip : (f : ℕ → Bool) (i j k : ℕ) → anyOf f i j ≡ false → firstPlace f i (j + k) ≡ firstPlace f (i + j) k
+unfolding anyOf firstPlace
 first-skip f i zero k e = let z : zero + k ≡ k = omega arith in let y : i + zero ≡ i = omega arith in rw (z, y)
 first-skip f i (suc j) k e =
     let n = or-neither (anyOf f i j) (f (i + j)) e in
     let z : suc j + k ≡ j + suc k = omega arith in
     let y : i + j + 1 ≡ i + suc j = omega arith in
-    ap (firstOf f i) z ∙ first-skip f i j (suc k) (n .0) ∙ rw (n .1) (ap (λ (m : ℕ). firstOf f m k) y)
+    ap (firstPlace f i) z ∙ first-skip f i j (suc k) (n .0) ∙ rw (n .1) (ap (λ (m : ℕ). firstPlace f m k) y)
 
 -- the first from `from` on is the first from i on
 abbrev pub Left : (ℕ → Bool) → ℕ → ℕ → ℕ → Type 0
-Left f from n i = (i ≤ n) × (firstOf f from (n - from) ≡ firstOf f i (n - i))
+Left f from n i = (i ≤ n) × (firstPlace f from (n - from) ≡ firstPlace f i (n - i))
 
 module _ (f : ℕ → Bool) (from n : ℕ) where
   pub all-left : from ≤ n → Left f from n from
   all-left h = (h, refl)
 
-  pub here-left : (i : ℕ) → Left f from n i → i < n → f i ≡ true → i ≡ firstOf f from (n - from)
-  unfolding firstOf
-  here-left i l h e = let z : n - i ≡ suc (n - (i + 1)) = omega arith in sym (l .1 ∙ ap (firstOf f i) z ∙ rw e)
+  pub here-left : (i : ℕ) → Left f from n i → i < n → f i ≡ true → i ≡ firstPlace f from (n - from)
+  unfolding firstPlace
+  here-left i l h e = let z : n - i ≡ suc (n - (i + 1)) = omega arith in sym (l .1 ∙ ap (firstPlace f i) z ∙ rw e)
 
   pub on-left : (i : ℕ) → Left f from n i → i < n → f i ≡ false → Left f from n (i + 1)
-  unfolding firstOf
-  on-left i l h e = let z : n - i ≡ suc (n - (i + 1)) = omega arith in (omega arith, l .1 ∙ ap (firstOf f i) z ∙ rw e)
+  unfolding firstPlace
+  on-left i l h e = let z : n - i ≡ suc (n - (i + 1)) = omega arith in (omega arith, l .1 ∙ ap (firstPlace f i) z ∙ rw e)
 
-  pub done-left : (i : ℕ) → Left f from n i → n ≤ i → i ≡ firstOf f from (n - from)
-  unfolding firstOf
-  done-left i l h = let z : n - i ≡ zero = omega arith in sym (l .1 ∙ ap (firstOf f i) z)
+  pub done-left : (i : ℕ) → Left f from n i → n ≤ i → i ≡ firstPlace f from (n - from)
+  unfolding firstPlace
+  done-left i l h = let z : n - i ≡ zero = omega arith in sym (l .1 ∙ ap (firstPlace f i) z)
 
   pub eight-left : (i : ℕ) → Left f from n i → 8 ≤ n - i → anyOf f i 8 ≡ false → Left f from n (i + 8)
-  eight-left i l h e = let z : n - i ≡ 8 + (n - (i + 8)) = omega arith in (omega arith, l .1 ∙ ap (firstOf f i) z ∙ first-skip f i 8 (n - (i + 8)) e)
+  eight-left i l h e = let z : n - i ≡ 8 + (n - (i + 8)) = omega arith in (omega arith, l .1 ∙ ap (firstPlace f i) z ∙ first-skip f i 8 (n - (i + 8)) e)
 
 -- ---- for callers
 
 -- what holds at i, and holds one further on wherever the test fails, holds at the first place
-pub first-passes : (f : ℕ → Bool) (P : ℕ → Type 0) (i k : ℕ) → ((j : ℕ) → j < i + k → f j ≡ false → P j → P (j + 1)) → P i → P (firstOf f i k)
-unfolding firstOf
+pub first-passes : (f : ℕ → Bool) (P : ℕ → Type 0) (i k : ℕ) → ((j : ℕ) → j < i + k → f j ≡ false → P j → P (j + 1)) → P i → P (firstPlace f i k)
+unfolding firstPlace
 first-passes f P i zero on p = p
 first-passes f P i (suc k) on p = go (f i) refl (λ q. first-passes f P (i + 1) k (λ j l. on j (omega arith)) q)
   where
-    go : (b : Bool) → f i ≡ b → (P (i + 1) → P (firstOf f (i + 1) k)) → P (cond b i (firstOf f (i + 1) k))
+    go : (b : Bool) → f i ≡ b → (P (i + 1) → P (firstPlace f (i + 1) k)) → P (cond b i (firstPlace f (i + 1) k))
     go true e r = p
     go false e r = r (on i (omega arith) e p)
 
-pub first-finds : (f : ℕ → Bool) (i k : ℕ) → firstOf f i k < i + k → f (firstOf f i k) ≡ true
-unfolding firstOf
+pub first-finds : (f : ℕ → Bool) (i k : ℕ) → firstPlace f i k < i + k → f (firstPlace f i k) ≡ true
+unfolding firstPlace
 first-finds f i zero h = absurd (omega arith)
 first-finds f i (suc k) h = go (f i) refl h (first-finds f (i + 1) k)
   where
-    go : (b : Bool) → f i ≡ b → cond b i (firstOf f (i + 1) k) < i + suc k → (firstOf f (i + 1) k < i + 1 + k → f (firstOf f (i + 1) k) ≡ true)
-        → f (cond b i (firstOf f (i + 1) k)) ≡ true
+    go : (b : Bool) → f i ≡ b → cond b i (firstPlace f (i + 1) k) < i + suc k → (firstPlace f (i + 1) k < i + 1 + k → f (firstPlace f (i + 1) k) ≡ true)
+        → f (cond b i (firstPlace f (i + 1) k)) ≡ true
     go true e l r = e
     go false e l r = r (omega (arith, l))
 
-pub first-after : (f : ℕ → Bool) (i k : ℕ) → i ≤ firstOf f i k
-unfolding firstOf
+pub first-after : (f : ℕ → Bool) (i k : ℕ) → i ≤ firstPlace f i k
+unfolding firstPlace
 first-after f i zero = omega arith
 first-after f i (suc k) = go (f i) (first-after f (i + 1) k)
   where
-    go : (b : Bool) → i + 1 ≤ firstOf f (i + 1) k → i ≤ cond b i (firstOf f (i + 1) k)
+    go : (b : Bool) → i + 1 ≤ firstPlace f (i + 1) k → i ≤ cond b i (firstPlace f (i + 1) k)
     go true h = omega arith
     go false h = omega (arith, h)
 
 -- i is the first of the places before m: it leaves the first of all, and is that where it is one of them
-module _ (f : ℕ → Bool) (from m n i : ℕ) (e : i ≡ firstOf f from (m - from)) (h : from ≤ m) (l : m ≤ n) where
+module _ (f : ℕ → Bool) (from m n i : ℕ) (e : i ≡ firstPlace f from (m - from)) (h : from ≤ m) (l : m ≤ n) where
   pub part-left : Left f from n i
   part-left = rw e (first-passes f (Left f from n) from (m - from) (λ j k no p. on-left f from n j p (omega arith) no) (all-left f from n (omega arith)))
 
-  pub part-found : i < m → i ≡ firstOf f from (n - from)
+  pub part-found : i < m → i ≡ firstPlace f from (n - from)
   part-found less =
-      let there : firstOf f from (m - from) < from + (m - from) = omega arith in
+      let there : firstPlace f from (m - from) < from + (m - from) = omega arith in
       here-left f from n i part-left (omega arith) (ap f e ∙ first-finds f from (m - from) there)
 
 -- ---- one of many

@@ -16,6 +16,6 @@ anyOf f i zero = false
 anyOf f i (suc k) = anyOf f i k || f (i + k)
 
 -- the first of the k places from i on where the test holds; i + k where it holds at none
-unfoldable pub firstOf : (ℕ → Bool) → ℕ → ℕ → ℕ
-firstOf f i zero = i
-firstOf f i (suc k) = cond (f i) i (firstOf f (i + 1) k)
+unfoldable pub firstPlace : (ℕ → Bool) → ℕ → ℕ → ℕ
+firstPlace f i zero = i
+firstPlace f i (suc k) = cond (f i) i (firstPlace f (i + 1) k)

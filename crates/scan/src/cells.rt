@@ -2,7 +2,7 @@
 ghost use mathlib.Core.Path.{_≡_};
 ghost use Prim.Native.Nat.{_+_, _-_, _*_, _≤_};
 ghost use lib.ListN.{length};
-ghost use Rattle.scan.specs.First.{cellIs, anyOf, firstOf};
+ghost use Rattle.scan.specs.First.{cellIs, anyOf, firstPlace};
 
 // Whether one of the eight cells from cell i on is x under the mask: all eight are looked at, with no way out between, so that a compiler may compare them side by side.
 fn any_of_eight(s: &[u8], at: usize, i: usize, mask: u64, x: u64) -> bool
@@ -24,7 +24,7 @@ fn any_of_eight(s: &[u8], at: usize, i: usize, mask: u64, x: u64) -> bool
 fn find_by_one(s: &[u8], at: usize, from: usize, n: usize, mask: u64, x: u64) -> usize
     requires { ⌜ at + 8 * n ≤ length (now s) ⌝ }
     requires { ⌜ from ≤ n ⌝ }
-    ensures { λ r. ⌜ r ≡ firstOf (cellIs (now (s .entry)) at mask x) from (n - from) ⌝ }
+    ensures { λ r. ⌜ r ≡ firstPlace (cellIs (now (s .entry)) at mask x) from (n - from) ⌝ }
 {
     let mut i = from;
     while i < n {
@@ -40,7 +40,7 @@ fn find_by_one(s: &[u8], at: usize, from: usize, n: usize, mask: u64, x: u64) ->
 fn find_by_eight(s: &[u8], at: usize, from: usize, n: usize, mask: u64, x: u64) -> usize
     requires { ⌜ at + 8 * n ≤ length (now s) ⌝ }
     requires { ⌜ from ≤ n ⌝ }
-    ensures { λ r. ⌜ r ≡ firstOf (cellIs (now (s .entry)) at mask x) from (n - from) ⌝ }
+    ensures { λ r. ⌜ r ≡ firstPlace (cellIs (now (s .entry)) at mask x) from (n - from) ⌝ }
 {
     let mut i = from;
     while 8 <= n - i {
@@ -59,7 +59,7 @@ pub const ALL: u64 = 0xffff_ffff_ffff_ffff;
 pub fn find_cell(s: &[u8], at: usize, from: usize, n: usize, mask: u64, x: u64) -> usize
     requires { ⌜ at + 8 * n ≤ length (now s) ⌝ }
     requires { ⌜ from ≤ n ⌝ }
-    ensures { λ r. ⌜ r ≡ firstOf (cellIs (now (s .entry)) at mask x) from (n - from) ⌝ }
+    ensures { λ r. ⌜ r ≡ firstPlace (cellIs (now (s .entry)) at mask x) from (n - from) ⌝ }
 {
     if n - from < 8 {
         return find_by_one(s, at, from, n, mask, x);

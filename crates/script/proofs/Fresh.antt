@@ -7,10 +7,10 @@ use Rattle.rules.specs.Outcome.{firstOf}
 use Rattle.rules.specs.Create.{tooSmall, outside, unknown, badOptions, createRule}
 use Rattle.rules.specs.Whole.{session}
 use Rattle.script.specs.Runs.{WholeOf}
-use Rattle.script.specs.Fresh.{fresh, EverySession}
+use Rattle.script.specs.Fresh.{sessionCreation, EverySession}
 use Rattle.script.proofs.Runs.{every-cutting}
 
-created : (bytes : ℕ) → bytes ≡ 40960 → createRule bytes fresh ≡ 0
+created : (bytes : ℕ) → bytes ≡ 40960 → createRule bytes sessionCreation ≡ 0
 unfolding createRule firstOf tooSmall badOptions unknown outside badMapping
 created bytes e = rw e
 

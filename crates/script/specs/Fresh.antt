@@ -10,10 +10,10 @@ use Rattle.storage.specs.Creation.{creationOf, Creates}
 use Rattle.script.specs.Runs.{Feed, Finish, Run, written}
 
 -- 64 nodes, no option bits, no mapping (R137)
-abbrev pub fresh : Creation
-fresh = creationOf 64 0 0 0 0 (record { internal = 0; external = 0; range = 0 })
+abbrev pub sessionCreation : Creation
+sessionCreation = creationOf 64 0 (record { «in_opts» = 0; «out_opts» = 0; mapping = record { internal = 0; external = 0; range = 0 }; flags = 0 })
 
 -- on 40,960 bytes, whatever they held: all that is written is what the rules write for the input on a new instance of 64 nodes (R137, R150, R151)
 abbrev pub EverySession : Type 0
-EverySession = (input before mem carry : List ℕ) (code : ℕ) (ss : List Feed) (f : Finish) → length before ≡ 40960 → Creates before fresh code mem → Run input mem carry 0 ss f
+EverySession = (input before mem carry : List ℕ) (code : ℕ) (ss : List Feed) (f : Finish) → length before ≡ 40960 → Creates before sessionCreation code mem → Run input mem carry 0 ss f
     → written ss f ≡ session (plain 64) input .text

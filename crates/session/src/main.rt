@@ -101,6 +101,12 @@ fn main() {
         external: 0,
         range: 0,
     };
-    storage::create(&mut storage, NODES, 0, 0, 0, 0, mapping);
+    let o = storage::VfsOptions {
+        in_opts: 0,
+        out_opts: 0,
+        mapping,
+        flags: 0,
+    };
+    storage::create(&mut storage, NODES, 0, o);
     run(&mut storage, &mut carry, &mut input, &mut out);
 }

@@ -9,19 +9,19 @@ use lib.Dec.{ltb}
 use borrow.Author.Tests.{ne-eqb, ltb-false}
 use Rattle.le.specs.Mem.{bytesOf, put}
 use Rattle.rules.specs.Numbers.{DONE, storageFor}
-use Rattle.rules.specs.Ids.{Mapping, badMapping}
+use Rattle.rules.specs.Ids.{badMapping}
 use Rattle.rules.specs.Instance.{Instance, emptySlot, heldBy}
 use Rattle.rules.specs.Create.{Creation, tooSmall, badOptions, newInstance, createRule}
 use Rattle.rules.specs.Driven.{Driven, creation}
-use Rattle.rules.proofs.Tests.{or-neither}
-use Rattle.id_map.specs.declared.IdMapping.{IdMapping}
+use Rattle.rules.proofs.Ids.{within}
 use Rattle.tables.specs.Table.{putRow, tab}
 use Rattle.tables.specs.Layout.{mark}
 use Rattle.tables.specs.View.{nodesFrom, view}
 use Rattle.tables.specs.Rule.{laid}
 use Rattle.tables.specs.Write.{putHeader}
+use Rattle.storage.specs.declared.VfsOptions.{VfsOptions}
 use Rattle.storage.specs.Header.{spell, headerOf}
-use Rattle.storage.specs.Limits.{MappingFits, SlotsFit, Limits}
+use Rattle.storage.specs.Limits.{SlotsFit, Limits}
 use Rattle.storage.specs.Creation.{creationOf, emptySlots, createMem, Creates, CreatesDriven}
 use Rattle.storage.proofs.Header.{view-headed, laid-headed}
 use Rattle.rules.proofs.Create.{large-enough, options-fit}
@@ -40,35 +40,26 @@ pub bytes-put : (mem : List ℕ) (flags : ℕ) → put 8 (put 1 (put 1 (put 1 (p
 unfolding put putHeader putRow
 bytes-put mem flags = refl
 
-pub all-put : (mem : List ℕ) (n known ins outs flags : ℕ) (m : IdMapping) →
-    putHeader 13 (bytesOf 1 flags ∷ bytesOf 1 1 ∷ bytesOf 1 0 ∷ bytesOf 1 0 ∷ bytesOf 8 0 ∷ [])
+pub all-put : (mem : List ℕ) (n known : ℕ) (o : VfsOptions) →
+    putHeader 13 (bytesOf 1 (o .flags) ∷ bytesOf 1 1 ∷ bytesOf 1 0 ∷ bytesOf 1 0 ∷ bytesOf 8 0 ∷ [])
     (put 4 (put 4 (put 4 (put 4 (put 4 (put 4
-    (putHeader 0 (bytesOf 8 mark ∷ bytesOf 8 n ∷ bytesOf 8 0 ∷ bytesOf 8 2 ∷ bytesOf 8 known ∷ bytesOf 8 ins ∷ bytesOf 8 outs ∷ []) (emptySlots mem))
-    56 (m .internal)) 60 (m .external)) 64 (m .range)) 68 (m .internal)) 72 (m .external)) 76 (m .range))
-    ≡ createMem (creationOf n known ins outs flags m) mem
+    (putHeader 0 (bytesOf 8 mark ∷ bytesOf 8 n ∷ bytesOf 8 0 ∷ bytesOf 8 2 ∷ bytesOf 8 known ∷ bytesOf 8 (o .«in_opts») ∷ bytesOf 8 (o .«out_opts») ∷ []) (emptySlots mem))
+    56 (o .mapping .internal)) 60 (o .mapping .external)) 64 (o .mapping .range)) 68 (o .mapping .internal)) 72 (o .mapping .external)) 76 (o .mapping .range))
+    ≡ createMem (creationOf n known o) mem
 unfolding put putHeader putRow createMem spell headerOf newInstance
-all-put mem n known ins outs flags m = refl
+all-put mem n known o = refl
 
 -- ---- what the bytes then stand for
 
 empty-fit : (n : ℕ) → SlotsFit (replicate n emptySlot)
-empty-fit zero = omega arith
+empty-fit zero = tt
 empty-fit (suc n) = (omega arith, empty-fit n)
-
--- a mapping that passes its test is within its widths
-mapping-fits : (m : Mapping) → badMapping m ≡ false → MappingFits m
-unfolding badMapping
-mapping-fits m e =
-    let a = or-neither (ltb (2 ^ 32 - 1) (m .internal + m .range)) (ltb (2 ^ 32 - 1) (m .external + m .range)) e in
-    let b = ltb-false (2 ^ 32 - 1) (m .internal + m .range) (a .0) in
-    let c = ltb-false (2 ^ 32 - 1) (m .external + m .range) (a .1) in
-    omega arith
 
 module _ (q : Creation) (mem : List ℕ) where
   pub new-limits : tooSmall (length mem) (q .capacity) ≡ false → badOptions (q .known) (q .options) ≡ false → badMapping (q .options .mapping) ≡ false → q .known < 2 ^ 64 → q .options .inOpts < 2 ^ 64 → q .options .outOpts < 2 ^ 64 → Limits (newInstance q)
   unfolding newInstance
   new-limits e f h k a b =
-      let m = mapping-fits (q .options .mapping) h in
+      let m = within (q .options .mapping) h in
       let s = large-enough (length mem) (q .capacity) e in
       let o = options-fit (q .known) (q .options) f in
       record {
@@ -77,16 +68,15 @@ module _ (q : Creation) (mem : List ℕ) where
         live = s .0;
         low = omega arith;
         top = omega arith;
-        bits = o .0;
-        flags = o .1;
-        maps = h;
-        fixed-fits = (k, m);
-        options-fit = (a, b, m);
+        within = o .0;
+        mapping = h;
+        mask = k;
+        options = record { inOpts = a; outOpts = b; internal = omega arith; external = omega arith; range = omega arith; flags = o .1 };
         counter = omega arith;
         slots = length-replicate 256 emptySlot;
         tags = empty-fit 256;
         root = omega arith;
-        nodes = omega arith;
+        nodes = tt;
       }
 
   module _ (l : Limits (newInstance q)) (b : storageFor (q .capacity) ≤ length mem) where

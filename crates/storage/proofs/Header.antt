@@ -10,6 +10,7 @@ use lib.Dec.{eqb}
 use Rattle.rules.specs.Ids.{badMapping}
 use Rattle.rules.specs.Instance.{Instance}
 use Rattle.rules.specs.Create.{unknown}
+use Rattle.rules.proofs.Ids.{within}
 use Rattle.rules.proofs.Fields.{length-bytesOf}
 use Rattle.tables.specs.Table.{Col}
 use Rattle.tables.specs.Layout.{header}
@@ -59,7 +60,7 @@ module _ (i : Instance) (mem : List ℕ) (l : Limits i) (b : 256 ≤ length mem)
 
   widths : Widths header vs
   unfolding headerOf
-  widths = let d = l in let e = yes-fits (i .removal) in let f = yes-fits (i .initialized) in omega (arith, l .fixed-fits, l .options-fit)
+  widths = let d = l in let e = yes-fits (i .removal) in let f = yes-fits (i .initialized) in let m = within (i .fixed .mapping) (l .mapping) in let o = l .options in omega arith
 
   reads : (k : ℕ) → k < 18 → field k H ≡ getD vs k 0
   unfolding headerOf
@@ -128,7 +129,7 @@ module _ (i : Instance) (mem : List ℕ) (l : Limits i) (b : 256 ≤ length mem)
               mapping = record { internal = f 10 (omega arith) t; external = f 11 (omega arith) t; range = f 12 (omega arith) t };
               flags = f 13 (omega arith) t;
             }))
-            ∙ l .bits;
-        flags = omega (arith, l .flags);
-        maps = (λ t. badMapping (record { internal = f 7 (omega arith) t; external = f 8 (omega arith) t; range = f 9 (omega arith) t })) ∙ l .maps;
+            ∙ l .within;
+        flags = omega (arith, l .options .flags);
+        maps = (λ t. badMapping (record { internal = f 7 (omega arith) t; external = f 8 (omega arith) t; range = f 9 (omega arith) t })) ∙ l .mapping;
       })

@@ -10,19 +10,19 @@ use Rattle.rules.specs.Numbers.{DONE, SMALL, BADOPT, BADMAP}
 use Rattle.rules.specs.Instance.{heldBy, emptySlot, counterOf}
 use Rattle.rules.specs.Create.{Creation, newInstance, createRule}
 use Rattle.rules.specs.Driven.{Driven}
-use Rattle.id_map.specs.declared.IdMapping.{IdMapping}
-use Rattle.id_map.specs.Mapping.{mappingOf}
 use Rattle.tables.specs.Layout.{header}
 use Rattle.tables.specs.View.{view}
 use Rattle.tables.specs.Rule.{laid}
 use Rattle.tables.specs.Write.{putHeader}
 use Rattle.storage.specs.Header.{spell, headerOf}
+use Rattle.storage.specs.Answers.{optionsIn}
+use Rattle.storage.specs.declared.VfsOptions.{VfsOptions}
 use Rattle.storage.specs.declared.Created.{Created}
 use Rattle.storage.specs.declared.Created.the-variants.{Done, Small, BadOpt, BadMap}
 
 -- what the arguments ask for (R26, R27)
-abbrev pub creationOf : ℕ → ℕ → ℕ → ℕ → ℕ → IdMapping → Creation
-creationOf n known ins outs flags m = record { capacity = n; known = known; options = record { inOpts = ins; outOpts = outs; mapping = mappingOf m; flags = flags } }
+abbrev pub creationOf : ℕ → ℕ → VfsOptions → Creation
+creationOf n known o = record { capacity = n; known = known; options = optionsIn o }
 
 -- the number of the answer (R15)
 unfoldable pub createdCode : Created → ℕ

@@ -5,41 +5,30 @@ use mathlib.Core.Bool.{true, false}
 use mathlib.Core.List.{List, [], _∷_}
 use lib.ListN.{length}
 use Rattle.rules.specs.Bytes.{Bytes}
-use Rattle.rules.specs.Ids.{Mapping, badMapping}
+use Rattle.rules.specs.Ids.{badMapping}
 use Rattle.rules.specs.Tree.{Node}
-use Rattle.rules.specs.Instance.{Fixed, Options, Slot, Instance}
+use Rattle.rules.specs.Instance.{Slot, Instance}
 use Rattle.rules.specs.Create.{unknown}
-use Rattle.rules.specs.Numbers.{storageFor}
+use Rattle.rules.specs.RoundTrip.{OptionsFit}
+use Rattle.rules.specs.Numbers.{maxNodes, topNumber, storageFor}
 use Rattle.tables.specs.View.{view}
 use Rattle.tables.specs.Rule.{laid}
 use Rattle.tables.specs.Write.{MayFit}
 
 -- ---- each number within its cell
 
--- of a mapping (R27)
-abbrev pub MappingFits : Mapping → Type 0
-MappingFits m = (m .internal < 2 ^ 32) × (m .external < 2 ^ 32) × (m .range < 2 ^ 32)
-
--- of the mask and the mapping in force (R26)
-abbrev pub FixedFits : Fixed → Type 0
-FixedFits f = (f .known < 2 ^ 64) × MappingFits (f .mapping)
-
--- of the options (R27)
-abbrev pub OptionsFit : Options → Type 0
-OptionsFit o = (o .inOpts < 2 ^ 64) × (o .outOpts < 2 ^ 64) × MappingFits (o .mapping)
-
 -- of the tags (R3)
 abbrev pub SlotsFit : List Slot → Type 0
-SlotsFit [] = 0 ≤ 0
+SlotsFit [] = Unit {0}
 SlotsFit (s ∷ ss) = (s .tag < 2 ^ 32) × SlotsFit ss
 
 -- of a node (R5, R10)
 abbrev pub NodeFits : Node → Type 0
-NodeFits n = (n .number < 2 ^ 56) × (n .above < 2 ^ 56) × (length (n .called) ≤ 255) × Bytes (n .called) × MayFit (n .mount)
+NodeFits n = (n .number < topNumber) × (n .above < topNumber) × (length (n .called) ≤ 255) × Bytes (n .called) × MayFit (n .mount)
 
 -- of every node
 abbrev pub NodesFit : List Node → Type 0
-NodesFit [] = 0 ≤ 0
+NodesFit [] = Unit {0}
 NodesFit (n ∷ ns) = NodeFits n × NodesFit ns
 
 -- ---- the instances, and their bytes
@@ -48,16 +37,15 @@ NodesFit (n ∷ ns) = NodeFits n × NodesFit ns
 pub record Limits (i : Instance) : Type 0 where
   -- what the layout rule asks (R9, R20, R22)
   pub some-node : 1 ≤ i .fixed .capacity
-  pub few-nodes : i .fixed .capacity ≤ 1024
+  pub few-nodes : i .fixed .capacity ≤ maxNodes
   pub live : length (i .tree .nodes) < i .fixed .capacity
   pub low : 2 ≤ i .tree .next
-  pub top : i .tree .next ≤ 2 ^ 56
-  pub bits : unknown (i .fixed .known) (i .options) ≡ false
-  pub flags : i .options .flags < 64
-  pub maps : badMapping (i .fixed .mapping) ≡ false
+  pub top : i .tree .next ≤ topNumber
+  pub within : unknown (i .fixed .known) (i .options) ≡ false
+  pub mapping : badMapping (i .fixed .mapping) ≡ false
   -- 256 slots, and the widths of the cells
-  pub fixed-fits : FixedFits (i .fixed)
-  pub options-fit : OptionsFit (i .options)
+  pub mask : i .fixed .known < 2 ^ 64
+  pub options : OptionsFit (i .options)
   pub counter : i .indexes .counter < 256
   pub slots : length (i .indexes .slots) ≡ 256
   pub tags : SlotsFit (i .indexes .slots)

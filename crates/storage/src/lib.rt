@@ -52,9 +52,6 @@ pub enum OptionsOf {
 // The bytes `GALDOVAR`.
 const MARK: u64 = 5927113483044536647;
 
-// The flags are below this (R29, R122).
-const FLAGS: u8 = 64;
-
 // Whether N is outside its limits or the bytes are too few for it (R9, R20).
 fn is_small(bytes: usize, n: u64) -> bool
     ensures { λ r. ⌜ r ≡ tooSmall bytes n ⌝ }
@@ -75,7 +72,7 @@ fn has_bad(known: u64, o: VfsOptions) -> bool
     if inner::is_unknown(known, o.in_opts, o.out_opts) {
         return true;
     }
-    FLAGS <= o.flags
+    rules::FLAGS <= o.flags
 }
 
 // Whether the bytes keep the layout rule: tests of the header alone (R20, R21, R22).
@@ -172,41 +169,27 @@ fn put_bytes(s: &mut [u8], flags: u8)
 // All that a new instance has in the bytes (R31 to R34).
 fn put_new(s: &mut [u8], n: usize, known: u64, o: VfsOptions)
     requires { ⌜ 8192 ≤ length (now s) ⌝ }
-    ensures { λ _. ⌜ now (s .exit) ≡ createMem (creationOf n known (o .«in_opts») (o .«out_opts») (o .flags) (o .mapping)) (now (s .entry)) ⌝ }
+    ensures { λ _. ⌜ now (s .exit) ≡ createMem (creationOf n known o) (now (s .entry)) ⌝ }
 {
     let mapping = o.mapping;
     put_slots(s);
     put_words(s, n as u64, known, o.in_opts, o.out_opts);
-    put_mapping(s, 56, mapping);
-    put_mapping(s, 68, mapping);
+    put_mapping(s, tables::header::INTERNAL_AT, mapping);
+    put_mapping(s, tables::header::OWN_INTERNAL_AT, mapping);
     put_bytes(s, o.flags);
 }
 
 // A new instance of N nodes, whatever the bytes held: SMALL, then BADOPT, then BADMAP, or done (R19, R26 to R34).
-pub fn create(
-    s: &mut [u8],
-    n: usize,
-    known: u64,
-    in_opts: u64,
-    out_opts: u64,
-    flags: u8,
-    mapping: id_map::IdMapping,
-) -> Created
-    ensures { λ r. ⌜ Creates (now (s .entry)) (creationOf n known «in_opts» «out_opts» flags mapping) (createdCode r) (now (s .exit)) ⌝ }
+pub fn create(s: &mut [u8], n: usize, known: u64, o: VfsOptions) -> Created
+    ensures { λ r. ⌜ Creates (now (s .entry)) (creationOf n known o) (createdCode r) (now (s .exit)) ⌝ }
 {
-    let o = VfsOptions {
-        in_opts,
-        out_opts,
-        mapping,
-        flags,
-    };
     if is_small(s.len(), n as u64) {
         return Created::Small;
     }
     if has_bad(known, o) {
         return Created::BadOpt;
     }
-    if id_map::is_bad(mapping) {
+    if id_map::is_bad(o.mapping) {
         return Created::BadMap;
     }
     put_new(s, n, known, o);

@@ -17,7 +17,7 @@ use Rattle.rules.proofs.Tests.{and-both}
 use Rattle.rules.proofs.Same.{same-eq}
 use Rattle.rules.proofs.Fields.{bytes-bits, get-fits}
 use Rattle.rules.specs.Tree.{isChild}
-use Rattle.scan.specs.First.{cellIs, firstOf}
+use Rattle.scan.specs.First.{cellIs, firstPlace}
 use Rattle.scan.proofs.First.{first-passes, first-finds, first-after}
 use Rattle.scan.specs.Key.{maskOf, wordOf}
 use Rattle.tables.specs.Layout.{tableAt, lastAt, firstAt, capacityOf, countOf}
@@ -160,7 +160,7 @@ module _ (n : ℕ) (mem : List ℕ) (i : ℕ) (p : List ℕ) (b : Bytes mem) whe
 
 -- rows whose cell is not the one sought are passed over in the search for a child: m and w are the key's numbers
 module _ (mem : List ℕ) (here : ℕ) (p : List ℕ) (c : ℕ) (b : Bytes mem) (k : c ≡ countOf mem) (m w : ℕ) (e : (m ≡ maskOf p) × (w ≡ wordOf p)) (i r : ℕ)
-    (a : r ≡ firstOf (cellIs mem (tableAt + 24 * capacityOf mem) m w) i (countOf mem - i)) where
+    (a : r ≡ firstPlace (cellIs mem (tableAt + 24 * capacityOf mem) m w) i (countOf mem - i)) where
   pub skips : Sought mem here p c i → Sought mem here p c r
   skips s =
       rw (a, e .0, e .1, ← k)
@@ -174,7 +174,7 @@ module _ (mem : List ℕ) (here : ℕ) (p : List ℕ) (c : ℕ) (b : Bytes mem) 
       (rw a (first-finds (cellIs mem (tableAt + 24 * capacityOf mem) m w) i (countOf mem - i) (omega (arith, a, k, s .0, h))))
 
 -- a search from i on does not go back
-pub further : (mem : List ℕ) (m w i r : ℕ) → r ≡ firstOf (cellIs mem (tableAt + 24 * capacityOf mem) m w) i (countOf mem - i) → i ≤ r
+pub further : (mem : List ℕ) (m w i r : ℕ) → r ≡ firstPlace (cellIs mem (tableAt + 24 * capacityOf mem) m w) i (countOf mem - i) → i ≤ r
 further mem m w i r a = rw a (first-after (cellIs mem (tableAt + 24 * capacityOf mem) m w) i (countOf mem - i))
 
 -- the cell of a row's number
@@ -191,7 +191,7 @@ module _ (mem : List ℕ) (x i : ℕ) where
   number-other e h = eqb-false _ x e (number-mask ∙ h)
 
 -- the place of a number is the first row with its cell
-module _ (mem : List ℕ) (x c r : ℕ) (k : c ≡ countOf mem) (e : r ≡ firstOf (cellIs mem tableAt (2 ^ 56 - 1) x) 0 (c - 0)) where
+module _ (mem : List ℕ) (x c r : ℕ) (k : c ≡ countOf mem) (e : r ≡ firstPlace (cellIs mem tableAt (2 ^ 56 - 1) x) 0 (c - 0)) where
   reached : Placed mem x c r
   reached =
       rw e

@@ -13,7 +13,7 @@ use lib.Seq.{getD-take, getD-drop}
 use lib.Dec.{eqb}
 use Rattle.le.specs.Mem.{get}
 use Rattle.le.proofs.Lens.{get-one}
-use Rattle.rules.specs.Instance.{tagIn as tagInSlot}
+use Rattle.rules.specs.Instance.{tagInSlot}
 use Rattle.rules.specs.Round.{goingRound, untilTwice, visited, firstFree, freeOf, allocate}
 use Rattle.index.specs.Slots.{heldIn}
 use Rattle.tables.specs.Table.{row}

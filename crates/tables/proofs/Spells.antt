@@ -1,6 +1,6 @@
 -- What cells spell: a number, yes or no, a mount, a name, a new node. Assumes nothing.
 use mathlib.Core.Path.{_≡_, refl, _∙_}
-use mathlib.Core.Bool.{Bool, true, false, not}
+use mathlib.Core.Bool.{Bool, true, false, not, cond}
 use mathlib.Core.List.{List, _++_, append-nil}
 use mathlib.Core.Option.{Option, none, some}
 use Prim.Native.Nat.{ℕ, _+_, _-_, _*_, _/_, _%_, _^_, _≤_, _<_, min}
@@ -35,6 +35,15 @@ yes-back false = refl
 pub yes-fits : (b : Bool) → yesByte b < 256
 yes-fits true = omega arith
 yes-fits false = omega arith
+
+-- a cell spells no mount, or the one of its two numbers
+pub from-word : (P : Option Mount → Type 0) (word uid gid mode : ℕ) → P none → P (some (record { index = word / 2 ^ 56; root = word % 2 ^ 56; uid = uid; gid = gid; mode = mode })) → P (mountFrom word uid gid mode)
+unfolding mountFrom
+from-word P word uid gid mode a m = go (eqb (word / 2 ^ 56) 0)
+  where
+    go : (b : Bool) → P (cond b none (some (record { index = word / 2 ^ 56; root = word % 2 ^ 56; uid = uid; gid = gid; mode = mode })))
+    go true = a
+    go false = m
 
 pub mount-word : (m : Mount) → MountFits m → mountFrom (m .index * 2 ^ 56 + m .root) (m .uid) (m .gid) (m .mode) ≡ some m
 unfolding mountFrom

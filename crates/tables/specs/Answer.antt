@@ -17,7 +17,7 @@ use Rattle.tables.specs.declared.rows.Row.the-variants.{At, Nothing as R
 use Rattle.tables.specs.declared.mounts.MountPoint.{MountPoint}
 use Rattle.tables.specs.declared.mounts.MountOn.{MountOn}
 use Rattle.tables.specs.declared.mounts.MountOn.the-variants.{Point, Nothing as MountNothing}
-use Rattle.tables.specs.declared.mounts.MountUnder.{MountUnder}
+use Rattle.tables.specs.declared.mounts.NodeMount.{NodeMount}
 use Rattle.tables.specs.declared.slots.Tag.{Tag}
 use Rattle.tables.specs.declared.slots.Tag.the-variants.{Held, Empty}
 
@@ -70,9 +70,9 @@ abbrev pub RowOf : List ℕ → ℕ → Row → Type 0
 RowOf mem x r = rowIn r ≡ rowFor (nodesOf mem) x
 
 -- what one search for node x tells: the mount, the parent, the row (R52, R54)
-pub record Under (mem : List ℕ) (x : ℕ) (r : MountUnder) : Type 0 where
-  pub mount : mountIn (r .on) ≡ mountOf (view mem .tree) x
-  pub parent : r .up ≡ parentIn (nodesOf mem) x
+pub record WithParent (mem : List ℕ) (x : ℕ) (r : NodeMount) : Type 0 where
+  pub mount : mountIn (r .mount) ≡ mountOf (view mem .tree) x
+  pub parent : r .parent ≡ parentIn (nodesOf mem) x
   pub row : RowOf mem x (r .row)
 
 -- ---- writes at a node's number

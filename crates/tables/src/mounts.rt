@@ -7,10 +7,10 @@ ghost use Rattle.tables.specs.Layout.{capacityOf, countOf};
 ghost use Rattle.tables.specs.View.{mountFrom, nodeAt, nodesOf, view};
 ghost use Rattle.tables.specs.Rule.{Laid};
 ghost use Rattle.tables.specs.Write.{setRootMount, setRowMount};
-ghost use Rattle.tables.specs.Answer.{mountOfPoint, mountIn, RowOf, Under, nodeMountMem};
+ghost use Rattle.tables.specs.Answer.{mountOfPoint, mountIn, RowOf, WithParent, nodeMountMem};
 use crate::rows::Row;
 
-// A mount on a node: its index, the backend's root number, and the root's ids and mode as the request brought them (R76, R77).
+// A mount on a node: its index, the backend's root number, and the root's ids and mode as the request brought them (R3, R76).
 pub struct MountPoint {
     pub fs_idx: u8,
     pub ino: u64,
@@ -85,33 +85,33 @@ pub fn of_node(s: &[u8], x: u64) -> MountOn
 }
 
 // The mount on a node, the number of the node's parent, and the node's row; the root's row is nothing.
-pub struct MountUnder {
-    pub on: MountOn,
-    pub up: u64,
+pub struct NodeMount {
+    pub mount: MountOn,
+    pub parent: u64,
     pub row: Row,
 }
 
 // The mount on the node of that number, its parent's number and its row, by one search (R52, R54).
-pub fn under_parent(s: &[u8], x: u64) -> MountUnder
+pub fn with_parent(s: &[u8], x: u64) -> NodeMount
     requires { ⌜ Laid (now s) ⌝ }
-    ensures { λ r. ⌜ Under (now (s .entry)) x r ⌝ }
+    ensures { λ r. ⌜ WithParent (now (s .entry)) x r ⌝ }
 {
     if x == rules::ROOT_ID {
-        return MountUnder {
-            on: of_root(s),
-            up: rules::ROOT_ID,
+        return NodeMount {
+            mount: of_root(s),
+            parent: rules::ROOT_ID,
             row: Row::Nothing,
         };
     }
     match crate::rows::find_row(s, x) {
-        Row::At(i) => MountUnder {
-            on: of_row(s, i),
-            up: crate::rows::parent(s, i),
+        Row::At(i) => NodeMount {
+            mount: of_row(s, i),
+            parent: crate::rows::parent(s, i),
             row: Row::At(i),
         },
-        Row::Nothing => MountUnder {
-            on: MountOn::Nothing,
-            up: rules::ROOT_ID,
+        Row::Nothing => NodeMount {
+            mount: MountOn::Nothing,
+            parent: rules::ROOT_ID,
             row: Row::Nothing,
         },
     }

@@ -5,7 +5,7 @@ ghost use mathlib.Core.Bool.{true};
 ghost use Prim.Native.Nat.{_+_, _-_, _*_, _≤_, _<_, _^_};
 ghost use lib.ListN.{length};
 ghost use Rattle.le.specs.Mem.{read, same};
-ghost use Rattle.scan.specs.First.{cellIs, firstOf};
+ghost use Rattle.scan.specs.First.{cellIs, firstPlace};
 ghost use Rattle.scan.specs.Key.{maskOf, wordOf};
 ghost use Rattle.rules.specs.Tree.{isChild, childIn, isKnown, parentIn};
 ghost use Rattle.tables.specs.Table.{putRow, closeUp};
@@ -56,7 +56,7 @@ pub fn parent(s: &[u8], i: usize) -> u64
 pub fn next_alike(s: &[u8], from: usize, key: NameKey) -> usize
     requires { ⌜ Laid (now s) ⌝ }
     requires { ⌜ from ≤ countOf (now s) ⌝ }
-    ensures { λ r. ⌜ r ≡ firstOf (cellIs (now (s .entry)) (tableAt + 24 * capacityOf (now (s .entry))) (key .mask) (key .word)) from (countOf (now (s .entry)) - from) ⌝ }
+    ensures { λ r. ⌜ r ≡ firstPlace (cellIs (now (s .entry)) (tableAt + 24 * capacityOf (now (s .entry))) (key .mask) (key .word)) from (countOf (now (s .entry)) - from) ⌝ }
 {
     let n = crate::header::capacity(s);
     let c = crate::header::count(s);

@@ -3,7 +3,7 @@ ghost use mathlib.Core.Path.{_≡_};
 ghost use mathlib.Core.Bool.{true, false};
 ghost use Prim.Native.Nat.{_≤_};
 ghost use lib.ListN.{length};
-ghost use Rattle.rules.specs.Instance.{tagIn as tagInSlot};
+ghost use Rattle.rules.specs.Instance.{tagInSlot};
 ghost use Rattle.rules.specs.Round.{allocate};
 ghost use Rattle.index.specs.Search.{readOf, told};
 ghost use Rattle.tables.specs.Layout.{counterAt};

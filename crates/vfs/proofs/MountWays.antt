@@ -37,7 +37,7 @@ use Rattle.placing.specs.declared.Tags.{Tags}
 use Rattle.placing.proofs.Stands.{slot-of, view-placed, keeps-placed}
 use Rattle.tables.specs.declared.mounts.MountPoint.{MountPoint}
 use Rattle.vfs.specs.Follows.{Follows}
-use Rattle.vfs.specs.Mounting.{requestOf, mountedTold, allocMem, endMem, Finishes, EndsAt, MountsAt, Allocates, byFound, unrootedRule}
+use Rattle.vfs.specs.Mounting.{requestOf, mountedTold, allocMem, endMem, Inserts, EndsAt, MountsAt, Allocates, byFound, unrootedRule}
 use Rattle.vfs.specs.Restoring.{restoredTold, RestoresAt}
 use Rattle.vfs.specs.declared.backend.Backend.{Backend}
 use Rattle.vfs.specs.declared.mounting.Mounted.{Mounted}
@@ -48,7 +48,7 @@ use Rattle.vfs.specs.declared.restoring.Restored.the-variants.{Done as R
 
 module _ (mem : List ℕ) (k x : ℕ) (b : Backend) (l : laid mem ≡ true) where
   pub places-it : (b .root .0 ≤ maxIno) → 1 ≤ k → k < 256 → b .tag < 2 ^ 32 → b .uid < 2 ^ 32 → b .gid < 2 ^ 32 → b .mode < 2 ^ 32 → (m : MountPoint) → mountOfPoint m ≡ mountOn k (requestOf [] b)
-      → (t : Tags) (after : List ℕ) → Places mem (mountOfPoint m) (b .tag) x t after → Finishes mem k x b t after
+      → (t : Tags) (after : List ℕ) → Places mem (mountOfPoint m) (b .tag) x t after → Inserts mem k x b t after
   places-it h a c g u v w m q t after p =
       let r : Request = requestOf [] b in
       let f : MountFits (mountOn k r) = record { index = a; few = omega arith; root = omega arith; uid = u; gid = v; mode = w } in
@@ -76,7 +76,7 @@ module _ (mem : List ℕ) (k x : ℕ) (b : Backend) (l : laid mem ≡ true) wher
   unfolding restoredTold
   large-restored h = large-told h _ 0
 
-module _ (mem : List ℕ) (k x : ℕ) (b : Backend) (low : b .root .0 ≤ maxIno) (r : Tags) (after : List ℕ) (f : Finishes mem k x b r after) where
+module _ (mem : List ℕ) (k x : ℕ) (b : Backend) (low : b .root .0 ≤ maxIno) (r : Tags) (after : List ℕ) (f : Inserts mem k x b r after) where
   placed-told : (values : Option ℕ → Option ℕ → Answer) (n : ℕ)
       → EndsAt mem k x b (values (tagAt (mountOf (view mem .tree) x) (view mem)) (tagOf (freed (mountOf (view mem .tree) x) (view mem)) k)) n
       (record { code = DONE; answer = values (tagIn (r .replaced)) (tagIn (r .displaced)); count = n }) after

@@ -78,7 +78,7 @@ mountMem r mem = cond (laid mem) (cond (early r) mem (cond (rooted (r .path)) (r
 -- ---- what is told on the way
 
 -- row 8 on the node x: the tags replaced and displaced, and the bytes (R76, R78, R93)
-pub record Finishes (mem : List ℕ) (k x : ℕ) (b : Backend) (r : Tags) (after : List ℕ) : Type 0 where
+pub record Inserts (mem : List ℕ) (k x : ℕ) (b : Backend) (r : Tags) (after : List ℕ) : Type 0 where
   pub replaced : tagIn (r .replaced) ≡ tagAt (mountOf (view mem .tree) x) (view mem)
   pub displaced : tagIn (r .displaced) ≡ tagOf (freed (mountOf (view mem .tree) x) (view mem)) k
   pub bytes : after ≡ placeMem (mountOn k (requestOf [] b)) (b .tag) x mem

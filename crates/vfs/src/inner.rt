@@ -4,21 +4,21 @@ ghost use mathlib.Core.Bool.{true};
 ghost use Prim.Native.Nat.{_≤_};
 ghost use Rattle.rules.specs.Numbers.{maxIno};
 ghost use Rattle.tables.specs.Rule.{laid};
-ghost use Rattle.vfs.specs.Mounting.{Finishes};
+ghost use Rattle.vfs.specs.Mounting.{Inserts};
 use crate::backend::Backend;
 use placing::Tags;
 use tables::mounts::MountPoint;
 
 // The mount on the node x: the tag found there, and the tag then still in the slot (R76, R78, R93).
-pub fn finish(s: &mut [u8], k: u8, x: u64, b: Backend) -> Tags
+pub fn insert_mount(s: &mut [u8], fs_idx: u8, x: u64, b: Backend) -> Tags
     requires { ⌜ laid (now s) ≡ true ⌝ }
-    requires { ⌜ 1 ≤ k ⌝ }
+    requires { ⌜ 1 ≤ «fs_idx» ⌝ }
     requires { ⌜ b .root .0 ≤ maxIno ⌝ }
-    ensures { λ r. ⌜ Finishes (now (s .entry)) k x b r (now (s .exit)) ⌝ }
+    ensures { λ r. ⌜ Inserts (now (s .entry)) «fs_idx» x b r (now (s .exit)) ⌝ }
 {
     let root = b.root;
     let m = MountPoint {
-        fs_idx: k,
+        fs_idx,
         ino: root.0,
         uid: b.uid,
         gid: b.gid,

@@ -55,25 +55,25 @@ fn unrooted(s: &mut [u8]) -> Mounted
     let found = allocate(s);
     let answer = found.answer;
     match answer {
-        FsIndex::Index(k) => Mounted::Inval { count: found.count },
+        FsIndex::Index(fs_idx) => Mounted::Inval { count: found.count },
         FsIndex::Full => Mounted::Full { count: found.count },
     }
 }
 
 // Rows 7 and 8 on the node x, at the index found (R74, R75).
-fn mount_at(s: &mut [u8], k: u8, count: u32, x: u64, b: Backend) -> Mounted
+fn mount_at(s: &mut [u8], fs_idx: u8, count: u32, x: u64, b: Backend) -> Mounted
     requires { ⌜ laid (now s) ≡ true ⌝ }
-    requires { ⌜ 1 ≤ k ⌝ }
-    ensures { λ r. ⌜ MountsAt (now (s .entry)) k count x b r (now (s .exit)) ⌝ }
+    requires { ⌜ 1 ≤ «fs_idx» ⌝ }
+    ensures { λ r. ⌜ MountsAt (now (s .entry)) «fs_idx» count x b r (now (s .exit)) ⌝ }
 {
     let root = b.root;
     if rules::VFS_MAX_INO < root.0 {
         return Mounted::Inode { count };
     }
-    let tags = crate::inner::finish(s, k, x, b);
+    let tags = crate::inner::insert_mount(s, fs_idx, x, b);
     let replaced = tags.replaced;
     Mounted::Done {
-        fs_idx: k,
+        fs_idx,
         count,
         replaced,
     }
@@ -96,9 +96,9 @@ fn mount_new(s: &mut [u8], path: &[u8], b: Backend) -> Mounted
             let answer = a.answer;
             match answer {
                 FsIndex::Full => Mounted::Full { count: a.count },
-                FsIndex::Index(k) => {
+                FsIndex::Index(fs_idx) => {
                     plan::apply_plan(s, path, &parents, &starts, &lens, count);
-                    mount_at(s, k, a.count, node, b)
+                    mount_at(s, fs_idx, a.count, node, b)
                 }
             }
         }
@@ -119,7 +119,7 @@ fn mount_rooted(s: &mut [u8], path: &[u8], b: Backend) -> Mounted
             let answer = a.answer;
             match answer {
                 FsIndex::Full => Mounted::Full { count: a.count },
-                FsIndex::Index(k) => mount_at(s, k, a.count, x, b),
+                FsIndex::Index(fs_idx) => mount_at(s, fs_idx, a.count, x, b),
             }
         }
     }

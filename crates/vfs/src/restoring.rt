@@ -37,7 +37,7 @@ fn restore_at(s: &mut [u8], fs_idx: u8, x: u64, b: Backend) -> Restored
     if rules::VFS_MAX_INO < root.0 {
         return Restored::Inode;
     }
-    let tags = crate::inner::finish(s, fs_idx, x, b);
+    let tags = crate::inner::insert_mount(s, fs_idx, x, b);
     let replaced = tags.replaced;
     let displaced = tags.displaced;
     Restored::Done {

@@ -28,15 +28,15 @@ fn unmount_at(s: &mut [u8], x: u64) -> Unmounted
     requires { ⌜ laid (now s) ≡ true ⌝ }
     ensures { λ r. ⌜ Unmounts (now (s .entry)) x r (now (s .exit)) ⌝ }
 {
-    let here = tables::mounts::under_parent(s, x);
-    let on = here.on;
+    let here = tables::mounts::with_parent(s, x);
+    let mount = here.mount;
     let row = here.row;
-    match on {
+    match mount {
         MountOn::Point(m) => {
             let released = placing::take_off(s, x, row, m);
             Unmounted::Done {
                 node: NodeNumber(x),
-                parent: NodeNumber(here.up),
+                parent: NodeNumber(here.parent),
                 released,
             }
         }

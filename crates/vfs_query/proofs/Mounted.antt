@@ -1,9 +1,9 @@
 -- The root number of a mount in the bytes is below 2^56. Assumes nothing.
 use mathlib.Core.Path.{_≡_, refl, sym, subst}
-use mathlib.Core.Bool.{Bool, true, false, cond}
+use mathlib.Core.Bool.{Bool, true, false}
 use mathlib.Core.List.{List}
 use mathlib.Core.Option.{Option, none, some}
-use Prim.Native.Nat.{ℕ, _/_, _%_, _^_, _<_}
+use Prim.Native.Nat.{ℕ, _^_, _<_}
 use native.Mathlib.Omega.{arith}
 use lib.Dec.{eqb}
 use borrow.Author.Tests.{eqb-true, eqb-false}
@@ -14,6 +14,7 @@ use Rattle.tables.specs.Table.{row}
 use Rattle.tables.specs.Layout.{nodeTable, capacityOf}
 use Rattle.tables.specs.View.{field, mountFrom, nodeFrom, headOf, nodeAt, nodesOf, view}
 use Rattle.tables.specs.Answer.{placeIn}
+use Rattle.tables.proofs.Spells.{from-word}
 use Rattle.tables.proofs.ByPlace.{mount-root, mount-found, mount-missing}
 
 abbrev LowRoot : Option Mount → Type 0
@@ -21,12 +22,7 @@ LowRoot none = Unit {0}
 LowRoot (some m) = m .root < 2 ^ 56
 
 from-low : (word uid gid mode : ℕ) → LowRoot (mountFrom word uid gid mode)
-unfolding mountFrom
-from-low word uid gid mode = go (eqb (word / 2 ^ 56) 0)
-  where
-    go : (b : Bool) → LowRoot (cond b none (some (record { index = word / 2 ^ 56; root = word % 2 ^ 56; uid = uid; gid = gid; mode = mode })))
-    go true = tt
-    go false = omega arith
+from-low word uid gid mode = from-word LowRoot word uid gid mode tt (omega arith)
 
 module _ (mem : List ℕ) where
   root-low : LowRoot (view mem .tree .root)

@@ -9,7 +9,7 @@ use borrow.Author.Tests.{eq-eqb, ne-eqb, not-true, not-false}
 use Rattle.rules.specs.Numbers.{rootNumber, indexOf, numberOf, INVAL}
 use Rattle.rules.specs.Ids.{Mapping, badMapping, wrapped, unwrapped, mapped, unmapped}
 use Rattle.rules.specs.Tree.{Mount}
-use Rattle.rules.specs.Instance.{Instance, tagIn as tagInSlot, tagOf, mountOf}
+use Rattle.rules.specs.Instance.{Instance, tagInSlot, tagOf, mountOf}
 use Rattle.rules.specs.Outcome.{toTree, rootfs, refused, says, firstOf}
 use Rattle.rules.specs.Lookup.{routeTag, routeTree, routeRule, remapped}
 use Rattle.rules.specs.Unmount.{badPath, reached, mountUnder, rootHeld, rootAt, rootRule}

@@ -8,7 +8,7 @@ use fuse_backend_rs::api::filesystem::{Entry, FileSystem};
 use fuse_backend_rs::api::{BackFileSystem, BackendFileSystem};
 
 use crate::port_side::PortSide;
-use crate::rust_side::RustSide;
+use crate::rust_side::{root_entry, RustSide};
 use crate::side::{Answer, Backend, Call, Creation, Side};
 
 /// What is mounted: a tag with a root of number 1.
@@ -26,12 +26,7 @@ impl FileSystem for Light {
 
 impl BackendFileSystem for Light {
     fn mount(&self) -> io::Result<(Entry, u64)> {
-        let mut entry = Entry { inode: self.0.root, ..Default::default() };
-        entry.attr.st_ino = self.0.root;
-        entry.attr.st_uid = self.0.uid;
-        entry.attr.st_gid = self.0.gid;
-        entry.attr.st_mode = self.0.mode;
-        Ok((entry, self.0.max))
+        Ok(root_entry(&self.0))
     }
 
     fn as_any(&self) -> &dyn Any {

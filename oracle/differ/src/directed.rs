@@ -25,7 +25,7 @@ fn umount(path: &[u8]) -> Call {
     Call::Umount(path.to_vec())
 }
 
-fn walk(path: &[u8]) -> Call {
+pub fn walk(path: &[u8]) -> Call {
     Call::Walk(path.to_vec())
 }
 
@@ -429,7 +429,7 @@ fn pure() -> Vec<Call> {
     calls
 }
 
-fn node(number: u64, parent: u64, name: &[u8]) -> Node {
+pub fn node(number: u64, parent: u64, name: &[u8]) -> Node {
     Node { number, parent, name: name.to_vec() }
 }
 

@@ -50,15 +50,19 @@ impl FileSystem for Tagged {
     }
 }
 
+/// The root entry that a backend brings to its mount, and its largest number.
+pub fn root_entry(b: &Backend) -> (Entry, u64) {
+    let mut entry = Entry { inode: b.root, ..Default::default() };
+    entry.attr.st_ino = b.root;
+    entry.attr.st_uid = b.uid;
+    entry.attr.st_gid = b.gid;
+    entry.attr.st_mode = b.mode;
+    (entry, b.max)
+}
+
 impl BackendFileSystem for Tagged {
     fn mount(&self) -> io::Result<(Entry, u64)> {
-        let b = &self.request;
-        let mut entry = Entry { inode: b.root, ..Default::default() };
-        entry.attr.st_ino = b.root;
-        entry.attr.st_uid = b.uid;
-        entry.attr.st_gid = b.gid;
-        entry.attr.st_mode = b.mode;
-        Ok((entry, b.max))
+        Ok(root_entry(&self.request))
     }
 
     fn as_any(&self) -> &dyn Any {

@@ -3,22 +3,14 @@
 use std::panic::{catch_unwind, AssertUnwindSafe};
 
 use crate::chance::MAX_INO;
-use crate::directed::{mount, new, restore_mount};
+use crate::directed::{mount, new, node, restore_mount, walk};
 use crate::house::State;
 use crate::rust_side::RustSide;
 use crate::side::{Call, Creation, Node, Options, Side};
 use crate::text::{call_text, line};
 
-fn node(number: u64, parent: u64, name: &[u8]) -> Node {
-    Node { number, parent, name: name.to_vec() }
-}
-
 fn restore(nodes: Vec<Node>, next: u64) -> Call {
     Call::Restore(State { nodes, options: Options::default(), next, counter: 1 }.to_house())
-}
-
-fn walk(path: &[u8]) -> Call {
-    Call::Walk(path.to_vec())
 }
 
 fn look(name: &[u8]) -> Call {

@@ -15,9 +15,6 @@ returns-2 c = let a = c .before .before .before .before .args in name-out (now (
 returns-3 : tie.Need-returns-3
 returns-3 c = let a = c .before .before .before .before .before .args in name-out (now (a .out)) 24 (now (a .name)) (omega arith)
 
-fill-at-requires : tie.Need-fill-at-requires
-fill-at-requires c κs = search needs
-
 returns-4 : tie.Need-returns-4
 returns-4 c =
     let a = c .before .before .before .before .before .before .before .before .before .before .before .before .before .args in
@@ -35,7 +32,7 @@ put-name-spec =
     (λ c. search needs)
     returns-3
     (λ c κs. search needs)
-    fill-at-requires
+    (λ c κs. search needs)
     (λ c. search needs)
     (λ c. search needs)
     returns-4)

@@ -4,12 +4,6 @@ use borrow.Author.Needs.{needs}
 use Rattle.flat.proofs.converted.Statement.{statement}
 use Rattle.flat.proofs.converted.Tie as tie
 
-enum-known-a : tie.Need-enum-known-a
-enum-known-a c = search needs
-
-enum-told : tie.Need-enum-told
-enum-told c = search needs
-
 returns : tie.Need-returns
 unfolding fullOf codeOf
 returns c = rw (c .before .a .given .1)
@@ -19,4 +13,4 @@ unfolding fullOf codeOf
 returns-2 c = rw (c .enum-told .given .1)
 
 pub converted-spec : {M : Type 1} → statement M
-converted-spec = tie.close (tie.spec enum-known-a enum-told returns returns-2)
+converted-spec = tie.close (tie.spec (λ c. search needs) (λ c. search needs) returns returns-2)

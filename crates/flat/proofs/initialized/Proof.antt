@@ -4,15 +4,6 @@ use borrow.Author.Needs.{needs}
 use Rattle.flat.proofs.initialized.Statement.{statement}
 use Rattle.flat.proofs.initialized.Tie as tie
 
-enum-known-a : tie.Need-enum-known-a
-enum-known-a c = search needs
-
-number-of-requires : tie.Need-number-of-requires
-number-of-requires c κs = search needs
-
-enum-told : tie.Need-enum-told
-enum-told c = search needs
-
 returns : tie.Need-returns
 unfolding initializedTold
 returns c = rw (c .before .before .a .given .1, c .number-of .ensures)
@@ -22,4 +13,4 @@ unfolding initializedTold
 returns-2 c = rw (c .enum-told .given .1)
 
 pub initialized-spec : {M : Type 1} → statement M
-initialized-spec = tie.close (tie.spec enum-known-a number-of-requires enum-told returns returns-2)
+initialized-spec = tie.close (tie.spec (λ c. search needs) (λ c κs. search needs) (λ c. search needs) returns returns-2)

@@ -4,21 +4,6 @@ use borrow.Author.Needs.{needs}
 use Rattle.flat.proofs.listed.Statement.{statement}
 use Rattle.flat.proofs.listed.Tie as tie
 
-enum-known-a : tie.Need-enum-known-a
-enum-known-a c = search needs
-
-enum-told : tie.Need-enum-told
-enum-told c = search needs
-
-no-bytes-requires : tie.Need-no-bytes-requires
-no-bytes-requires c κs = search needs
-
-enum-told-2 : tie.Need-enum-told-2
-enum-told-2 c = search needs
-
-no-bytes-requires-2 : tie.Need-no-bytes-requires-2
-no-bytes-requires-2 c κs = search needs
-
 returns : tie.Need-returns
 unfolding listedTold
 returns c = rw (c .before .a .given .1)
@@ -34,4 +19,4 @@ returns-3 c = rw (c .before .enum-told2 .given .1, c .no-bytes2 .ensures)
 pub listed-spec : {M : Type 1} → statement M
 listed-spec =
     tie.close
-    (tie.spec enum-known-a enum-told no-bytes-requires enum-told-2 no-bytes-requires-2 returns returns-2 returns-3)
+    (tie.spec (λ c. search needs) (λ c. search needs) (λ c κs. search needs) (λ c. search needs) (λ c κs. search needs) returns returns-2 returns-3)

@@ -5,27 +5,6 @@ use borrow.Author.Needs.{needs}
 use Rattle.flat.proofs.looked.Statement.{statement}
 use Rattle.flat.proofs.looked.Tie as tie
 
-enum-known-a : tie.Need-enum-known-a
-enum-known-a c = search needs
-
-enum-told : tie.Need-enum-told
-enum-told c = search needs
-
-no-entry-requires : tie.Need-no-entry-requires
-no-entry-requires c κs = search needs
-
-enum-told-2 : tie.Need-enum-told-2
-enum-told-2 c = search needs
-
-no-entry-requires-2 : tie.Need-no-entry-requires-2
-no-entry-requires-2 c κs = search needs
-
-enum-told-3 : tie.Need-enum-told-3
-enum-told-3 c = search needs
-
-no-entry-requires-3 : tie.Need-no-entry-requires-3
-no-entry-requires-3 c κs = search needs
-
 returns : tie.Need-returns
 unfolding lookedTold entryAnswer
 returns c = rw (c .before .a .given .1)
@@ -46,13 +25,13 @@ pub looked-spec : {M : Type 1} → statement M
 looked-spec =
     tie.close
     (tie.spec
-    enum-known-a
-    enum-told
-    no-entry-requires
-    enum-told-2
-    no-entry-requires-2
-    enum-told-3
-    no-entry-requires-3
+    (λ c. search needs)
+    (λ c. search needs)
+    (λ c κs. search needs)
+    (λ c. search needs)
+    (λ c κs. search needs)
+    (λ c. search needs)
+    (λ c κs. search needs)
     returns
     returns-2
     returns-3

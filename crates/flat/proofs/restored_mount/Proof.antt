@@ -4,57 +4,6 @@ use borrow.Author.Needs.{needs}
 use Rattle.flat.proofs.restored_mount.Statement.{statement}
 use Rattle.flat.proofs.restored_mount.Tie as tie
 
-enum-known-a : tie.Need-enum-known-a
-enum-known-a c = search needs
-
-has-tag-requires : tie.Need-has-tag-requires
-has-tag-requires c κs = search needs
-
-tag-or-0-requires : tie.Need-tag-or-0-requires
-tag-or-0-requires c κs = search needs
-
-has-tag-requires-2 : tie.Need-has-tag-requires-2
-has-tag-requires-2 c κs = search needs
-
-tag-or-0-requires-2 : tie.Need-tag-or-0-requires-2
-tag-or-0-requires-2 c κs = search needs
-
-enum-told : tie.Need-enum-told
-enum-told c = search needs
-
-no-restored-mount-requires : tie.Need-no-restored-mount-requires
-no-restored-mount-requires c κs = search needs
-
-enum-told-2 : tie.Need-enum-told-2
-enum-told-2 c = search needs
-
-no-restored-mount-requires-2 : tie.Need-no-restored-mount-requires-2
-no-restored-mount-requires-2 c κs = search needs
-
-enum-told-3 : tie.Need-enum-told-3
-enum-told-3 c = search needs
-
-no-restored-mount-requires-3 : tie.Need-no-restored-mount-requires-3
-no-restored-mount-requires-3 c κs = search needs
-
-enum-told-4 : tie.Need-enum-told-4
-enum-told-4 c = search needs
-
-no-restored-mount-requires-4 : tie.Need-no-restored-mount-requires-4
-no-restored-mount-requires-4 c κs = search needs
-
-enum-told-5 : tie.Need-enum-told-5
-enum-told-5 c = search needs
-
-no-restored-mount-requires-5 : tie.Need-no-restored-mount-requires-5
-no-restored-mount-requires-5 c κs = search needs
-
-enum-told-6 : tie.Need-enum-told-6
-enum-told-6 c = search needs
-
-no-restored-mount-requires-6 : tie.Need-no-restored-mount-requires-6
-no-restored-mount-requires-6 c κs = search needs
-
 returns : tie.Need-returns
 unfolding restoredTold
 returns c = rw (c .before .before .before .before .before .a .given .1, c .before .before .before .has-tag .ensures, c .before .before .tag-or-0 .ensures, c .before .has-tag2 .ensures, c .tag-or-02 .ensures)
@@ -87,23 +36,23 @@ pub restored-mount-spec : {M : Type 1} → statement M
 restored-mount-spec =
     tie.close
     (tie.spec
-    enum-known-a
-    has-tag-requires
-    tag-or-0-requires
-    has-tag-requires-2
-    tag-or-0-requires-2
-    enum-told
-    no-restored-mount-requires
-    enum-told-2
-    no-restored-mount-requires-2
-    enum-told-3
-    no-restored-mount-requires-3
-    enum-told-4
-    no-restored-mount-requires-4
-    enum-told-5
-    no-restored-mount-requires-5
-    enum-told-6
-    no-restored-mount-requires-6
+    (λ c. search needs)
+    (λ c κs. search needs)
+    (λ c κs. search needs)
+    (λ c κs. search needs)
+    (λ c κs. search needs)
+    (λ c. search needs)
+    (λ c κs. search needs)
+    (λ c. search needs)
+    (λ c κs. search needs)
+    (λ c. search needs)
+    (λ c κs. search needs)
+    (λ c. search needs)
+    (λ c κs. search needs)
+    (λ c. search needs)
+    (λ c κs. search needs)
+    (λ c. search needs)
+    (λ c κs. search needs)
     returns
     returns-2
     returns-3

@@ -4,27 +4,6 @@ use borrow.Author.Needs.{needs}
 use Rattle.flat.proofs.routed.Statement.{statement}
 use Rattle.flat.proofs.routed.Tie as tie
 
-enum-known-a : tie.Need-enum-known-a
-enum-known-a c = search needs
-
-enum-known-a-2 : tie.Need-enum-known-a-2
-enum-known-a-2 c = search needs
-
-cast-t7 : tie.Need-cast-t7
-cast-t7 c = search needs
-
-enum-told : tie.Need-enum-told
-enum-told c = search needs
-
-no-route-requires : tie.Need-no-route-requires
-no-route-requires c κs = search needs
-
-enum-told-2 : tie.Need-enum-told-2
-enum-told-2 c = search needs
-
-no-route-requires-2 : tie.Need-no-route-requires-2
-no-route-requires-2 c κs = search needs
-
 returns : tie.Need-returns
 unfolding routedTold
 returns c = rw (c .before .a .given .1)
@@ -45,13 +24,13 @@ pub routed-spec : {M : Type 1} → statement M
 routed-spec =
     tie.close
     (tie.spec
-    enum-known-a
-    enum-known-a-2
-    cast-t7
-    enum-told
-    no-route-requires
-    enum-told-2
-    no-route-requires-2
+    (λ c. search needs)
+    (λ c. search needs)
+    (λ c. search needs)
+    (λ c. search needs)
+    (λ c κs. search needs)
+    (λ c. search needs)
+    (λ c κs. search needs)
     returns
     returns-2
     returns-3

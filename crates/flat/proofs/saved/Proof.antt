@@ -4,15 +4,6 @@ use borrow.Author.Needs.{needs}
 use Rattle.flat.proofs.saved.Statement.{statement}
 use Rattle.flat.proofs.saved.Tie as tie
 
-enum-known-a : tie.Need-enum-known-a
-enum-known-a c = search needs
-
-enum-told : tie.Need-enum-told
-enum-told c = search needs
-
-no-bytes-requires : tie.Need-no-bytes-requires
-no-bytes-requires c κs = search needs
-
 returns : tie.Need-returns
 unfolding savedTold
 returns c = rw (c .before .a .given .1)
@@ -22,4 +13,4 @@ unfolding savedTold
 returns-2 c = rw (c .before .enum-told .given .1, c .no-bytes .ensures)
 
 pub saved-spec : {M : Type 1} → statement M
-saved-spec = tie.close (tie.spec enum-known-a enum-told no-bytes-requires returns returns-2)
+saved-spec = tie.close (tie.spec (λ c. search needs) (λ c. search needs) (λ c κs. search needs) returns returns-2)

@@ -4,12 +4,6 @@ use borrow.Author.Needs.{needs}
 use Rattle.flat.proofs.tag_or_0.Statement.{statement}
 use Rattle.flat.proofs.tag_or_0.Tie as tie
 
-enum-known-t : tie.Need-enum-known-t
-enum-known-t c = search needs
-
-enum-told : tie.Need-enum-told
-enum-told c = search needs
-
 returns : tie.Need-returns
 unfolding tagIn
 returns c = rw (c .before .t .given .1)
@@ -19,4 +13,4 @@ unfolding tagIn
 returns-2 c = rw (c .enum-told .given .1)
 
 pub tag-or-0-spec : {M : Type 1} → statement M
-tag-or-0-spec = tie.close (tie.spec enum-known-t enum-told returns returns-2)
+tag-or-0-spec = tie.close (tie.spec (λ c. search needs) (λ c. search needs) returns returns-2)

@@ -4,27 +4,6 @@ use borrow.Author.Needs.{needs}
 use Rattle.flat.proofs.walked.Statement.{statement}
 use Rattle.flat.proofs.walked.Tie as tie
 
-enum-known-a : tie.Need-enum-known-a
-enum-known-a c = search needs
-
-enum-told : tie.Need-enum-told
-enum-told c = search needs
-
-no-walk-requires : tie.Need-no-walk-requires
-no-walk-requires c κs = search needs
-
-enum-told-2 : tie.Need-enum-told-2
-enum-told-2 c = search needs
-
-no-walk-requires-2 : tie.Need-no-walk-requires-2
-no-walk-requires-2 c κs = search needs
-
-enum-told-3 : tie.Need-enum-told-3
-enum-told-3 c = search needs
-
-no-walk-requires-3 : tie.Need-no-walk-requires-3
-no-walk-requires-3 c κs = search needs
-
 returns : tie.Need-returns
 unfolding pathWalkTold
 returns c = rw (c .before .a .given .1)
@@ -45,13 +24,13 @@ pub walked-spec : {M : Type 1} → statement M
 walked-spec =
     tie.close
     (tie.spec
-    enum-known-a
-    enum-told
-    no-walk-requires
-    enum-told-2
-    no-walk-requires-2
-    enum-told-3
-    no-walk-requires-3
+    (λ c. search needs)
+    (λ c. search needs)
+    (λ c κs. search needs)
+    (λ c. search needs)
+    (λ c κs. search needs)
+    (λ c. search needs)
+    (λ c κs. search needs)
     returns
     returns-2
     returns-3

@@ -4,12 +4,9 @@ use borrow.Author.Needs.{needs}
 use Rattle.id_map.proofs.map_back.Statement.{statement}
 use Rattle.id_map.proofs.map_back.Tie as tie
 
-map-out-requires : tie.Need-map-out-requires
-map-out-requires c κs = search needs
-
 returns : tie.Need-returns
 unfolding unwrapped
 returns c = search needs
 
 pub map-back-spec : {M : Type 1} → statement M
-map-back-spec = tie.close (tie.spec map-out-requires returns)
+map-back-spec = tie.close (tie.spec (λ c κs. search needs) returns)

@@ -6,12 +6,6 @@ use borrow.Author.Needs.{needs}
 use Rattle.id_map.proofs.map_out.Statement.{statement}
 use Rattle.id_map.proofs.map_out.Tie as tie
 
-wrapping-sub-u32-requires : tie.Need-wrapping-sub-u32-requires
-wrapping-sub-u32-requires c κs = search needs
-
-wrapping-add-u32-requires : tie.Need-wrapping-add-u32-requires
-wrapping-add-u32-requires c κs = search needs
-
 returns : tie.Need-returns
 returns c =
     let t = c .before .before in
@@ -26,4 +20,4 @@ returns-3 c = stays-below _ _ (c .if1 .left)
 pub map-out-spec : {M : Type 1} → statement M
 map-out-spec =
     tie.close
-    (tie.spec wrapping-sub-u32-requires wrapping-add-u32-requires returns returns-2 returns-3)
+    (tie.spec (λ c κs. search needs) (λ c κs. search needs) returns returns-2 returns-3)

@@ -7,9 +7,6 @@ use Rattle.index.proofs.is_free.Tie as tie
 returns : tie.Need-returns
 returns c = free-zero _ _ (c .if1 .taken)
 
-shared-slice-read-result : tie.Need-shared-slice-read-result
-shared-slice-read-result c = search needs
-
 returns-2 : tie.Need-returns-2
 returns-2 c = free-at _ _ (c .before .before .if1 .left)
 
@@ -17,4 +14,4 @@ returns-3 : tie.Need-returns-3
 returns-3 c = free-past _ _ (c .before .if1 .left) (c .if2 .left)
 
 pub is-free-spec : {M : Type 1} → statement M
-is-free-spec = tie.close (tie.spec returns shared-slice-read-result returns-2 returns-3)
+is-free-spec = tie.close (tie.spec returns (λ c. search needs) returns-2 returns-3)

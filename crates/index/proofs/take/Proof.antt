@@ -12,30 +12,6 @@ use borrow.Author.Needs.{needs}
 use Rattle.index.proofs.take.Statement.{statement}
 use Rattle.index.proofs.take.Tie as tie
 
-allocate-fs-idx-requires : tie.Need-allocate-fs-idx-requires
-allocate-fs-idx-requires c κs = search needs
-
-enum-known-answer : tie.Need-enum-known-answer
-enum-known-answer c = search needs
-
-cast-at : tie.Need-cast-at
-cast-at c = search needs
-
-element-write-used : tie.Need-element-write-used
-element-write-used c = search needs
-
-mul-tags : tie.Need-mul-tags
-mul-tags c = search needs
-
-element-write-tags : tie.Need-element-write-tags
-element-write-tags c = search needs
-
-cast-t18 : tie.Need-cast-t18
-cast-t18 c = search needs
-
-enum-told : tie.Need-enum-told
-enum-told c = search needs
-
 -- what is answered and what lies there after it, by the search's answer x, are what the rule says
 module _ (t : FsIndexes) (tag : ℕ) (a : Allocated) (search : readOf a ≡ told (allocate (heldIn (t .used)) (t .«next_super»))) where
   abbrev taken : FsIndex → Taken
@@ -57,13 +33,13 @@ pub take-spec : {M : Type 1} → statement M
 take-spec =
     tie.close
     (tie.spec
-    allocate-fs-idx-requires
-    enum-known-answer
-    cast-at
-    element-write-used
-    mul-tags
-    element-write-tags
-    cast-t18
-    enum-told
+    (λ c κs. search needs)
+    (λ c. search needs)
+    (λ c. search needs)
+    (λ c. search needs)
+    (λ c. search needs)
+    (λ c. search needs)
+    (λ c. search needs)
+    (λ c. search needs)
     returns
     returns-2)

@@ -12,11 +12,8 @@ returns c = too-big _ _ (c .if1 .taken)
 returns-2 : tie.Need-returns-2
 returns-2 c = of-zero _ _ _ (c .if2 .taken) refl
 
-add-t7 : tie.Need-add-t7
-add-t7 c = search needs
-
 returns-3 : tie.Need-returns-3
 returns-3 c = joined _ _ _ (c .before .if1 .left) (c .if2 .left) (omega arith)
 
 pub joined-spec : {M : Type 1} → statement M
-joined-spec = tie.close (tie.spec returns returns-2 add-t7 returns-3)
+joined-spec = tie.close (tie.spec returns returns-2 (λ c. search needs) returns-3)

@@ -11,7 +11,7 @@ returns c =
     let b = d .before .before .before .before in
     let a = b .before .before .before .before in
     let f = a .before .before .before .before in
-    backend _ _ _ _ _ _ _ _ _ _ _ _ _ _ (f .put-byte .ensures) (a .put-byte2 .ensures) (b .put .ensures) (d .put-byte3 .ensures) (e .put2 .ensures)
+    backend _ _ _ _ _ _ _ _ _ _ _ _ _ _ (f .put-byte .ensures) (a .put-byte2 .ensures) (b .put-decimal .ensures) (d .put-byte3 .ensures) (e .put-decimal2 .ensures)
 
 pub put-backend-spec : {M : Type 1} → statement M
 put-backend-spec =

@@ -5,20 +5,11 @@ use Rattle.tables.proofs.Keeps.{laid-long, laid-is}
 use Rattle.placing.proofs.free_old.Statement.{statement}
 use Rattle.placing.proofs.free_old.Tie as tie
 
-enum-known-old : tie.Need-enum-known-old
-enum-known-old c = search needs
-
 tag-of-requires : tie.Need-tag-of-requires
 tag-of-requires c κs = search (laid-long, laid-is, needs)
 
 free-requires : tie.Need-free-requires
 free-requires c κs = search (laid-long, laid-is, needs)
-
-enum-told : tie.Need-enum-told
-enum-told c = search needs
-
-same-length : tie.Need-same-length
-same-length c = search needs
 
 returns : tie.Need-returns
 returns c = search (frees-point, needs)
@@ -29,4 +20,4 @@ returns-2 c = frees-none _ _ (c .enum-told .given .1)
 pub free-old-spec : {M : Type 1} → statement M
 free-old-spec =
     tie.close
-    (tie.spec enum-known-old tag-of-requires free-requires enum-told same-length returns returns-2)
+    (tie.spec (λ c. search needs) tag-of-requires free-requires (λ c. search needs) (λ c. search needs) returns returns-2)

@@ -6,11 +6,8 @@ use Rattle.placing.proofs.Returns.{laid-freed, row-freed, places}
 use Rattle.placing.proofs.place.Statement.{statement}
 use Rattle.placing.proofs.place.Tie as tie
 
-under-parent-requires : tie.Need-under-parent-requires
-under-parent-requires c κs = search (laid-is, needs)
-
-free-old-requires : tie.Need-free-old-requires
-free-old-requires c κs = search needs
+with-parent-requires : tie.Need-with-parent-requires
+with-parent-requires c κs = search (laid-is, needs)
 
 tag-of-requires : tie.Need-tag-of-requires
 tag-of-requires c κs = omega (arith, laid-long _ (c .before .before .before .before .before .before .before .before .pre .0))
@@ -21,9 +18,6 @@ set-requires c κs = (search (laid-freed, laid-is, needs), (search (row-freed, n
 hold-requires : tie.Need-hold-requires
 hold-requires c κs = omega (arith, laid-long _ (c .before .before .before .before .before .before .before .before .before .before .before .before .before .before .pre .0))
 
-same-length : tie.Need-same-length
-same-length c = search needs
-
 returns : tie.Need-returns
 returns c = search (places, needs)
 
@@ -31,10 +25,10 @@ pub place-spec : {M : Type 1} → statement M
 place-spec =
     tie.close
     (tie.spec
-    under-parent-requires
-    free-old-requires
+    with-parent-requires
+    (λ c κs. search needs)
     tag-of-requires
     set-requires
     hold-requires
-    same-length
+    (λ c. search needs)
     returns)

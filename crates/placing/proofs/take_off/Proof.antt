@@ -18,13 +18,10 @@ take-out-requires c κs = (search (laid-mounted, needs), search (row-mounted, ne
 free-requires : tie.Need-free-requires
 free-requires c κs = omega (arith, laid-long _ (c .before .before .before .before .before .before .before .before .before .before .before .before .pre .0))
 
-same-length : tie.Need-same-length
-same-length c = search needs
-
 returns : tie.Need-returns
 returns c = search (takes-off, needs)
 
 pub take-off-spec : {M : Type 1} → statement M
 take-off-spec =
     tie.close
-    (tie.spec tag-of-requires clear-requires take-out-requires free-requires same-length returns)
+    (tie.spec tag-of-requires clear-requires take-out-requires free-requires (λ c. search needs) returns)

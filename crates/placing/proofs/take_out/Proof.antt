@@ -8,29 +8,14 @@ use Rattle.placing.proofs.take_out.Tie as tie
 removes-requires : tie.Need-removes-requires
 removes-requires c κs = search (laid-long, laid-is, needs)
 
-same-length : tie.Need-same-length
-same-length c = search needs
-
 returns : tie.Need-returns
 returns c = search (stays-unset, needs)
-
-enum-known-row : tie.Need-enum-known-row
-enum-known-row c = search needs
 
 remove-requires : tie.Need-remove-requires
 remove-requires c κs = search (row-of, laid-is, needs)
 
-enum-told : tie.Need-enum-told
-enum-told c = search needs
-
-same-length-2 : tie.Need-same-length-2
-same-length-2 c = search needs
-
 returns-2 : tie.Need-returns-2
 returns-2 c = search (goes, needs)
-
-same-length-3 : tie.Need-same-length-3
-same-length-3 c = search needs
 
 returns-3 : tie.Need-returns-3
 returns-3 c = search (nothing-goes, needs)
@@ -40,12 +25,12 @@ take-out-spec =
     tie.close
     (tie.spec
     removes-requires
-    same-length
+    (λ c. search needs)
     returns
-    enum-known-row
+    (λ c. search needs)
     remove-requires
-    enum-told
-    same-length-2
+    (λ c. search needs)
+    (λ c. search needs)
     returns-2
-    same-length-3
+    (λ c. search needs)
     returns-3)

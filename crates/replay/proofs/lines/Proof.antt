@@ -15,12 +15,6 @@ Inv-loop input storage₀ bytes₀ out₀ at₀ storage bytes out at = (length s
 abbrev μ-loop : tie.MeasureT-loop
 μ-loop input storage₀ bytes₀ out₀ at₀ storage bytes out at = length input - at
 
-loop-holds : tie.Need-loop-holds Inv-loop μ-loop
-loop-holds c = search needs
-
-part-end-requires : tie.Need-part-end-requires Inv-loop μ-loop
-part-end-requires c κs = search needs
-
 sub-line : tie.Need-sub-line Inv-loop μ-loop
 sub-line c = omega (arith, end-in _ _ _ (c .part-end .ensures) (le-of-lt (c .before .loop-test .taken)) .0)
 
@@ -32,29 +26,11 @@ part-line-end c =
     let p = end-in _ _ _ (c .part-end .ensures) (le-of-lt (c .before .loop-test .taken)) in
     omega (arith, p .0, p .1)
 
-line-requires : tie.Need-line-requires Inv-loop μ-loop
-line-requires c κs = search needs
-
 add-at : tie.Need-add-at Inv-loop μ-loop
 add-at c = omega (arith, end-in _ _ _ (c .before .before .before .before .before .before .before .before .before .before .before .part-end .ensures) (le-of-lt (c .before .before .before .before .before .before .before .before .before .before .before .before .loop-test .taken)) .1)
 
 loop-less : tie.Need-loop-less Inv-loop μ-loop
 loop-less c = omega (arith, end-in _ _ _ (c .before .before .before .before .before .before .before .before .before .before .before .part-end .ensures) (le-of-lt (c .before .before .before .before .before .before .before .before .before .before .before .before .loop-test .taken)) .0)
-
-loop-again : tie.Need-loop-again Inv-loop μ-loop
-loop-again c = search needs
-
-same-length : tie.Need-same-length Inv-loop μ-loop
-same-length c = search needs
-
-same-length-2 : tie.Need-same-length-2 Inv-loop μ-loop
-same-length-2 c = search needs
-
-same-length-3 : tie.Need-same-length-3 Inv-loop μ-loop
-same-length-3 c = search needs
-
-returns : tie.Need-returns Inv-loop μ-loop
-returns c = search needs
 
 pub lines-spec : {M : Type 1} → statement M
 lines-spec =
@@ -62,16 +38,16 @@ lines-spec =
     (tie.spec
     Inv-loop
     μ-loop
-    loop-holds
-    part-end-requires
+    (λ c. search needs)
+    (λ c κs. search needs)
     sub-line
     part-line-start
     part-line-end
-    line-requires
+    (λ c κs. search needs)
     add-at
     loop-less
-    loop-again
-    same-length
-    same-length-2
-    same-length-3
-    returns)
+    (λ c. search needs)
+    (λ c. search needs)
+    (λ c. search needs)
+    (λ c. search needs)
+    (λ c. search needs))

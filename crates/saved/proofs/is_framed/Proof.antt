@@ -38,6 +38,7 @@ is-framed-spec =
     (λ c κs. search needs)
     returns-3
     (λ c. search needs)
+    (λ c. search needs)
     (λ c κs. search needs)
     returns-4
     (λ c κs. search needs)

@@ -14,7 +14,7 @@ returns c =
     let a = s .before .before .before .before .args in
     c .before .before .put-bytes .ensures
     ∙ (rw (m₂ .put-mapping2 .ensures, m₁ .put-mapping .ensures, w .put-words .ensures, s .put-slots .ensures)
-    (all-put (a .s .now) (a .n) (a .known) (a .o .«in_opts») (a .o .«out_opts») (a .o .flags) (a .o .mapping)))
+    (all-put (a .s .now) (a .n) (a .known) (a .o)))
 
 pub put-new-spec : {M : Type 1} → statement M
 put-new-spec =

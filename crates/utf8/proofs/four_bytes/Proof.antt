@@ -9,15 +9,6 @@ use Rattle.utf8.proofs.Table.{said, unsaid, both-yes, second-no, first-
 use Rattle.utf8.proofs.four_bytes.Statement.{statement}
 use Rattle.utf8.proofs.four_bytes.Tie as tie
 
-three-bytes-requires : tie.Need-three-bytes-requires
-three-bytes-requires c κs = search needs
-
-add-is-in : tie.Need-add-is-in
-add-is-in c = search needs
-
-is-in-requires : tie.Need-is-in-requires
-is-in-requires c κs = search needs
-
 returns : tie.Need-returns
 returns c =
     let a = c .before .before .before .before .before .args in
@@ -35,4 +26,4 @@ returns-3 c =
 
 pub four-bytes-spec : {M : Type 1} → statement M
 four-bytes-spec =
-    tie.close (tie.spec three-bytes-requires add-is-in is-in-requires returns returns-2 returns-3)
+    tie.close (tie.spec (λ c κs. search needs) (λ c. search needs) (λ c κs. search needs) returns returns-2 returns-3)

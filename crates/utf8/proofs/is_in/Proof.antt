@@ -8,9 +8,6 @@ use Rattle.utf8.proofs.is_in.Tie as tie
 returns : tie.Need-returns
 returns c = sym (fits-out _ _ _ _ (c .if1 .taken))
 
-shared-slice-read-b : tie.Need-shared-slice-read-b
-shared-slice-read-b c = search needs
-
 returns-2 : tie.Need-returns-2
 returns-2 c = is-below _ _ _ _ (c .before .before .if1 .left) (c .if2 .taken)
 
@@ -18,4 +15,4 @@ returns-3 : tie.Need-returns-3
 returns-3 c = is-upto _ _ _ _ (c .before .before .if1 .left) (c .if2 .left)
 
 pub is-in-spec : {M : Type 1} → statement M
-is-in-spec = tie.close (tie.spec returns shared-slice-read-b returns-2 returns-3)
+is-in-spec = tie.close (tie.spec returns (λ c. search needs) returns-2 returns-3)

@@ -7,12 +7,6 @@ use Rattle.utf8.proofs.Table.{sequence-row, sequence-gap}
 use Rattle.utf8.proofs.sequence_at.Statement.{statement}
 use Rattle.utf8.proofs.sequence_at.Tie as tie
 
-shared-slice-read-b : tie.Need-shared-slice-read-b
-shared-slice-read-b c = search needs
-
-add-next : tie.Need-add-next
-add-next c = search needs
-
 returns : tie.Need-returns
 unfolding table fits
 returns c = sym (sequence-row _ _ (c .before .before .before .pre) 0 (omega arith))
@@ -21,57 +15,33 @@ returns-2 : tie.Need-returns-2
 unfolding table fits
 returns-2 c = sym (sequence-gap _ _ (c .before .before .before .before .pre) 1 (omega arith))
 
-two-bytes-requires : tie.Need-two-bytes-requires
-two-bytes-requires c κs = search needs
-
 returns-3 : tie.Need-returns-3
 unfolding table fits
 returns-3 c = c .two-bytes .ensures ∙ sym (sequence-row _ _ (c .before .before .before .before .before .before .pre) 1 (omega arith))
-
-three-bytes-requires : tie.Need-three-bytes-requires
-three-bytes-requires c κs = search needs
 
 returns-4 : tie.Need-returns-4
 unfolding table fits
 returns-4 c = c .three-bytes .ensures ∙ sym (sequence-row _ _ (c .before .before .before .before .before .before .before .pre) 2 (omega arith))
 
-three-bytes-requires-2 : tie.Need-three-bytes-requires-2
-three-bytes-requires-2 c κs = search needs
-
 returns-5 : tie.Need-returns-5
 unfolding table fits
 returns-5 c = c .three-bytes2 .ensures ∙ sym (sequence-row _ _ (c .before .before .before .before .before .before .before .before .pre) 3 (omega arith))
-
-three-bytes-requires-3 : tie.Need-three-bytes-requires-3
-three-bytes-requires-3 c κs = search needs
 
 returns-6 : tie.Need-returns-6
 unfolding table fits
 returns-6 c = c .three-bytes3 .ensures ∙ sym (sequence-row _ _ (c .before .before .before .before .before .before .before .before .before .pre) 4 (omega arith))
 
-three-bytes-requires-4 : tie.Need-three-bytes-requires-4
-three-bytes-requires-4 c κs = search needs
-
 returns-7 : tie.Need-returns-7
 unfolding table fits
 returns-7 c = c .three-bytes4 .ensures ∙ sym (sequence-row _ _ (c .before .before .before .before .before .before .before .before .before .before .pre) 5 (omega arith))
-
-four-bytes-requires : tie.Need-four-bytes-requires
-four-bytes-requires c κs = search needs
 
 returns-8 : tie.Need-returns-8
 unfolding table fits
 returns-8 c = c .four-bytes .ensures ∙ sym (sequence-row _ _ (c .before .before .before .before .before .before .before .before .before .before .before .pre) 6 (omega arith))
 
-four-bytes-requires-2 : tie.Need-four-bytes-requires-2
-four-bytes-requires-2 c κs = search needs
-
 returns-9 : tie.Need-returns-9
 unfolding table fits
 returns-9 c = c .four-bytes2 .ensures ∙ sym (sequence-row _ _ (c .before .before .before .before .before .before .before .before .before .before .before .before .pre) 7 (omega arith))
-
-four-bytes-requires-3 : tie.Need-four-bytes-requires-3
-four-bytes-requires-3 c κs = search needs
 
 returns-10 : tie.Need-returns-10
 unfolding table fits
@@ -85,24 +55,24 @@ pub sequence-at-spec : {M : Type 1} → statement M
 sequence-at-spec =
     tie.close
     (tie.spec
-    shared-slice-read-b
-    add-next
+    (λ c. search needs)
+    (λ c. search needs)
     returns
     returns-2
-    two-bytes-requires
+    (λ c κs. search needs)
     returns-3
-    three-bytes-requires
+    (λ c κs. search needs)
     returns-4
-    three-bytes-requires-2
+    (λ c κs. search needs)
     returns-5
-    three-bytes-requires-3
+    (λ c κs. search needs)
     returns-6
-    three-bytes-requires-4
+    (λ c κs. search needs)
     returns-7
-    four-bytes-requires
+    (λ c κs. search needs)
     returns-8
-    four-bytes-requires-2
+    (λ c κs. search needs)
     returns-9
-    four-bytes-requires-3
+    (λ c κs. search needs)
     returns-10
     returns-11)

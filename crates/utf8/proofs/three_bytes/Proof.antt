@@ -8,15 +8,6 @@ use Rattle.utf8.proofs.Table.{both-yes, second-no, first-no}
 use Rattle.utf8.proofs.three_bytes.Statement.{statement}
 use Rattle.utf8.proofs.three_bytes.Tie as tie
 
-is-in-requires : tie.Need-is-in-requires
-is-in-requires c κs = search needs
-
-add-is-in : tie.Need-add-is-in
-add-is-in c = search needs
-
-is-in-requires-2 : tie.Need-is-in-requires-2
-is-in-requires-2 c κs = search needs
-
 returns : tie.Need-returns
 returns c =
     let a = c .before .before .before .before .before .args in
@@ -34,4 +25,4 @@ returns-3 c =
 
 pub three-bytes-spec : {M : Type 1} → statement M
 three-bytes-spec =
-    tie.close (tie.spec is-in-requires add-is-in is-in-requires-2 returns returns-2 returns-3)
+    tie.close (tie.spec (λ c κs. search needs) (λ c. search needs) (λ c κs. search needs) returns returns-2 returns-3)

@@ -38,9 +38,6 @@ after c =
 loop-holds : tie.Need-loop-holds Inv-loop μ-loop
 loop-holds c = (omega arith, zero-add _)
 
-sequence-at-requires : tie.Need-sequence-at-requires Inv-loop μ-loop
-sequence-at-requires c κs = search needs
-
 returns : tie.Need-returns Inv-loop μ-loop
 returns c =
     let l = c .before .before .before in
@@ -65,7 +62,7 @@ valid-to-spec =
     Inv-loop
     μ-loop
     loop-holds
-    sequence-at-requires
+    (λ c κs. search needs)
     returns
     add-i
     loop-less

@@ -4,23 +4,8 @@ use borrow.Author.Needs.{needs}
 use Rattle.view_sum.proofs.mount.Statement.{statement}
 use Rattle.view_sum.proofs.mount.Tie as tie
 
-flag-requires : tie.Need-flag-requires
-flag-requires c κs = search needs
-
 returns : tie.Need-returns
 returns c = mount-none _ _ _ _ _ _ _ _ (c .before .flag .ensures) (c .if1 .taken)
-
-run-requires : tie.Need-run-requires
-run-requires c κs = search needs
-
-run-requires-2 : tie.Need-run-requires-2
-run-requires-2 c κs = search needs
-
-run-requires-3 : tie.Need-run-requires-3
-run-requires-3 c κs = search needs
-
-run-requires-4 : tie.Need-run-requires-4
-run-requires-4 c κs = search needs
 
 returns-2 : tie.Need-returns-2
 returns-2 c = mount-some _ _ _ _ _ _ _ _ (c .before .before .before .before .before .flag .ensures) _ _ _ _ (c .before .before .before .before .if1 .left) (c .before .before .before .run .ensures) (c .before .before .run2 .ensures) (c .before .run3 .ensures) (c .run4 .ensures)
@@ -29,10 +14,10 @@ pub mount-spec : {M : Type 1} → statement M
 mount-spec =
     tie.close
     (tie.spec
-    flag-requires
+    (λ c κs. search needs)
     returns
-    run-requires
-    run-requires-2
-    run-requires-3
-    run-requires-4
+    (λ c κs. search needs)
+    (λ c κs. search needs)
+    (λ c κs. search needs)
+    (λ c κs. search needs)
     returns-2)

@@ -17,18 +17,6 @@ abbrev μ-loop : tie.MeasureT-loop
 loop-holds : tie.Need-loop-holds Inv-loop μ-loop
 loop-holds c = (search needs, pieces-all _ 256 _)
 
-cast-slot : tie.Need-cast-slot Inv-loop μ-loop
-cast-slot c = search needs
-
-slot-requires : tie.Need-slot-requires Inv-loop μ-loop
-slot-requires c κs = search needs
-
-add-k : tie.Need-add-k Inv-loop μ-loop
-add-k c = search needs
-
-loop-less : tie.Need-loop-less Inv-loop μ-loop
-loop-less c = search needs
-
 loop-again : tie.Need-loop-again Inv-loop μ-loop
 loop-again c = (search needs, pieces-more _ 256 _ _ _ _ (c .before .loop-test .taken) (c .slot .ensures) (c .before .before .loop .inv .1))
 
@@ -42,9 +30,9 @@ slots-spec =
     Inv-loop
     μ-loop
     loop-holds
-    cast-slot
-    slot-requires
-    add-k
-    loop-less
+    (λ c. search needs)
+    (λ c κs. search needs)
+    (λ c. search needs)
+    (λ c. search needs)
     loop-again
     returns)

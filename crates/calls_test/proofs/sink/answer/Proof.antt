@@ -11,35 +11,11 @@ Inv-loop code values regs₀ i₀ regs i = Unit {0}
 abbrev μ-loop : tie.MeasureT-loop
 μ-loop code values regs₀ i₀ regs i = length values - i
 
-element-write-regs : tie.Need-element-write-regs Inv-loop μ-loop
-element-write-regs c = search needs
-
-number-requires : tie.Need-number-requires Inv-loop μ-loop
-number-requires c κs = search needs
-
 loop-holds : tie.Need-loop-holds Inv-loop μ-loop
 loop-holds c = tt
 
-mul-number : tie.Need-mul-number Inv-loop μ-loop
-mul-number c = search needs
-
-shared-slice-read-number : tie.Need-shared-slice-read-number Inv-loop μ-loop
-shared-slice-read-number c = search needs
-
-number-requires-2 : tie.Need-number-requires-2 Inv-loop μ-loop
-number-requires-2 c κs = search needs
-
-add-i : tie.Need-add-i Inv-loop μ-loop
-add-i c = search needs
-
-loop-less : tie.Need-loop-less Inv-loop μ-loop
-loop-less c = search needs
-
 loop-again : tie.Need-loop-again Inv-loop μ-loop
 loop-again c = tt
-
-returns : tie.Need-returns Inv-loop μ-loop
-returns c = search needs
 
 pub answer-spec : {M : Type 1} → statement M
 answer-spec =
@@ -47,13 +23,13 @@ answer-spec =
     (tie.spec
     Inv-loop
     μ-loop
-    element-write-regs
-    number-requires
+    (λ c. search needs)
+    (λ c κs. search needs)
     loop-holds
-    mul-number
-    shared-slice-read-number
-    number-requires-2
-    add-i
-    loop-less
+    (λ c. search needs)
+    (λ c. search needs)
+    (λ c κs. search needs)
+    (λ c. search needs)
+    (λ c. search needs)
     loop-again
-    returns)
+    (λ c. search needs))

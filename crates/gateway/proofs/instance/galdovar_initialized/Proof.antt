@@ -5,15 +5,9 @@ use borrow.Author.Needs.{needs}
 use Rattle.gateway.proofs.instance.galdovar_initialized.Statement.{statement}
 use Rattle.gateway.proofs.instance.galdovar_initialized.Tie as tie
 
-initialized-requires : tie.Need-initialized-requires
-initialized-requires c κs = search needs
-
-initialized-requires-2 : tie.Need-initialized-requires-2
-initialized-requires-2 c κs = search needs
-
 returns : tie.Need-returns
 returns c = by-told initializedNumbers _ _ _ (c .initialized2 .ensures) (c .before .initialized .ensures)
 
 pub galdovar-initialized-spec : {M : Type 1} → statement M
 galdovar-initialized-spec =
-    tie.close (tie.spec initialized-requires initialized-requires-2 returns)
+    tie.close (tie.spec (λ c κs. search needs) (λ c κs. search needs) returns)

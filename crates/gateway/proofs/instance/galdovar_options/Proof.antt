@@ -5,14 +5,8 @@ use borrow.Author.Needs.{needs}
 use Rattle.gateway.proofs.instance.galdovar_options.Statement.{statement}
 use Rattle.gateway.proofs.instance.galdovar_options.Tie as tie
 
-options-requires : tie.Need-options-requires
-options-requires c κs = search needs
-
-options-requires-2 : tie.Need-options-requires-2
-options-requires-2 c κs = search needs
-
 returns : tie.Need-returns
 returns c = by-told optionsNumbers _ _ _ (c .options2 .ensures) (c .before .options .ensures)
 
 pub galdovar-options-spec : {M : Type 1} → statement M
-galdovar-options-spec = tie.close (tie.spec options-requires options-requires-2 returns)
+galdovar-options-spec = tie.close (tie.spec (λ c κs. search needs) (λ c κs. search needs) returns)

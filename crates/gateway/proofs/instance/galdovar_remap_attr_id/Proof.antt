@@ -5,14 +5,8 @@ use borrow.Author.Needs.{needs}
 use Rattle.gateway.proofs.instance.galdovar_remap_attr_id.Statement.{statement}
 use Rattle.gateway.proofs.instance.galdovar_remap_attr_id.Tie as tie
 
-remap-attr-id-requires : tie.Need-remap-attr-id-requires
-remap-attr-id-requires c κs = search needs
-
-remapped-requires : tie.Need-remapped-requires
-remapped-requires c κs = search needs
-
 returns : tie.Need-returns
 returns c = by-told idsNumbers _ _ _ (c .remapped .ensures) (c .before .remap-attr-id .ensures)
 
 pub galdovar-remap-attr-id-spec : {M : Type 1} → statement M
-galdovar-remap-attr-id-spec = tie.close (tie.spec remap-attr-id-requires remapped-requires returns)
+galdovar-remap-attr-id-spec = tie.close (tie.spec (λ c κs. search needs) (λ c κs. search needs) returns)

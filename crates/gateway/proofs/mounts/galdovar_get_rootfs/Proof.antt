@@ -5,14 +5,8 @@ use borrow.Author.Needs.{needs}
 use Rattle.gateway.proofs.mounts.galdovar_get_rootfs.Statement.{statement}
 use Rattle.gateway.proofs.mounts.galdovar_get_rootfs.Tie as tie
 
-get-rootfs-requires : tie.Need-get-rootfs-requires
-get-rootfs-requires c κs = search needs
-
-rootfs-requires : tie.Need-rootfs-requires
-rootfs-requires c κs = search needs
-
 returns : tie.Need-returns
 returns c = by-told rootfsNumbers _ _ _ (c .rootfs .ensures) (c .before .get-rootfs .ensures)
 
 pub galdovar-get-rootfs-spec : {M : Type 1} → statement M
-galdovar-get-rootfs-spec = tie.close (tie.spec get-rootfs-requires rootfs-requires returns)
+galdovar-get-rootfs-spec = tie.close (tie.spec (λ c κs. search needs) (λ c κs. search needs) returns)

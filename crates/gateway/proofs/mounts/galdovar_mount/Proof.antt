@@ -8,18 +8,6 @@ use borrow.Author.Needs.{needs}
 use Rattle.gateway.proofs.mounts.galdovar_mount.Statement.{statement}
 use Rattle.gateway.proofs.mounts.galdovar_mount.Tie as tie
 
-backend-requires : tie.Need-backend-requires
-backend-requires c κs = search needs
-
-mount-requires : tie.Need-mount-requires
-mount-requires c κs = search needs
-
-mounted-requires : tie.Need-mounted-requires
-mounted-requires c κs = search needs
-
-same-length : tie.Need-same-length
-same-length c = search needs
-
 returns : tie.Need-returns
 returns c =
     let a = c .before .before .before .before .before .before .before .before .args in
@@ -28,4 +16,4 @@ returns c =
     does-asked mountNumbers s mountRule (λ q. mountMem q s) _ p _ _ _ (c .before .before .before .before .backend .ensures _) (c .mounted .ensures) (c .before .before .before .mount .ensures)
 
 pub galdovar-mount-spec : {M : Type 1} → statement M
-galdovar-mount-spec = tie.close (tie.spec backend-requires mount-requires mounted-requires same-length returns)
+galdovar-mount-spec = tie.close (tie.spec (λ c κs. search needs) (λ c κs. search needs) (λ c κs. search needs) (λ c. search needs) returns)

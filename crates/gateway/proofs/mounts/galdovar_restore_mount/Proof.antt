@@ -8,18 +8,6 @@ use borrow.Author.Needs.{needs}
 use Rattle.gateway.proofs.mounts.galdovar_restore_mount.Statement.{statement}
 use Rattle.gateway.proofs.mounts.galdovar_restore_mount.Tie as tie
 
-backend-requires : tie.Need-backend-requires
-backend-requires c κs = search needs
-
-restore-mount-requires : tie.Need-restore-mount-requires
-restore-mount-requires c κs = search needs
-
-restored-mount-requires : tie.Need-restored-mount-requires
-restored-mount-requires c κs = search needs
-
-same-length : tie.Need-same-length
-same-length c = search needs
-
 returns : tie.Need-returns
 returns c =
     let a = c .before .before .before .before .before .before .before .before .args in
@@ -29,4 +17,4 @@ returns c =
 
 pub galdovar-restore-mount-spec : {M : Type 1} → statement M
 galdovar-restore-mount-spec =
-    tie.close (tie.spec backend-requires restore-mount-requires restored-mount-requires same-length returns)
+    tie.close (tie.spec (λ c κs. search needs) (λ c κs. search needs) (λ c κs. search needs) (λ c. search needs) returns)

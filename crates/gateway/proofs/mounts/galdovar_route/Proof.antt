@@ -5,14 +5,8 @@ use borrow.Author.Needs.{needs}
 use Rattle.gateway.proofs.mounts.galdovar_route.Statement.{statement}
 use Rattle.gateway.proofs.mounts.galdovar_route.Tie as tie
 
-route-requires : tie.Need-route-requires
-route-requires c κs = search needs
-
-routed-requires : tie.Need-routed-requires
-routed-requires c κs = search needs
-
 returns : tie.Need-returns
 returns c = by-told routeNumbers _ _ _ (c .routed .ensures) (c .before .route .ensures)
 
 pub galdovar-route-spec : {M : Type 1} → statement M
-galdovar-route-spec = tie.close (tie.spec route-requires routed-requires returns)
+galdovar-route-spec = tie.close (tie.spec (λ c κs. search needs) (λ c κs. search needs) returns)

@@ -5,17 +5,8 @@ use borrow.Author.Needs.{needs}
 use Rattle.gateway.proofs.mounts.galdovar_umount.Statement.{statement}
 use Rattle.gateway.proofs.mounts.galdovar_umount.Tie as tie
 
-umount-requires : tie.Need-umount-requires
-umount-requires c κs = search needs
-
-unmounted-requires : tie.Need-unmounted-requires
-unmounted-requires c κs = search needs
-
-same-length : tie.Need-same-length
-same-length c = search needs
-
 returns : tie.Need-returns
 returns c = does-by umountNumbers _ _ _ _ _ _ (c .unmounted .ensures) (c .before .before .before .umount .ensures)
 
 pub galdovar-umount-spec : {M : Type 1} → statement M
-galdovar-umount-spec = tie.close (tie.spec umount-requires unmounted-requires same-length returns)
+galdovar-umount-spec = tie.close (tie.spec (λ c κs. search needs) (λ c κs. search needs) (λ c. search needs) returns)

@@ -4,15 +4,9 @@ use borrow.Author.Needs.{needs}
 use Rattle.gateway.proofs.plain.galdovar_convert_inode.Statement.{statement}
 use Rattle.gateway.proofs.plain.galdovar_convert_inode.Tie as tie
 
-convert-inode-requires : tie.Need-convert-inode-requires
-convert-inode-requires c κs = search needs
-
-converted-requires : tie.Need-converted-requires
-converted-requires c κs = search needs
-
 returns : tie.Need-returns
 returns c = converts-by _ _ _ _ (c .converted .ensures) (c .before .convert-inode .ensures)
 
 pub galdovar-convert-inode-spec : {M : Type 1} → statement M
 galdovar-convert-inode-spec =
-    tie.close (tie.spec convert-inode-requires converted-requires returns)
+    tie.close (tie.spec (λ c κs. search needs) (λ c κs. search needs) returns)

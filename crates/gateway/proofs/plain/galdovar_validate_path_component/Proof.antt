@@ -5,15 +5,9 @@ use borrow.Author.Needs.{needs}
 use Rattle.gateway.proofs.plain.galdovar_validate_path_component.Statement.{statement}
 use Rattle.gateway.proofs.plain.galdovar_validate_path_component.Tie as tie
 
-validate-path-component-requires : tie.Need-validate-path-component-requires
-validate-path-component-requires c κs = search needs
-
-checked-requires : tie.Need-checked-requires
-checked-requires c κs = search needs
-
 returns : tie.Need-returns
 returns c = by-told codeAlone _ _ _ (c .checked .ensures) (c .before .validate-path-component .ensures)
 
 pub galdovar-validate-path-component-spec : {M : Type 1} → statement M
 galdovar-validate-path-component-spec =
-    tie.close (tie.spec validate-path-component-requires checked-requires returns)
+    tie.close (tie.spec (λ c κs. search needs) (λ c κs. search needs) returns)

@@ -4,12 +4,9 @@ use borrow.Author.Needs.{needs}
 use Rattle.inode.proofs.VfsInode.fs_idx.Statement.{statement}
 use Rattle.inode.proofs.VfsInode.fs_idx.Tie as tie
 
-cast-result : tie.Need-cast-result
-cast-result c = search needs
-
 returns : tie.Need-returns
 unfolding indexOf
 returns c = search needs
 
 pub fs-idx-spec : {M : Type 1} → statement M
-fs-idx-spec = tie.close (tie.spec cast-result returns)
+fs-idx-spec = tie.close (tie.spec (λ c. search needs) returns)

@@ -6,11 +6,8 @@ use borrow.Author.Needs.{needs}
 use Rattle.inode.proofs.VfsInode.is_pseudo_fs.Statement.{statement}
 use Rattle.inode.proofs.VfsInode.is_pseudo_fs.Tie as tie
 
-fs-idx-requires : tie.Need-fs-idx-requires
-fs-idx-requires c κs = search needs
-
 returns : tie.Need-returns
 returns c = ap (λ (i : ℕ). eqb i 0) (c .fs-idx .ensures)
 
 pub is-pseudo-fs-spec : {M : Type 1} → statement M
-is-pseudo-fs-spec = tie.close (tie.spec fs-idx-requires returns)
+is-pseudo-fs-spec = tie.close (tie.spec (λ c κs. search needs) returns)

@@ -12,9 +12,6 @@ Inv-loop dst₀ at len v i₀ dst i = Written dst₀ at (λ j. replicate j v) le
 abbrev μ-loop : tie.MeasureT-loop
 μ-loop dst₀ at len v i₀ dst i = len - i
 
-loop-holds : tie.Need-loop-holds Inv-loop μ-loop
-loop-holds c = search needs
-
 loop-again : tie.Need-loop-again Inv-loop μ-loop
 loop-again c = filled _ _ _ _ _ _ (c .before .loop .inv) (search needs)
 
@@ -27,7 +24,7 @@ fill-at-spec =
     (tie.spec
     Inv-loop
     μ-loop
-    loop-holds
+    (λ c. search needs)
     (λ c. search needs)
     (λ c. search needs)
     (λ c. search needs)

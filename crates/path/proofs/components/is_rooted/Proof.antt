@@ -7,11 +7,8 @@ use Rattle.path.proofs.components.is_rooted.Tie as tie
 returns : tie.Need-returns
 returns c = rooted-none _ (c .if1 .taken)
 
-shared-slice-read-result : tie.Need-shared-slice-read-result
-shared-slice-read-result c = search needs
-
 returns-2 : tie.Need-returns-2
 returns-2 c = rooted-first _ (c .before .if1 .left)
 
 pub is-rooted-spec : {M : Type 1} → statement M
-is-rooted-spec = tie.close (tie.spec returns shared-slice-read-result returns-2)
+is-rooted-spec = tie.close (tie.spec returns (λ c. search needs) returns-2)

@@ -24,9 +24,6 @@ loop-holds c = refl
 loop-again : tie.Need-loop-again Inv-loop μ-loop
 loop-again c = sym (next-slash _ _ (c .before .before .loop-test .taken) (c .if1 .taken)) ∙ c .before .before .before .loop .inv
 
-part-end-requires : tie.Need-part-end-requires Inv-loop μ-loop
-part-end-requires c κs = search needs
-
 component-at-requires : tie.Need-component-at-requires Inv-loop μ-loop
 component-at-requires c κs =
     let l = c .before .before .before .before in
@@ -55,7 +52,7 @@ next-component-spec =
     (λ c. search needs)
     (λ c. search needs)
     loop-again
-    part-end-requires
+    (λ c κs. search needs)
     component-at-requires
     (λ c. search needs)
     (λ c. search needs)

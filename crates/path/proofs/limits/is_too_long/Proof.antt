@@ -31,9 +31,6 @@ returns c = long-path _ (c .if1 .taken)
 loop-holds : tie.Need-loop-holds Inv-loop μ-loop
 loop-holds c = (omega arith, refl)
 
-part-end-requires : tie.Need-part-end-requires Inv-loop μ-loop
-part-end-requires c κs = search needs
-
 sub-if2 : tie.Need-sub-if2 Inv-loop μ-loop
 sub-if2 c = omega (arith, part c)
 
@@ -68,7 +65,7 @@ is-too-long-spec =
     μ-loop
     returns
     loop-holds
-    part-end-requires
+    (λ c κs. search needs)
     sub-if2
     returns-2
     add-i

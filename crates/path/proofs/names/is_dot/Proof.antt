@@ -11,11 +11,8 @@ use Rattle.path.proofs.names.is_dot.Tie as tie
 returns : tie.Need-returns
 returns c = sym (same-length _ (dot ∷ []) (c .if1 .taken))
 
-shared-slice-read-result : tie.Need-shared-slice-read-result
-shared-slice-read-result c = search needs
-
 returns-2 : tie.Need-returns-2
 returns-2 c = dot-one _ (c .before .if1 .left)
 
 pub is-dot-spec : {M : Type 1} → statement M
-is-dot-spec = tie.close (tie.spec returns shared-slice-read-result returns-2)
+is-dot-spec = tie.close (tie.spec returns (λ c. search needs) returns-2)

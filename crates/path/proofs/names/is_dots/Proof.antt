@@ -11,18 +11,12 @@ use Rattle.path.proofs.names.is_dots.Tie as tie
 returns : tie.Need-returns
 returns c = sym (same-length _ (dot ∷ dot ∷ []) (c .if1 .taken))
 
-shared-slice-read-if2 : tie.Need-shared-slice-read-if2
-shared-slice-read-if2 c = search needs
-
 returns-2 : tie.Need-returns-2
 returns-2 c = dots-first _ (c .before .before .if1 .left) (c .if2 .taken)
-
-shared-slice-read-result : tie.Need-shared-slice-read-result
-shared-slice-read-result c = search needs
 
 returns-3 : tie.Need-returns-3
 returns-3 c = dots-second _ (c .before .before .before .if1 .left) (c .before .if2 .left)
 
 pub is-dots-spec : {M : Type 1} → statement M
 is-dots-spec =
-    tie.close (tie.spec returns shared-slice-read-if2 returns-2 shared-slice-read-result returns-3)
+    tie.close (tie.spec returns (λ c. search needs) returns-2 (λ c. search needs) returns-3)

@@ -5,26 +5,14 @@ use Rattle.path.proofs.Naming.{bad-dot, bad-dots, bad-slash, bad-zero, 
 use Rattle.path.proofs.names.validate_path_component.Statement.{statement}
 use Rattle.path.proofs.names.validate_path_component.Tie as tie
 
-is-dot-requires : tie.Need-is-dot-requires
-is-dot-requires c κs = search needs
-
 returns : tie.Need-returns
 returns c = bad-dot _ (sym (c .before .is-dot .ensures) ∙ c .if1 .taken)
-
-is-dots-requires : tie.Need-is-dots-requires
-is-dots-requires c κs = search needs
 
 returns-2 : tie.Need-returns-2
 returns-2 c = bad-dots _ (sym (c .before .is-dots .ensures) ∙ c .if2 .taken)
 
-has-byte-requires : tie.Need-has-byte-requires
-has-byte-requires c κs = search needs
-
 returns-3 : tie.Need-returns-3
 returns-3 c = bad-slash _ (sym (c .before .has-byte .ensures) ∙ c .if3 .taken)
-
-has-byte-requires-2 : tie.Need-has-byte-requires-2
-has-byte-requires-2 c κs = search needs
 
 returns-4 : tie.Need-returns-4
 returns-4 c = bad-zero _ (sym (c .before .has-byte2 .ensures) ∙ c .if4 .taken)
@@ -36,12 +24,12 @@ pub validate-path-component-spec : {M : Type 1} → statement M
 validate-path-component-spec =
     tie.close
     (tie.spec
-    is-dot-requires
+    (λ c κs. search needs)
     returns
-    is-dots-requires
+    (λ c κs. search needs)
     returns-2
-    has-byte-requires
+    (λ c κs. search needs)
     returns-3
-    has-byte-requires-2
+    (λ c κs. search needs)
     returns-4
     returns-5)

@@ -1,11 +1,11 @@
 -- `saved::inner::count_of` meets its contract. Assumes nothing.
 use borrow.Author.Needs.{needs}
-use Rattle.rules.specs.Saved.{countOf}
+use Rattle.rules.specs.Saved.{recordsOf}
 use Rattle.saved.proofs.inner.count_of.Statement.{statement}
 use Rattle.saved.proofs.inner.count_of.Tie as tie
 
 returns : tie.Need-returns
-unfolding countOf
+unfolding recordsOf
 returns c = search needs
 
 pub count-of-spec : {M : Type 1} → statement M

@@ -4,14 +4,8 @@ use borrow.Author.Needs.{needs}
 use Rattle.steps.proofs.generator.following.Statement.{statement}
 use Rattle.steps.proofs.generator.following.Tie as tie
 
-mul-result : tie.Need-mul-result
-mul-result c = search needs
-
-add-result : tie.Need-add-result
-add-result c = search needs
-
 returns : tie.Need-returns
 returns c = refl
 
 pub following-spec : {M : Type 1} → statement M
-following-spec = tie.close (tie.spec mul-result add-result returns)
+following-spec = tie.close (tie.spec (λ c. search needs) (λ c. search needs) returns)

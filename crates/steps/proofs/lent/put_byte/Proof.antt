@@ -4,18 +4,6 @@ use borrow.Author.Needs.{needs}
 use Rattle.steps.proofs.lent.put_byte.Statement.{statement}
 use Rattle.steps.proofs.lent.put_byte.Tie as tie
 
-least-requires : tie.Need-least-requires
-least-requires c κs = search needs
-
-low8-requires : tie.Need-low8-requires
-low8-requires c κs = search needs
-
-put-u8-requires : tie.Need-put-u8-requires
-put-u8-requires c κs = search needs
-
-same-length : tie.Need-same-length
-same-length c = search needs
-
 returns : tie.Need-returns
 returns c = byte-is _ _ _ _ (c .before .before .before .before .before .before .least .ensures) _ _ (c .before .before .before .before .before .if1 .taken) (c .before .before .before .low8 .ensures) (c .before .before .put-u8 .ensures)
 
@@ -24,4 +12,4 @@ returns-2 c = byte-none _ _ _ _ (c .before .least .ensures) (c .if1 .left)
 
 pub put-byte-spec : {M : Type 1} → statement M
 put-byte-spec =
-    tie.close (tie.spec least-requires low8-requires put-u8-requires same-length returns returns-2)
+    tie.close (tie.spec (λ c κs. search needs) (λ c κs. search needs) (λ c κs. search needs) (λ c. search needs) returns returns-2)

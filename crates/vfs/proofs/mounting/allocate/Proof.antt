@@ -12,11 +12,8 @@ search-requires c κs = omega (arith, laid-long _ (c .before .before .pre))
 set-counter-requires : tie.Need-set-counter-requires
 set-counter-requires c κs = omega (arith, laid-long _ (c .before .before .before .before .pre))
 
-same-length : tie.Need-same-length
-same-length c = search needs
-
 returns : tie.Need-returns
 returns c = allocates _ (c .before .before .before .before .before .before .before .pre) (λ i. c .before .before .before .before .before .before .slice-known .given i .fits) _ (c .before .before .before .before .search .ensures) _ (c .before .before .set-counter .ensures)
 
 pub allocate-spec : {M : Type 1} → statement M
-allocate-spec = tie.close (tie.spec search-requires set-counter-requires same-length returns)
+allocate-spec = tie.close (tie.spec search-requires set-counter-requires (λ c. search needs) returns)

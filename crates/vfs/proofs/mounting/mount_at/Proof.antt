@@ -7,14 +7,14 @@ use Rattle.vfs.proofs.mounting.mount_at.Tie as tie
 returns : tie.Need-returns
 returns c = large-mounted _ _ _ _ (c .before .before .before .before .pre .0) (c .if1 .taken) _
 
-finish-requires : tie.Need-finish-requires
-finish-requires c κs = search needs
+insert-mount-requires : tie.Need-insert-mount-requires
+insert-mount-requires c κs = search needs
 
 same-length : tie.Need-same-length
 same-length c = search needs
 
 returns-2 : tie.Need-returns-2
-returns-2 c = placed-mounted _ _ _ _ (c .before .before .before .before .if1 .left) _ _ (c .before .before .finish .ensures) _
+returns-2 c = placed-mounted _ _ _ _ (c .before .before .before .before .if1 .left) _ _ (c .before .before .insert-mount .ensures) _
 
 pub mount-at-spec : {M : Type 1} → statement M
-mount-at-spec = tie.close (tie.spec returns finish-requires same-length returns-2)
+mount-at-spec = tie.close (tie.spec returns insert-mount-requires same-length returns-2)

@@ -9,21 +9,6 @@ use Rattle.vfs.proofs.mounting.mount_new.Tie as tie
 plan-mount-requires : tie.Need-plan-mount-requires
 plan-mount-requires c κs = search (laid-is, needs)
 
-enum-told : tie.Need-enum-told
-enum-told c = search needs
-
-enum-known-node : tie.Need-enum-known-node
-enum-known-node c = search needs
-
-allocate-requires : tie.Need-allocate-requires
-allocate-requires c κs = search needs
-
-enum-told-2 : tie.Need-enum-told-2
-enum-told-2 c = search needs
-
-enum-known-answer : tie.Need-enum-known-answer
-enum-known-answer c = search needs
-
 apply-plan-requires : tie.Need-apply-plan-requires
 apply-plan-requires c κs =
     let g = c .before .before .before .before .before .before .before .before .before .allocate .ensures in
@@ -35,21 +20,12 @@ mount-at-requires c κs =
     let f = again _ _ _ _ g _ _ (c .before .before .before .before .before .before .before .before .before .before .before .before .before .before .before .before .before .before .plan-mount .ensures) _ _ (c .before .before .before .before .before .before .before .before .before .before .before .before .before .before .before .before .node .given .1) in
     (leads-laid _ _ (g .keeps) (c .before .before .before .before .before .before .before .before .before .before .before .before .before .before .before .before .before .before .before .before .before .before .before .before .before .pre .1 .0) _ _ (plan-leads _ _ (g .keeps) _ _ _ f _ (c .before .before .before .apply-plan .ensures)), g .least _ (c .before .before .before .before .before .before .before .before .before .answer .given .1))
 
-same-length : tie.Need-same-length
-same-length c = search needs
-
 returns : tie.Need-returns
 returns c = search (no-room-way, needs)
-
-same-length-2 : tie.Need-same-length-2
-same-length-2 c = search needs
 
 returns-2 : tie.Need-returns-2
 returns-2 c =
     full-way _ _ _ _ _ (c .before .before .before .before .allocate .ensures) (fitted _ _ _ (c .before .before .before .before .before .before .before .before .before .plan-mount .ensures) (c .before .before .before .before .before .before .before .node .given .1) .room) (c .enum-told2 .given .1)
-
-same-length-3 : tie.Need-same-length-3
-same-length-3 c = search needs
 
 returns-3 : tie.Need-returns-3
 returns-3 c =
@@ -64,16 +40,16 @@ mount-new-spec =
     tie.close
     (tie.spec
     plan-mount-requires
-    enum-told
-    enum-known-node
-    allocate-requires
-    enum-told-2
-    enum-known-answer
+    (λ c. search needs)
+    (λ c. search needs)
+    (λ c κs. search needs)
+    (λ c. search needs)
+    (λ c. search needs)
     apply-plan-requires
     mount-at-requires
-    same-length
+    (λ c. search needs)
     returns
-    same-length-2
+    (λ c. search needs)
     returns-2
-    same-length-3
+    (λ c. search needs)
     returns-3)

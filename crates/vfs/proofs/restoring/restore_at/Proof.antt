@@ -7,14 +7,8 @@ use Rattle.vfs.proofs.restoring.restore_at.Tie as tie
 returns : tie.Need-returns
 returns c = large-restored _ _ _ _ (c .before .before .before .before .pre .0) (c .if1 .taken)
 
-finish-requires : tie.Need-finish-requires
-finish-requires c κs = search needs
-
-same-length : tie.Need-same-length
-same-length c = search needs
-
 returns-2 : tie.Need-returns-2
-returns-2 c = placed-restored _ _ _ _ (c .before .before .before .before .if1 .left) _ _ (c .before .before .finish .ensures)
+returns-2 c = placed-restored _ _ _ _ (c .before .before .before .before .if1 .left) _ _ (c .before .before .insert-mount .ensures)
 
 pub restore-at-spec : {M : Type 1} → statement M
-restore-at-spec = tie.close (tie.spec returns finish-requires same-length returns-2)
+restore-at-spec = tie.close (tie.spec returns (λ c κs. search needs) (λ c. search needs) returns-2)

@@ -6,29 +6,11 @@ use Rattle.vfs.proofs.RestoreCalls.{restore-begins, index-by, bad-index
 use Rattle.vfs.proofs.restoring.restore_mount.Statement.{statement}
 use Rattle.vfs.proofs.restoring.restore_mount.Tie as tie
 
-is-laid-requires : tie.Need-is-laid-requires
-is-laid-requires c κs = search needs
-
-same-length : tie.Need-same-length
-same-length c = search needs
-
 returns : tie.Need-returns
 returns c = small _ _ _ _ _ _ _ (restore-begins _ _ _ _) _ (c .before .is-laid .ensures) (c .if1 .taken)
 
-is-too-long-requires : tie.Need-is-too-long-requires
-is-too-long-requires c κs = search needs
-
-same-length-2 : tie.Need-same-length-2
-same-length-2 c = search needs
-
 returns-2 : tie.Need-returns-2
 returns-2 c = too-long _ _ _ _ _ _ _ (restore-begins _ _ _ _) _ (c .before .before .before .is-laid .ensures) (c .before .before .if1 .left) _ (c .before .is-too-long .ensures) (c .if2 .taken)
-
-is-utf8-requires : tie.Need-is-utf8-requires
-is-utf8-requires c κs = search needs
-
-same-length-3 : tie.Need-same-length-3
-same-length-3 c = search needs
 
 returns-3 : tie.Need-returns-3
 returns-3 c = bad-bytes _ _ _ _ _ _ _ (restore-begins _ _ _ _) _ (c .before .before .before .before .before .is-laid .ensures) (c .before .before .before .before .if1 .left) _ (c .before .before .before .is-too-long .ensures) (c .before .before .if2 .left) _ (c .before .is-utf8 .ensures) (c .if3 .taken)
@@ -37,23 +19,11 @@ returns-3 c = bad-bytes _ _ _ _ _ _ _ (restore-begins _ _ _ _) _ (c .before .bef
 pass : (c : tie.Else3) → Passed (c .before .before .before .before .before .before .before .before .before .args .s .now) (now (c .before .before .before .before .before .before .before .before .before .args .path))
 pass c = passed _ _ _ (c .before .before .before .before .before .is-laid .ensures) (c .before .before .before .before .if1 .left) _ (c .before .before .before .is-too-long .ensures) (c .before .before .if2 .left) _ (c .before .is-utf8 .ensures) (c .if3 .left)
 
-same-length-4 : tie.Need-same-length-4
-same-length-4 c = search needs
-
 returns-4 : tie.Need-returns-4
 returns-4 c = bad-index _ _ _ _ (pass (c .before)) (c .if4 .taken)
 
-same-length-5 : tie.Need-same-length-5
-same-length-5 c = search needs
-
 returns-5 : tie.Need-returns-5
 returns-5 c = large-back _ _ _ _ (pass (c .before .before .before)) (c .before .before .if4 .left) (c .if5 .taken)
-
-is-rooted-requires : tie.Need-is-rooted-requires
-is-rooted-requires c κs = search needs
-
-same-length-6 : tie.Need-same-length-6
-same-length-6 c = search needs
 
 returns-6 : tie.Need-returns-6
 returns-6 c = no-slash-back _ _ _ _ (pass (c .before .before .before .before .before)) (c .before .before .before .before .if4 .left) (c .before .before .if5 .left) _ (c .before .is-rooted .ensures) (c .if6 .taken)
@@ -63,9 +33,6 @@ restore-rooted-requires c κs =
     let p = pass (c .before .before .before .before .before .before) in
     (p .laid, (p .fits, (slash-by _ _ (c .before .before .is-rooted .ensures) (c .before .if6 .left), index-by _ (c .before .before .before .before .before .if4 .left))))
 
-same-length-7 : tie.Need-same-length-7
-same-length-7 c = search needs
-
 returns-7 : tie.Need-returns-7
 returns-7 c = slash-back _ _ _ _ (pass (c .before .before .before .before .before .before .before .before .before)) (c .before .before .before .before .before .before .before .before .if4 .left) (c .before .before .before .before .before .before .if5 .left) _ (c .before .before .before .before .before .is-rooted .ensures) (c .before .before .before .before .if6 .left) _ _ (c .before .before .restore-rooted .ensures)
 
@@ -73,22 +40,22 @@ pub restore-mount-spec : {M : Type 1} → statement M
 restore-mount-spec =
     tie.close
     (tie.spec
-    is-laid-requires
-    same-length
+    (λ c κs. search needs)
+    (λ c. search needs)
     returns
-    is-too-long-requires
-    same-length-2
+    (λ c κs. search needs)
+    (λ c. search needs)
     returns-2
-    is-utf8-requires
-    same-length-3
+    (λ c κs. search needs)
+    (λ c. search needs)
     returns-3
-    same-length-4
+    (λ c. search needs)
     returns-4
-    same-length-5
+    (λ c. search needs)
     returns-5
-    is-rooted-requires
-    same-length-6
+    (λ c κs. search needs)
+    (λ c. search needs)
     returns-6
     restore-rooted-requires
-    same-length-7
+    (λ c. search needs)
     returns-7)

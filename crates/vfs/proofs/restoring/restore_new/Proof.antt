@@ -9,12 +9,6 @@ use Rattle.vfs.proofs.restoring.restore_new.Tie as tie
 plan-mount-requires : tie.Need-plan-mount-requires
 plan-mount-requires c κs = search (laid-is, needs)
 
-enum-told : tie.Need-enum-told
-enum-told c = search needs
-
-enum-known-node : tie.Need-enum-known-node
-enum-known-node c = search needs
-
 apply-plan-requires : tie.Need-apply-plan-requires
 apply-plan-requires c κs = applies _ _ (c .before .before .before .before .before .before .before .before .before .before .before .before .before .before .pre .0) _ _ _ (fitted _ _ _ (c .before .before .before .before .before .before .before .plan-mount .ensures) (c .before .before .before .before .before .node .given .1))
 
@@ -23,14 +17,8 @@ restore-at-requires c κs =
     let p = c .before .before .before .before .before .before .before .before .before .before .before .before .before .before .before .before .before .before .pre in
     (leads-laid _ _ (p .0) (p .1 .0) _ _ (plan-leads _ _ (p .0) _ _ _ (fitted _ _ _ (c .before .before .before .before .before .before .before .before .before .before .before .plan-mount .ensures) (c .before .before .before .before .before .before .before .before .before .node .given .1)) _ (c .before .before .before .apply-plan .ensures)), p .1 .1 .1)
 
-same-length : tie.Need-same-length
-same-length c = search needs
-
 returns : tie.Need-returns
 returns c = search (no-room-back, needs)
-
-same-length-2 : tie.Need-same-length-2
-same-length-2 c = search needs
 
 returns-2 : tie.Need-returns-2
 returns-2 c =
@@ -42,11 +30,11 @@ restore-new-spec =
     tie.close
     (tie.spec
     plan-mount-requires
-    enum-told
-    enum-known-node
+    (λ c. search needs)
+    (λ c. search needs)
     apply-plan-requires
     restore-at-requires
-    same-length
+    (λ c. search needs)
     returns
-    same-length-2
+    (λ c. search needs)
     returns-2)

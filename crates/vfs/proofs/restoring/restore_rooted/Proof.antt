@@ -9,27 +9,6 @@ use Rattle.vfs.proofs.restoring.restore_rooted.Tie as tie
 walk-requires : tie.Need-walk-requires
 walk-requires c κs = search (laid-is, needs)
 
-enum-told : tie.Need-enum-told
-enum-told c = search needs
-
-restore-new-requires : tie.Need-restore-new-requires
-restore-new-requires c κs = search needs
-
-enum-known-x : tie.Need-enum-known-x
-enum-known-x c = search needs
-
-restore-at-requires : tie.Need-restore-at-requires
-restore-at-requires c κs = search needs
-
-same-length : tie.Need-same-length
-same-length c = search needs
-
-returns : tie.Need-returns
-returns c = search needs
-
-same-length-2 : tie.Need-same-length-2
-same-length-2 c = search needs
-
 returns-2 : tie.Need-returns-2
 returns-2 c =
     let p = c .before .before .before .before .before .before .before .before .before .before .before .pre in
@@ -40,11 +19,11 @@ restore-rooted-spec =
     tie.close
     (tie.spec
     walk-requires
-    enum-told
-    restore-new-requires
-    enum-known-x
-    restore-at-requires
-    same-length
-    returns
-    same-length-2
+    (λ c. search needs)
+    (λ c κs. search needs)
+    (λ c. search needs)
+    (λ c κs. search needs)
+    (λ c. search needs)
+    (λ c. search needs)
+    (λ c. search needs)
     returns-2)

@@ -4,9 +4,6 @@ use borrow.Author.Needs.{needs}
 use Rattle.words.proofs.hex.escaped.Statement.{statement}
 use Rattle.words.proofs.hex.escaped.Tie as tie
 
-pair-requires : tie.Need-pair-requires
-pair-requires c κs = search needs
-
 returns : tie.Need-returns
 returns c = percent-sign _ _ _ _ (c .before .if1 .taken) (c .pair .ensures)
 
@@ -14,4 +11,4 @@ returns-2 : tie.Need-returns-2
 returns-2 c = no-percent _ _ _ (c .if1 .left)
 
 pub escaped-spec : {M : Type 1} → statement M
-escaped-spec = tie.close (tie.spec pair-requires returns returns-2)
+escaped-spec = tie.close (tie.spec (λ c κs. search needs) returns returns-2)

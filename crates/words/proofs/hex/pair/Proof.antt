@@ -5,14 +5,8 @@ use Rattle.words.proofs.Spelling.{digit-most, pair-is}
 use Rattle.words.proofs.hex.pair.Statement.{statement}
 use Rattle.words.proofs.hex.pair.Tie as tie
 
-digit-requires : tie.Need-digit-requires
-digit-requires c κs = search needs
-
 mul-result : tie.Need-mul-result
 mul-result c = omega (arith, c .digit .ensures, digit-most _ (c .before .fits .a .fits))
-
-digit-requires-2 : tie.Need-digit-requires-2
-digit-requires-2 c κs = search needs
 
 add-result : tie.Need-add-result
 add-result c = omega (arith, c .before .digit .ensures, c .digit2 .ensures, digit-most _ (c .before .before .fits .a .fits), digit-most _ (c .before .before .fits .b .fits))
@@ -21,4 +15,4 @@ returns : tie.Need-returns
 returns c = pair-is _ _ _ _ (c .before .digit .ensures) (c .digit2 .ensures)
 
 pub pair-spec : {M : Type 1} → statement M
-pair-spec = tie.close (tie.spec digit-requires mul-result digit-requires-2 add-result returns)
+pair-spec = tie.close (tie.spec (λ c κs. search needs) mul-result (λ c κs. search needs) add-result returns)

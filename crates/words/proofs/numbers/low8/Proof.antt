@@ -4,11 +4,8 @@ use borrow.Author.Needs.{needs}
 use Rattle.words.proofs.numbers.low8.Statement.{statement}
 use Rattle.words.proofs.numbers.low8.Tie as tie
 
-cast-result : tie.Need-cast-result
-cast-result c = search needs
-
 returns : tie.Need-returns
 returns c = refl
 
 pub low8-spec : {M : Type 1} → statement M
-low8-spec = tie.close (tie.spec cast-result returns)
+low8-spec = tie.close (tie.spec (λ c. search needs) returns)

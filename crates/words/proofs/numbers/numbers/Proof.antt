@@ -24,9 +24,6 @@ loop-holds c = rest-all _
 returns : tie.Need-returns Inv-loop μ-loop
 returns c = rest-full _ _ _ _ (c .if1 .taken) (c .before .before .loop .inv)
 
-part-end-requires : tie.Need-part-end-requires Inv-loop μ-loop
-part-end-requires c κs = search needs
-
 sub-read : tie.Need-sub-read Inv-loop μ-loop
 sub-read c = omega (arith, end-in _ _ _ (c .part-end .ensures) (le-of-lt (c .before .before .loop-test .taken)) .0)
 
@@ -35,24 +32,6 @@ part-read-start c = omega (arith, end-in _ _ _ (c .part-end .ensures) (le-of-lt 
 
 part-read-end : tie.Need-part-read-end Inv-loop μ-loop
 part-read-end c = omega (arith, end-in _ _ _ (c .part-end .ensures) (le-of-lt (c .before .before .loop-test .taken)) .0, end-in _ _ _ (c .part-end .ensures) (le-of-lt (c .before .before .loop-test .taken)) .1)
-
-read-requires : tie.Need-read-requires Inv-loop μ-loop
-read-requires c κs = search needs
-
-enum-known-v : tie.Need-enum-known-v Inv-loop μ-loop
-enum-known-v c = search needs
-
-mul-r : tie.Need-mul-r Inv-loop μ-loop
-mul-r c = search needs
-
-array-write-r : tie.Need-array-write-r Inv-loop μ-loop
-array-write-r c = search needs
-
-add-k : tie.Need-add-k Inv-loop μ-loop
-add-k c = search needs
-
-enum-told : tie.Need-enum-told Inv-loop μ-loop
-enum-told c = search needs
 
 add-at : tie.Need-add-at Inv-loop μ-loop
 add-at c = let p = c .before .before .before in omega (arith, end-in _ _ _ (p .part-end .ensures) (le-of-lt (p .before .before .loop-test .taken)) .1)
@@ -81,16 +60,16 @@ numbers-spec =
     μ-loop
     loop-holds
     returns
-    part-end-requires
+    (λ c κs. search needs)
     sub-read
     part-read-start
     part-read-end
-    read-requires
-    enum-known-v
-    mul-r
-    array-write-r
-    add-k
-    enum-told
+    (λ c κs. search needs)
+    (λ c. search needs)
+    (λ c. search needs)
+    (λ c. search needs)
+    (λ c. search needs)
+    (λ c. search needs)
     add-at
     loop-less
     loop-again

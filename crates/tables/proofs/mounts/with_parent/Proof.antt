@@ -4,8 +4,8 @@ use Rattle.tables.specs.Answer.{rowIn, mountIn}
 use Rattle.tables.proofs.Places.{row-below}
 use Rattle.tables.proofs.ByPlace.{row-root, row-else, mount-root, mount-found, mount-missing, parent-root, parent-found, parent-missing}
 use borrow.Author.Needs.{needs}
-use Rattle.tables.proofs.mounts.under_parent.Statement.{statement}
-use Rattle.tables.proofs.mounts.under_parent.Tie as tie
+use Rattle.tables.proofs.mounts.with_parent.Statement.{statement}
+use Rattle.tables.proofs.mounts.with_parent.Tie as tie
 
 returns : tie.Need-returns
 unfolding rowIn
@@ -35,8 +35,8 @@ returns-3 c =
     let n = c .before .before .before .if1 .left in
     record { mount = sym (mount-missing _ _ n p); parent = sym (parent-missing _ _ n p); row = sym (row-else _ _ n ∙ p) }
 
-pub under-parent-spec : {M : Type 1} → statement M
-under-parent-spec =
+pub with-parent-spec : {M : Type 1} → statement M
+with-parent-spec =
     tie.close
     (tie.spec
     (λ c κs. search needs)

@@ -1,9 +1,9 @@
--- `decimal::inner::put_u8` meets its contract: no number of one byte has over three digits.
+-- `decimal::inner::put_decimal_u8` meets its contract: no number of one byte has over three digits.
 use borrow.Author.Needs.{needs}
 use native.Mathlib.Omega.{arith}
 use Rattle.decimal.proofs.Texts.{length-byte}
-use Rattle.decimal.proofs.inner.put_u8.Statement.{statement}
-use Rattle.decimal.proofs.inner.put_u8.Tie as tie
+use Rattle.decimal.proofs.inner.put_decimal_u8.Statement.{statement}
+use Rattle.decimal.proofs.inner.put_decimal_u8.Tie as tie
 
 digits-requires : tie.Need-digits-requires
 digits-requires c κs = omega (arith, length-byte (c .before .before .args .n) (omega arith))
@@ -15,5 +15,5 @@ returns c = record {
   bytes = c .before .before .digits .ensures .1;
 }
 
-pub put-u8-spec : {M : Type 1} → statement M
-put-u8-spec = tie.close (tie.spec digits-requires (λ c. search needs) returns)
+pub put-decimal-u8-spec : {M : Type 1} → statement M
+put-decimal-u8-spec = tie.close (tie.spec digits-requires (λ c. search needs) returns)

@@ -1,9 +1,9 @@
--- `decimal::inner::put` meets its contract: no number of 64 bits has over 20 digits.
+-- `decimal::inner::put_decimal` meets its contract: no number of 64 bits has over 20 digits.
 use borrow.Author.Needs.{needs}
 use native.Mathlib.Omega.{arith}
 use Rattle.decimal.proofs.Texts.{length-decimal}
-use Rattle.decimal.proofs.inner.put.Statement.{statement}
-use Rattle.decimal.proofs.inner.put.Tie as tie
+use Rattle.decimal.proofs.inner.put_decimal.Statement.{statement}
+use Rattle.decimal.proofs.inner.put_decimal.Tie as tie
 
 digits-requires : tie.Need-digits-requires
 digits-requires c κs = omega (arith, length-decimal (c .before .before .args .n))
@@ -15,5 +15,5 @@ returns c = record {
   bytes = c .before .before .digits .ensures .1;
 }
 
-pub put-spec : {M : Type 1} → statement M
-put-spec = tie.close (tie.spec digits-requires (λ c. search needs) returns)
+pub put-decimal-spec : {M : Type 1} → statement M
+put-decimal-spec = tie.close (tie.spec digits-requires (λ c. search needs) returns)
