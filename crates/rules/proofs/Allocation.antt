@@ -11,7 +11,7 @@ use borrow.Author.Tests.{eq-eqb, ne-eqb, eqb-false, not-true}
 use Rattle.rules.specs.Round.{untilTwice, freeOf, allocate}
 use Rattle.rules.specs.Allocation.{FirstFree, EveryAllocation}
 use Rattle.rules.proofs.Tests.{known, le-or-lt, and-both}
-use Rattle.rules.proofs.Round.{meets, finds-none, spent, At, found-at, at-found}
+use Rattle.rules.proofs.Round.{meets, finds-none, found-free, spent, At, found-at, at-found}
 
 module _ (held : ℕ → Bool) where
   -- a free index is not 0 and not held
@@ -34,6 +34,11 @@ module _ (held : ℕ → Bool) where
   zero-held : (k : ℕ) → (k ≡ 0) ⊎ (held k ≡ true) → freeOf held k ≡ false
   zero-held k (inl z) = rw (eq-eqb k 0 z)
   zero-held k (inr t) = ⊎-elim (λ (z : k ≡ 0). rw (eq-eqb k 0 z)) (λ (p : 0 < k). rw (t, ne-eqb k 0 (λ z. omega arith))) (eq-zero-or-pos k)
+
+-- what is handed out was not held, from whatever counter
+pub not-held : (held : ℕ → Bool) (c k : ℕ) → allocate held c .found ≡ some k → held k ≡ false
+unfolding allocate
+not-held held c k e = free-is held k (found-free (freeOf held) (untilTwice c) k e) .1
 
 module _ (held : ℕ → Bool) (c : ℕ) (h : c < 256) where
   handed-out : (k : ℕ) → allocate held c .found ≡ some k → (d : ℕ) × FirstFree held c k d

@@ -1,28 +1,27 @@
 -- A kept number leads into its own mount or nowhere until its index is handed out again. Assumes nothing.
 use mathlib.Core.Path.{_≡_, refl, sym, ap, _∙_, subst}
-use mathlib.Core.Bool.{false}
+use mathlib.Core.Bool.{Bool, true, false, cond}
 use mathlib.Core.Logic.{_⊎_, inl, inr, ⊎-elim}
 use mathlib.Core.List.{List, [], _∷_}
 use mathlib.Core.Option.{Option, none, some, Option·none-ne-some}
 use Prim.Native.Nat.{ℕ, _≤_, _<_}
 use native.Mathlib.Omega.{arith}
-use lib.Dec.{eqb}
 use borrow.Author.Tests.{ne-eqb}
 use Rattle.rules.specs.Numbers.{indexOf, numberOf, NOENT}
 use Rattle.rules.specs.Round.{allocate}
-use Rattle.rules.specs.Instance.{Instance, counterOf, emptySlot, slotOf, tagInSlot, tagOf, heldIn}
+use Rattle.rules.specs.Instance.{Slot, Instance, counterOf, emptySlot, slotOf, tagInSlot, tagOf, heldIn}
 use Rattle.rules.specs.Outcome.{refused, says, toBackend}
 use Rattle.rules.specs.Mount.{Request, allocation}
 use Rattle.rules.specs.Lookup.{routeTag, routeRule}
 use Rattle.rules.specs.Calls.{Call, mount, route, rule}
 use Rattle.rules.specs.Laps.{Step, Going, total, lastFound, Has}
 use Rattle.rules.specs.Trace.{Unrestored, afterAll, stepOf, stepsOf}
-use Rattle.rules.specs.Kept.{named, before, namedIn, handedOut, Ungiven, LeadsTo, MountedAt, EveryOwn, EveryKept, EveryJudged}
+use Rattle.rules.specs.Kept.{named, before, namedIn, handedOut, Ungiven, LeadsTo, MountedAt, EveryNew, EveryStanding, EveryOwn, EveryKept, EveryJudged}
 use Rattle.rules.proofs.Allocation.{exact}
 use Rattle.rules.proofs.Laps.{every-allocator, last-append}
 use Rattle.rules.proofs.Turn.{mounts-allocate}
 use Rattle.rules.proofs.Trace.{searches, steps-going}
-use Rattle.rules.proofs.Given.{not-given, ungiven-slot}
+use Rattle.rules.proofs.Given.{not-given, ungiven-slot, standing-slot}
 
 -- ---- lists of indexes
 
@@ -51,17 +50,21 @@ ungiven (c ∷ cs) i k h n = (
 
 -- ---- where a number leads
 
-routed : (i : Instance) (k n t : ℕ) (y : Option ℕ) → (y ≡ some t) ⊎ (y ≡ none) → (routeTag i k n y ≡ refused NOENT i) ⊎ (routeTag i k n y ≡ says (toBackend t k n) i)
-unfolding routeTag
-routed i k n t y (inl e) = rw e (inr refl)
-routed i k n t y (inr e) = rw e (inl refl)
-
 -- by what stands in the slot of its index
-leads : (i : Instance) (x k t : ℕ) → indexOf x ≡ k → 0 < k → (tagOf i k ≡ some t) ⊎ (tagOf i k ≡ none) → LeadsTo i x t
+by-tag : (i : Instance) (x : ℕ) → 0 < indexOf x → rule i (route x) ≡ routeTag i (indexOf x) (numberOf x) (tagOf i (indexOf x))
 unfolding rule routeRule
-leads i x k t e p w =
-    let n : eqb (indexOf x) 0 ≡ false = ne-eqb (indexOf x) 0 (λ z. omega arith) in
-    rw n (routed i (indexOf x) (numberOf x) t (tagOf i (indexOf x)) (rw e w))
+by-tag i x p = rw (ne-eqb (indexOf x) 0 (λ z. omega arith))
+
+leads-on : (i : Instance) (x t : ℕ) → 0 < indexOf x → tagOf i (indexOf x) ≡ some t → rule i (route x) ≡ says (toBackend t (indexOf x) (numberOf x)) i
+unfolding routeTag
+leads-on i x t p e = by-tag i x p ∙ ap (routeTag i (indexOf x) (numberOf x)) e
+
+leads-off : (i : Instance) (x : ℕ) → 0 < indexOf x → tagOf i (indexOf x) ≡ none → rule i (route x) ≡ refused NOENT i
+unfolding routeTag
+leads-off i x p e = by-tag i x p ∙ ap (routeTag i (indexOf x) (numberOf x)) e
+
+leads : (i : Instance) (x t : ℕ) → 0 < indexOf x → (tagOf i (indexOf x) ≡ some t) ⊎ (tagOf i (indexOf x) ≡ none) → LeadsTo i x t
+leads i x t p = ⊎-elim (λ a. inr (leads-on i x t p a)) (λ a. inl (leads-off i x p a))
 
 -- the index that a done mount handed out, and the tag in its slot
 mounted-tag : (i : Instance) (r : Request) (k : ℕ) → MountedAt i r k → (0 < k) × (tagOf (rule i (mount r) .after) k ≡ some (r .tag))
@@ -73,17 +76,27 @@ mounted-tag i r k m =
     let same : a .0 ≡ k = let e = sym (a .1 .found) ∙ m .found in cc in
     (first .1 .least, subst (λ (j : ℕ). tagOf (rule i (mount r) .after) j ≡ some (r .tag)) same (a .1 .holds (omega (arith, m .slots, first .1 .most))))
 
+pub least-index : (i : Instance) (r : Request) (k : ℕ) → MountedAt i r k → 0 < k
+least-index i r k m = mounted-tag i r k m .0
+
 -- the tag in the slot of an index that no call gave away
 tag-since : (cs : List Call) (i : Instance) (k t : ℕ) → Ungiven k i cs → tagOf i k ≡ some t → (tagOf (afterAll i cs) k ≡ some t) ⊎ (tagOf (afterAll i cs) k ≡ none)
 tag-since cs i k t u e =
     ⊎-elim (λ (s : slotOf (afterAll i cs) k ≡ slotOf i k). inl (ap tagInSlot s ∙ e)) (λ (s : slotOf (afterAll i cs) k ≡ emptySlot). inr (ap tagInSlot s)) (ungiven-slot cs i k u)
+
+-- the theorem: at once
+pub every-new : EveryNew
+every-new i r k m x e =
+    let t = mounted-tag i r k m in
+    let a = rule i (mount r) .after in
+    leads-on a x (r .tag) (omega (arith, t .0)) (ap (tagOf a) e ∙ t .1)
 
 -- the theorem: until its index is given away
 pub every-own : EveryOwn
 every-own i r k m cs u x e =
     let a = rule i (mount r) .after in
     let t = mounted-tag i r k m in
-    leads (afterAll a cs) x k (r .tag) e (t .0) (tag-since cs a k (r .tag) u (t .1))
+    leads (afterAll a cs) x (r .tag) (omega (arith, t .0)) (subst (λ (j : ℕ). (tagOf (afterAll a cs) j ≡ some (r .tag)) ⊎ (tagOf (afterAll a cs) j ≡ none)) (sym e) (tag-since cs a k (r .tag) u (t .1)))
 
 -- the tag that a route tells is in the slot
 told-tag : (i : Instance) (k n t : ℕ) (y : Option ℕ) → routeTag i k n y .answer ≡ toBackend t k n → y ≡ some t
@@ -91,15 +104,29 @@ unfolding routeTag
 told-tag i k n t none e = let z : _≡_ {A = ℕ} 0 1 = cc in absurd (omega arith)
 told-tag i k n t (some u) e = let s : u ≡ t = cc in ap {B = Option ℕ} some s
 
+led-tag : (i : Instance) (x t : ℕ) → 0 < indexOf x → rule i (route x) .answer ≡ toBackend t (indexOf x) (numberOf x) → tagOf i (indexOf x) ≡ some t
+led-tag i x t p led = told-tag i (indexOf x) (numberOf x) t (tagOf i (indexOf x)) (sym (λ j. by-tag i x p j .answer) ∙ led)
+
+-- a slot with a tag is held
+tag-held : (s : Slot) (t : ℕ) → tagInSlot s ≡ some t → s .held ≡ true
+tag-held s t e = go (s .held) e
+  where
+    go : (b : Bool) → cond b (some (s .tag)) none ≡ some t → b ≡ true
+    go true q = refl
+    go false q = absurd (Option·none-ne-some t q)
+
+-- the theorem: as long as its mount stands
+pub every-standing : EveryStanding
+every-standing i x t p led cs s =
+    let tag = led-tag i x t p led in
+    leads-on (afterAll i cs) x t p (ap tagInSlot (standing-slot cs i (indexOf x) s (tag-held (slotOf i (indexOf x)) t tag)) ∙ tag)
+
 -- the theorem: a number that led somewhere, until its index is given away
 pub judged : EveryJudged
-unfolding rule routeRule
 judged i x t p led cs u done =
     let k = indexOf x in
-    let z : eqb k 0 ≡ false = ne-eqb k 0 (λ e. omega arith) in
-    let tag : tagOf i k ≡ some t = told-tag i k (numberOf x) t (tagOf i k) (rw z at led) in
     ⊎-elim (λ (e : rule (afterAll i cs) (route x) ≡ refused NOENT (afterAll i cs)). absurd (let w : NOENT ≡ 0 = sym (λ j. e j .code) ∙ done in omega arith))
-    (λ (e : rule (afterAll i cs) (route x) ≡ says (toBackend t k (numberOf x)) (afterAll i cs)). (λ j. e j .answer)) (leads (afterAll i cs) x k t refl p (tag-since cs i k t u tag))
+    (λ (e : rule (afterAll i cs) (route x) ≡ says (toBackend t k (numberOf x)) (afterAll i cs)). (λ j. e j .answer)) (leads (afterAll i cs) x t p (tag-since cs i k t u (led-tag i x t p led)))
 
 -- ---- not before a lap is over
 

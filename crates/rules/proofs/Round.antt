@@ -1,8 +1,8 @@
 -- Laws of the search over the indexes met from a counter on. Assumes nothing.
 use mathlib.Core.Path.{_≡_, refl, sym, ap, _∙_}
-use mathlib.Core.Bool.{Bool, true, false}
+use mathlib.Core.Bool.{Bool, true, false, cond}
 use mathlib.Core.Logic.{_⊎_, inl, inr, ⊎-elim}
-use mathlib.Core.List.{List, _∷_, _++_}
+use mathlib.Core.List.{List, [], _∷_, _++_}
 use mathlib.Core.Option.{none, some, Option·none-ne-some}
 use Prim.Native.Nat.{ℕ, zero, suc, _+_, _%_, _<_}
 use native.Mathlib.Omega.{arith}
@@ -61,6 +61,16 @@ module _ (free : ℕ → Bool) where
   finds-none (suc n) c h all = rw (all c h) (finds-none n (after c) (omega arith) all)
 
   -- none is found: all are visited
+  -- what is found is free, of whatever indexes are met
+  pub found-free : (is : List ℕ) (k : ℕ) → firstFree free is ≡ some k → free k ≡ true
+  unfolding firstFree
+  found-free [] k e = absurd (Option·none-ne-some k e)
+  found-free (i ∷ is) k e = go (free i) refl (found-free is k) e
+    where
+      go : (b : Bool) → free i ≡ b → (firstFree free is ≡ some k → free k ≡ true) → cond b (some i) (firstFree free is) ≡ some k → free k ≡ true
+      go true f later q = let s : i ≡ k = cc in ap free (sym s) ∙ f
+      go false f later q = later q
+
   pub spent : (n c : ℕ) → firstFree free (goingRound n c) ≡ none → length (visited free (goingRound n c)) ≡ n
   unfolding goingRound firstFree visited
   spent zero c e = refl

@@ -11,11 +11,11 @@ use Rattle.rules.specs.Tree.{Mount}
 use Rattle.rules.specs.Instance.{Slot, Instance, emptySlot, heldBy, slotOf, mountOf}
 use Rattle.rules.specs.Outcome.{nothing, says}
 use Rattle.rules.specs.Mount.{Request, freedSlots, placed, allocation, walkedTo, stepped, ended, mountAs, restoreAs}
-use Rattle.rules.specs.Unmount.{unmounts}
+use Rattle.rules.specs.Unmount.{reached, mountUnder, unmounts}
 use Rattle.rules.specs.Saved.{stateOf}
 use Rattle.rules.specs.Restore.{restoredTo}
-use Rattle.rules.specs.Calls.{Call, mount, restore-mount, umount, restore}
-use Rattle.rules.specs.Kept.{SlotAfter, stays, emptied, handed-out, put-back, EverySlot}
+use Rattle.rules.specs.Calls.{mount, restore-mount, umount, restore}
+use Rattle.rules.specs.Kept.{indexIn, SlotAfter, stays, emptied, handed-out, put-back, EverySlot}
 use Rattle.rules.proofs.Tests.{le-or-lt}
 use Rattle.rules.proofs.Rows.{each-of}
 use Rattle.rules.proofs.Ways.{every-call}
@@ -28,25 +28,28 @@ emptied-slot slots k =
     ⊎-elim (λ (l : length slots ≤ k). ap (λ (x : List Slot). getD x k emptySlot) (set-out slots k emptySlot l) ∙ List·getD-eq-default slots emptySlot l)
     (λ (l : k < length slots). getD-set-same slots k emptySlot emptySlot l) (le-or-lt (length slots) k)
 
--- where one slot was emptied each is as it was, or empty
-cleared : (slots : List Slot) (k j : ℕ) → (getD (set slots k emptySlot) j emptySlot ≡ getD slots j emptySlot) ⊎ (getD (set slots k emptySlot) j emptySlot ≡ emptySlot)
+-- where slot k was emptied each is as it was, or is slot k
+cleared : (slots : List Slot) (k j : ℕ) → (getD (set slots k emptySlot) j emptySlot ≡ getD slots j emptySlot) ⊎ ((k ≡ j) × (getD (set slots k emptySlot) j emptySlot ≡ emptySlot))
 cleared slots k j =
-    elim (ℕ-discrete j k) [ yes e ↦ inr (ap (λ (x : ℕ). getD (set slots k emptySlot) x emptySlot) e ∙ emptied-slot slots k) | no e ↦ inl (getD-set-other slots k j emptySlot emptySlot e) ]
+    elim (ℕ-discrete j k) [
+      | yes e ↦ inr (sym e, ap (λ (x : ℕ). getD (set slots k emptySlot) x emptySlot) e ∙ emptied-slot slots k)
+      | no e ↦ inl (getD-set-other slots k j emptySlot emptySlot e)
+    ]
 
-freed : (m : Option Mount) (slots : List Slot) (j : ℕ) → (getD (freedSlots m slots) j emptySlot ≡ getD slots j emptySlot) ⊎ (getD (freedSlots m slots) j emptySlot ≡ emptySlot)
+freed : (m : Option Mount) (slots : List Slot) (j : ℕ) → (getD (freedSlots m slots) j emptySlot ≡ getD slots j emptySlot) ⊎ ((indexIn m ≡ some j) × (getD (freedSlots m slots) j emptySlot ≡ emptySlot))
 unfolding freedSlots
 freed none slots j = inl refl
-freed (some m) slots j = cleared slots (m .index) j
+freed (some m) slots j = ⊎-elim inl (λ a. inr (ap {B = Option ℕ} some (a .0), a .1)) (cleared slots (m .index) j)
 
 -- ---- calls
 
 -- another slot than the one that a mount was placed in
-other-slot : (k : ℕ) (r : Request) (x : ℕ) (i : Instance) (j : ℕ) → (j ≡ k → ⊥) → (slotOf (placed k r x i) j ≡ slotOf i j) ⊎ (slotOf (placed k r x i) j ≡ emptySlot)
+other-slot : (k : ℕ) (r : Request) (x : ℕ) (i : Instance) (j : ℕ) → (j ≡ k → ⊥) → (slotOf (placed k r x i) j ≡ slotOf i j) ⊎ ((indexIn (mountOf (i .tree) x) ≡ some j) × (slotOf (placed k r x i) j ≡ emptySlot))
 unfolding placed
 other-slot k r x i j n =
     let slots = freedSlots (mountOf (i .tree) x) (i .indexes .slots) in
     let e = getD-set-other slots k j (heldBy (r .tag)) emptySlot n in
-    ⊎-elim (λ a. inl (e ∙ a)) (λ a. inr (e ∙ a)) (freed (mountOf (i .tree) x) (i .indexes .slots) j)
+    ⊎-elim (λ a. inl (e ∙ a)) (λ a. inr (a .0, e ∙ a .1)) (freed (mountOf (i .tree) x) (i .indexes .slots) j)
 
 mount-as : (i : Instance) (r : Request) (k : Option ℕ) → allocation i .found ≡ k → (j : ℕ) → SlotAfter i (mount r) (mountAs i r k) j
 unfolding mountAs
@@ -58,7 +61,7 @@ mount-as i r (some k) e j =
         stays refl,
         elim (ℕ-discrete j k) [
           | yes s ↦ handed-out refl (e ∙ ap {B = Option ℕ} some (sym s))
-          | no n ↦ ⊎-elim stays emptied (other-slot k r (ended i (r .path)) (walkedTo (r .path) (stepped i)) j n)
+          | no n ↦ ⊎-elim stays (λ a. emptied refl (a .0) (a .1)) (other-slot k r (ended i (r .path)) (walkedTo (r .path) (stepped i)) j n)
         ],
       ),
     )
@@ -72,14 +75,16 @@ restored-as i k r j =
         stays refl,
         elim (ℕ-discrete j k) [
           | yes s ↦ put-back refl (ap {B = Option ℕ} some (sym s))
-          | no n ↦ ⊎-elim stays emptied (other-slot k r (ended i (r .path)) (walkedTo (r .path) i) j n)
+          | no n ↦ ⊎-elim stays (λ a. emptied refl (a .0) (a .1)) (other-slot k r (ended i (r .path)) (walkedTo (r .path) i) j n)
         ],
       ),
     )
 
-unmounted : (i : Instance) (c : Call) (x : ℕ) (m : Mount) (j : ℕ) → SlotAfter i c (unmounts i x m) j
+unmounted : (i : Instance) (path : List ℕ) (x : ℕ) (m : Mount) → reached i path ≡ some x → mountOf (i .tree) x ≡ some m → (j : ℕ) → SlotAfter i (umount path) (unmounts i x m) j
 unfolding unmounts
-unmounted i c x m j = ⊎-elim stays emptied (cleared (i .indexes .slots) (m .index) j)
+unmounted i path x m q e j =
+    let old : indexIn (mountUnder i (reached i path)) ≡ some (m .index) = ap (λ (y : Option ℕ). indexIn (mountUnder i y)) q ∙ ap indexIn e in
+    ⊎-elim stays (λ a. emptied refl (old ∙ ap {B = Option ℕ} some (a .0)) (a .1)) (cleared (i .indexes .slots) (m .index) j)
 
 restored : (i : Instance) (b : List ℕ) (j : ℕ) → SlotAfter i (restore b) (says nothing (restoredTo (stateOf b) i)) j
 unfolding restoredTo
@@ -92,7 +97,7 @@ every-slot = every-call (λ i c o. (j : ℕ) → SlotAfter i c o j) (record {
   early = λ i c code e j. stays refl;
   mounts = λ i r p j. mount-as i r (allocation i .found) refl j;
   restores-mount = λ i k r p j. restored-as i k r j;
-  unmounted = λ i path x m q e j. unmounted i (umount path) x m j;
+  unmounted = unmounted;
   sets-removal = λ i j. stays refl;
   restored = λ i b ok j. restored i b j;
 })

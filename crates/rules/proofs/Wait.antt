@@ -91,7 +91,7 @@ accounted (c ∷ cs) i j (inr m) = ⊎-elim held (λ w. inr (⊎-elim (λ a. inl
     held h =
         elim (every-slot i c j) [
           | stays e ↦ inl (sym (ap (λ (s : Slot). s .held) e) ∙ h)
-          | emptied e ↦ absurd (false≢true (sym (ap (λ (s : Slot). s .held) e) ∙ h))
+          | emptied z o e ↦ absurd (false≢true (sym (ap (λ (s : Slot). s .held) e) ∙ h))
           | handed-out z e ↦ inr (inl (has-first (rule i c .found) j _ e))
           | put-back z e ↦ inr (inr (has-first (named c) j _ e))
         ]

@@ -10,7 +10,9 @@ use lib.Dec.{eqb}
 use Rattle.rules.specs.Numbers.{indexOf, numberOf, NOENT}
 use Rattle.rules.specs.Instance.{Instance, counterOf, emptySlot, slotOf}
 use Rattle.rules.specs.Outcome.{toBackend, Outcome, refused, says}
-use Rattle.rules.specs.Mount.{Request}
+use Rattle.rules.specs.Tree.{Mount}
+use Rattle.rules.specs.Mount.{Request, mountThere}
+use Rattle.rules.specs.Unmount.{reached, mountUnder}
 use Rattle.rules.specs.Calls.{Call, mount, restore-mount, umount, set-remove-pseudo-root, path-walk, get-rootfs, route, lookup, readdir, remap-attr-id, options, initialized, save, restore, rule}
 use Rattle.rules.specs.Laps.{Step, total, Has}
 use Rattle.rules.specs.Trace.{Unrestored, afterAll, stepsOf}
@@ -63,12 +65,46 @@ unfoldable pub Ungiven : ℕ → Instance → List Call → Type 0
 Ungiven k i [] = Unit {0}
 Ungiven k i (c ∷ cs) = (gives k c (rule i c) ≡ false) × Ungiven k (rule i c .after) cs
 
+-- ---- mounts that calls take off
+
+-- the mount that stands where a mount, a restored mount or an unmount leads to; a done one takes it off (R76, R93, R98)
+abbrev pub oldMount : Instance → Call → Option Mount
+oldMount i (mount r) = mountThere i (r .path)
+oldMount i (restore-mount k r) = mountThere i (r .path)
+oldMount i (umount path) = mountUnder i (reached i path)
+oldMount i set-remove-pseudo-root = none
+oldMount i (path-walk path) = none
+oldMount i (get-rootfs path) = none
+oldMount i (route x) = none
+oldMount i (lookup x p) = none
+oldMount i (readdir q) = none
+oldMount i (remap-attr-id out uid gid) = none
+oldMount i options = none
+oldMount i initialized = none
+oldMount i (save buffer) = none
+oldMount i (restore b) = none
+
+-- the index of a mount, if there is one
+abbrev pub indexIn : Option Mount → Option ℕ
+indexIn none = none
+indexIn (some m) = some (m .index)
+
+-- the call is done and ends the mount of k: it takes a mount of that index off, or is a restored mount that names it
+abbrev pub ends : ℕ → Instance → Call → Outcome → Bool
+ends k i c o = eqb (o .code) 0 && (isIt k (indexIn (oldMount i c)) || isIt k (named c))
+
+-- no call ends the mount of k, each on what the one before left
+unfoldable pub Standing : ℕ → Instance → List Call → Type 0
+Standing k i [] = Unit {0}
+Standing k i (c ∷ cs) = (ends k i c (rule i c) ≡ false) × Standing k (rule i c .after) cs
+
 -- ---- what changes a slot
 
--- the slot of j after a call: as it was, or emptied; or the call is done, and hands j out or names it in a restored mount (R56, R76, R85, R93, R98)
+-- the slot of j after a call: as it was; or the call is done, and empties it by taking a mount of that index off, or hands j out, or names it in a restored mount
+-- (R56, R76, R85, R93, R98)
 pub data SlotAfter (i : Instance) (c : Call) (o : Outcome) (j : ℕ) : Type 0 where
   stays : slotOf (o .after) j ≡ slotOf i j → SlotAfter i c o j
-  emptied : slotOf (o .after) j ≡ emptySlot → SlotAfter i c o j
+  emptied : o .code ≡ 0 → indexIn (oldMount i c) ≡ some j → slotOf (o .after) j ≡ emptySlot → SlotAfter i c o j
   handed-out : o .code ≡ 0 → o .found ≡ some j → SlotAfter i c o j
   put-back : o .code ≡ 0 → named c ≡ some j → SlotAfter i c o j
 
@@ -88,6 +124,16 @@ pub record MountedAt (i : Instance) (r : Request) (k : ℕ) : Type 0 where
   pub slots : length (i .indexes .slots) ≡ 256
   pub done : rule i (mount r) .code ≡ 0
   pub found : rule i (mount r) .found ≡ some k
+
+-- a number of its index leads into that mount's backend at once (R76, R106)
+abbrev pub EveryNew : Type 0
+EveryNew = (i : Instance) (r : Request) (k : ℕ) → MountedAt i r k → (x : ℕ) → indexOf x ≡ k
+    → rule (rule i (mount r) .after) (route x) ≡ says (toBackend (r .tag) (indexOf x) (numberOf x)) (rule i (mount r) .after)
+
+-- a number that leads into the backend of the tag t does so as long as its mount stands: on any tables, over any calls, however many (R76, R93, R98, R106)
+abbrev pub EveryStanding : Type 0
+EveryStanding = (i : Instance) (x t : ℕ) → 0 < indexOf x → rule i (route x) .answer ≡ toBackend t (indexOf x) (numberOf x)
+    → (cs : List Call) → Standing (indexOf x) i cs → rule (afterAll i cs) (route x) ≡ says (toBackend t (indexOf x) (numberOf x)) (afterAll i cs)
 
 -- a number of its index leads into that mount's backend or nowhere, as long as no call gives the index away (R85, R105, R106)
 abbrev pub EveryOwn : Type 0

@@ -17,16 +17,16 @@ use Rattle.rules.specs.Calls.{Call, mount, restore-mount, umount, route, restor
 use Rattle.rules.specs.Driven.{call as by-call}
 use Rattle.rules.specs.Laps.{total, lastFound, LapsBy, Laps}
 use Rattle.rules.specs.Trace.{Unrestored, afterAll, stepsOf}
-use Rattle.rules.specs.Kept.{LeadsTo, MountedAt}
+use Rattle.rules.specs.Kept.{Standing, LeadsTo, MountedAt}
 use Rattle.rules.proofs.Turn.{mounts-allocate}
 use Rattle.rules.proofs.Trace.{laps}
-use Rattle.rules.proofs.Kept.{every-kept}
+use Rattle.rules.proofs.Kept.{least-index, every-new, every-standing, every-kept}
 use Rattle.tables.specs.View.{view, slotsOf}
 use Rattle.tables.specs.Rule.{laid}
 use Rattle.tables.specs.Call.{Told, toldBy, tells, answeredBy, Does}
 use Rattle.tables.proofs.Tab.{length-tab}
 use Rattle.storage.proofs.Laid.{told-by}
-use Rattle.vfs.specs.Runs.{Step, Allowed, Run, callsOf, counts, EveryLapOfBytes, EveryMountOfBytes, lastOf, EveryKeptOfBytes, StaysDriven}
+use Rattle.vfs.specs.Runs.{Step, Allowed, Run, callsOf, counts, EveryLapOfBytes, EveryMountOfBytes, lastOf, EveryKeptOfBytes, EveryStandingOfBytes, StaysDriven}
 use Rattle.vfs.proofs.MountWays.{counter-in}
 
 -- the counts that are told are those of the rules
@@ -93,21 +93,55 @@ mounted-at s a l bytes r e z k t m =
       found = sym (λ j. by j .found) ∙ (w .3 ∙ ap {B = Option ℕ} some same);
     }
 
--- the theorem
+-- a mount of the call r, steps behind it, and a route of x then
+module _ (s : Step) (a : Allowed s) (l : laid (s .before) ≡ true) (r : Request) (e : s .call ≡ mount r) (ss : List Step) (run : Run (s .after) ss) where
+  abbrev before : Instance
+  before = view (s .before)
+
+  abbrev first : Instance
+  first = rule before (mount r) .after
+
+  abbrev last : Instance
+  last = afterAll first (callsOf ss)
+
+  stands-first : view (s .after) ≡ first
+  stands-first = a .stands l ∙ ap (λ (y : Call). rule before y .after) e
+
+  same-counts : counts ss ≡ total (stepsOf first (callsOf ss))
+  same-counts = same-total ss (s .after) (a .keeps l) run ∙ ap (λ (j : Instance). total (stepsOf j (callsOf ss))) stands-first
+
+  told-last : (q : Step) → Allowed q → q .before ≡ lastOf (s .after) ss → (x : ℕ) → q .call ≡ route x → q .told ≡ toldBy (rule last (route x))
+  told-last q b at x c =
+      let w = run-leaves ss (s .after) (a .keeps l) run in
+      let end : view (q .before) ≡ last = ap view at ∙ (w .1 ∙ ap (λ (j : Instance). afterAll j (callsOf ss)) stands-first) in
+      b .answer ∙ (told-by (q .before) (λ (j : Instance). rule j (q .call)) (ap laid at ∙ w .0) ∙ (λ j. toldBy (rule (end j) (c j))))
+
+-- the tells of a number of index k
+at-index : (t k x : ℕ) → indexOf x ≡ k → tells (toBackend t (indexOf x) (numberOf x)) ≡ tells (toBackend t k (numberOf x))
+at-index t k x e = ap (λ (j : ℕ). tells (toBackend t j (numberOf x))) e
+
+-- the theorem: within a lap
 pub kept-of-bytes : EveryKeptOfBytes
 kept-of-bytes s a l bytes r e z k t m ss run u n few q b at x c ix =
-    let i = view (s .before) in
-    let stands : view (s .after) ≡ rule i (mount r) .after = a .stands l ∙ ap (λ (y : Call). rule i y .after) e in
-    let w = run-leaves ss (s .after) (a .keeps l) run in
-    let on : laid (q .before) ≡ true = ap laid at ∙ w .0 in
-    let end : view (q .before) ≡ afterAll (rule i (mount r) .after) (callsOf ss) = ap view at ∙ (w .1 ∙ ap (λ (j : Instance). afterAll j (callsOf ss)) stands) in
-    let sum : counts ss ≡ total (stepsOf (rule i (mount r) .after) (callsOf ss)) = same-total ss (s .after) (a .keeps l) run ∙ ap (λ (j : Instance). total (stepsOf j (callsOf ss))) stands in
-    let told : q .told ≡ toldBy (rule (view (q .before)) (route x)) = b .answer ∙ (told-by (q .before) (λ (j : Instance). rule j (q .call)) on ∙ ap (λ (y : Call). toldBy (rule (view (q .before)) y)) c) in
-    let leads : LeadsTo (view (q .before)) x (r .tag) = subst (λ (j : Instance). LeadsTo j x (r .tag)) (sym end)
-    (every-kept i r k (mounted-at s a l bytes r e z k t m) (callsOf ss) (subst (λ (j : Instance). Unrestored j (callsOf ss)) stands u) n (subst (λ (y : ℕ). y < 256) sum few) x ix) in
-    ⊎-elim (λ (y : rule (view (q .before)) (route x) ≡ refused NOENT (view (q .before))). inl (told ∙ ap toldBy y))
-    (λ (y : rule (view (q .before)) (route x) ≡ says (toBackend (r .tag) (indexOf x) (numberOf x)) (view (q .before))). inr (told ∙ (ap toldBy y ∙ ap (λ (j : ℕ). tells (toBackend (r .tag) j (numberOf x))) ix)))
+    let told = told-last s a l r e ss run q b at x c in
+    let j = last s a l r e ss run in
+    let leads : LeadsTo j x (r .tag) =
+    every-kept (view (s .before)) r k (mounted-at s a l bytes r e z k t m) (callsOf ss)
+    (subst (λ (y : Instance). Unrestored y (callsOf ss)) (stands-first s a l r e ss run) u) n (subst (λ (y : ℕ). y < 256) (same-counts s a l r e ss run) few) x ix in
+    ⊎-elim (λ (y : rule j (route x) ≡ refused NOENT j). inl (told ∙ ap toldBy y))
+    (λ (y : rule j (route x) ≡ says (toBackend (r .tag) (indexOf x) (numberOf x)) j). inr (told ∙ (ap toldBy y ∙ at-index (r .tag) k x ix)))
     leads
+
+-- the theorem: as long as the mount stands
+pub standing-of-bytes : EveryStandingOfBytes
+standing-of-bytes s a l bytes r e z k t m ss run stand q b at x c ix =
+    let i = view (s .before) in
+    let d = mounted-at s a l bytes r e z k t m in
+    let f = first s a l r e ss run in
+    let new : rule f (route x) ≡ says (toBackend (r .tag) (indexOf x) (numberOf x)) f = every-new i r k d x ix in
+    let on : Standing (indexOf x) f (callsOf ss) = subst (λ (j : ℕ). Standing j f (callsOf ss)) (sym ix) (subst (λ (y : Instance). Standing k y (callsOf ss)) (stands-first s a l r e ss run) stand) in
+    told-last s a l r e ss run q b at x c
+    ∙ (ap toldBy (every-standing f x (r .tag) (rw ix (least-index i r k d)) (λ j. new j .answer) (callsOf ss) on) ∙ at-index (r .tag) k x ix)
 
 -- driven bytes stay driven
 pub stays-driven : StaysDriven

@@ -13,7 +13,7 @@ use Rattle.rules.specs.Calls.{Call, mount, route, rule}
 use Rattle.rules.specs.Driven.{Typed, Driven}
 use Rattle.rules.specs.Laps.{lastFound, Has, LapsBy}
 use Rattle.rules.specs.Trace.{Unrestored, stepsOf}
-use Rattle.rules.specs.Kept.{namedIn}
+use Rattle.rules.specs.Kept.{namedIn, Standing}
 use Rattle.tables.specs.View.{view}
 use Rattle.tables.specs.Rule.{laid}
 use Rattle.tables.specs.Call.{Told, tells, refuses, answeredBy}
@@ -70,6 +70,14 @@ EveryKeptOfBytes = (s : Step) → Allowed s → laid (s .before) ≡ true → By
     → (ss : List Step) → Run (s .after) ss → Unrestored (view (s .after)) (callsOf ss) → (Has k (namedIn (callsOf ss)) → ⊥) → counts ss < 256
     → (q : Step) → Allowed q → q .before ≡ lastOf (s .after) ss → (x : ℕ) → q .call ≡ route x → indexOf x ≡ k
     → (q .told ≡ refuses NOENT) ⊎ (q .told ≡ tells (toBackend (r .tag) k (numberOf x)))
+
+-- such a mount, and steps of which none ends it, however many: a number of its index is routed to its tag (R76, R93, R98, R106)
+abbrev pub EveryStandingOfBytes : Type 0
+EveryStandingOfBytes = (s : Step) → Allowed s → laid (s .before) ≡ true → Bytes (s .before) → (r : Request) → s .call ≡ mount r → s .told .code ≡ 0
+    → (k : ℕ) (t : Option ℕ) → s .told .answer ≡ mounted k t
+    → (ss : List Step) → Run (s .after) ss → Standing k (view (s .after)) (callsOf ss)
+    → (q : Step) → Allowed q → q .before ≡ lastOf (s .after) ss → (x : ℕ) → q .call ≡ route x → indexOf x ≡ k
+    → q .told ≡ tells (toBackend (r .tag) k (numberOf x))
 
 -- a step that a contract allows, from bytes that keep the layout rule and are driven, leaves driven bytes
 abbrev pub StaysDriven : Type 0
