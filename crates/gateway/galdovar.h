@@ -67,7 +67,7 @@ typedef struct GaldovarInitializedAnswer {
     uint32_t initialized; /* 1, or 0 */
 } GaldovarInitializedAnswer;
 
-/* The options of the instance (R27, R34). */
+/* The options of the instance (R27, R33, R34). */
 typedef struct GaldovarOptionsAnswer {
     uint32_t code;
     uint32_t flags; /* bits 0 to 5: no_readdir, seal_size, no_open, no_opendir, no_writeback, killpriv_v2 (R122) */
@@ -184,7 +184,7 @@ GaldovarCodeAnswer galdovar_set_remove_pseudo_root(uint8_t *storage, size_t stor
 /* Whether the instance is initialized: not before a restore, and then if its in_opts is not 0 (R33, R134). */
 GaldovarInitializedAnswer galdovar_initialized(const uint8_t *storage, size_t storage_len);
 
-/* The options of creation, or of the last restore (R27, R34). */
+/* The options of creation, or of the last restore (R27, R33, R34). */
 GaldovarOptionsAnswer galdovar_options(const uint8_t *storage, size_t storage_len);
 
 /* uid and gid by the mapping in force: outwards where outward is not 0, back where it is 0 (R113, R114, R118). */

@@ -28,7 +28,7 @@ use Rattle.plan.proofs.Spare.{room-left}
 use Rattle.plan.proofs.Fresh.{Fresh, planned-fresh}
 use Rattle.plan.proofs.Walked.{view-walked, keeps-walked}
 use Rattle.vfs.specs.Mounting.{allocMem, endMem, walkMem, plannedMem, foundMem, rootedMem, early, mountMem}
-use Rattle.vfs.specs.Restoring.{restoredMem, stopped, restoreMem}
+use Rattle.vfs.specs.Restoring.{restoredMem, stopped, restoreMountMem}
 use Rattle.vfs.specs.Unmounting.{offMem, unmountMem}
 use Rattle.vfs.proofs.MountWays.{counter-in, alloc-view, alloc-keeps}
 use Rattle.behind.specs.Behind.{LeavesRest}
@@ -130,8 +130,8 @@ module _ (rest : List ℕ) where
         go false q true = rooted-front mem e b r (or-neither _ _ (or-neither _ _ q .0) .0)
         go false q false = alloc-front mem e
 
-    pub restore-front : (k : ℕ) (r : Request) → k < 256 → LeavesRest (restoreMem k r) mem rest
-    unfolding restoreMem stopped
+    pub restore-front : (k : ℕ) (r : Request) → k < 256 → LeavesRest (restoreMountMem k r) mem rest
+    unfolding restoreMountMem stopped
     restore-front k r h = rw (laid-front rest mem e, e) (go (stopped k r) refl)
       where
         go : (t : Bool) → stopped k r ≡ t → cond t (mem ++ rest) (restoredMem k r (mem ++ rest)) ≡ cond t mem (restoredMem k r mem) ++ rest

@@ -18,7 +18,7 @@ use Rattle.tables.specs.Table.{Col, off, row, putRow, closeUp}
 use Rattle.tables.proofs.Table.{Beneath, Fit}
 use Rattle.tables.specs.Layout.{header, slotTable, nodeTable, capacityOf, countOf, nextOf}
 use Rattle.tables.specs.View.{field, slotFrom, nodeFrom, instanceFrom, headOf, slotAt, nodeAt, slotsOf, nodesFrom, nodesOf, view}
-use Rattle.tables.specs.Rule.{laid, laidBy, Laid}
+use Rattle.tables.specs.Rule.{laid, laidBy, Bounds}
 use Rattle.tables.specs.Write.{fromPlace, putHeader, setCount, setNext, yesByte, setSlot, rowMountCells, setRowMount, nodeCells, appendNode, removeRow}
 use Rattle.tables.proofs.Tab.{tab-same}
 use Rattle.tables.proofs.Table.{cell-end, length-putRow, length-closeUp, row-low}
@@ -98,7 +98,7 @@ module _ (rest : List ℕ) where
     unfolding slotsOf slotAt
     slots-front = tab-same _ _ 0 256 (λ j a b. ap slotFrom (row-front 256 slotTable mem j b (omega arith)))
 
-  module _ (mem : List ℕ) (d : Laid mem) where
+  module _ (mem : List ℕ) (d : Bounds mem) where
     abbrev n : ℕ
     n = capacityOf mem
 

@@ -12,7 +12,7 @@ use Rattle.rules.specs.Tree.{Mount, Node}
 use Rattle.rules.specs.Instance.{Instance, mountOf}
 use Rattle.tables.specs.Layout.{capacityOf, countOf, nextOf}
 use Rattle.tables.specs.View.{flag, headOf, nodesOf, view}
-use Rattle.tables.specs.Rule.{laid, Laid}
+use Rattle.tables.specs.Rule.{laid, Bounds}
 use Rattle.tables.specs.Write.{setSlot, mountCells, setRootMount, setRowMount, removeRow, appendNode}
 use Rattle.tables.specs.Answer.{placeIn, atPlace, nodeMountMem, removeMem}
 use Rattle.tables.proofs.Spells.{root-fit}
@@ -28,7 +28,7 @@ use Rattle.behind.proofs.Front.{header-front, slot-front, view-front, r
 
 module _ (rest : List ℕ) where
   module _ (mem : List ℕ) (e : laid mem ≡ true) where
-    abbrev d : Laid mem
+    abbrev d : Bounds mem
     d = laid-is mem e
 
     nodes-front : nodesOf (mem ++ rest) ≡ nodesOf mem

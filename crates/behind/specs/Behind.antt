@@ -14,7 +14,7 @@ use Rattle.tables.specs.Rule.{laid}
 use Rattle.tables.specs.Write.{setRemoval}
 use Rattle.storage.specs.Creation.{createMem}
 use Rattle.vfs.specs.Mounting.{mountMem}
-use Rattle.vfs.specs.Restoring.{restoreMem}
+use Rattle.vfs.specs.Restoring.{restoreMountMem}
 use Rattle.vfs.specs.Unmounting.{unmountMem}
 use Rattle.persist.specs.Restoring.{restoreStateMem}
 
@@ -28,7 +28,7 @@ pub record Apart (mem rest : List ℕ) : Type 0 where
   pub stands : view (mem ++ rest) ≡ view mem
   pub removal : LeavesRest setRemoval mem rest
   pub mount : (r : Request) → LeavesRest (mountMem r) mem rest
-  pub restored-mount : (k : ℕ) (r : Request) → k < 256 → LeavesRest (restoreMem k r) mem rest
+  pub restored-mount : (k : ℕ) (r : Request) → k < 256 → LeavesRest (restoreMountMem k r) mem rest
   pub unmount : (path : List ℕ) → LeavesRest (unmountMem path) mem rest
   pub state : (saved : List ℕ) → LeavesRest (restoreStateMem saved) mem rest
 

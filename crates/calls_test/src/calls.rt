@@ -12,7 +12,7 @@ use words::numbers::low8;
 use words::numbers::low32;
 
 fn create(n: &[u64; 8], s: &mut [u8], regs: &mut [u64; CELLS]) {
-    let mapping = id_map::IdMapping {
+    let id_mapping = id_map::IdMapping {
         internal: low32(n[5]),
         external: low32(n[6]),
         range: low32(n[7]),
@@ -20,7 +20,7 @@ fn create(n: &[u64; 8], s: &mut [u8], regs: &mut [u64; CELLS]) {
     let o = storage::VfsOptions {
         in_opts: n[2],
         out_opts: n[3],
-        mapping,
+        id_mapping,
         flags: low8(n[4]),
     };
     let a = storage::create(s, n[0] as usize, n[1], o);

@@ -6,6 +6,11 @@ use crate::verbs;
 use le::runs::same_at;
 use words::numbers::least;
 
+// Where the counter stands in the storage, and what is behind it (docs/LAYOUT.md).
+const COUNTER_AT: usize = 81;
+
+const BEHIND_COUNTER: usize = COUNTER_AT + 1;
+
 // A call, and what it left. What stood in the watched bytes is kept before.
 pub fn call(
     verb: u64,
@@ -43,7 +48,7 @@ fn made(
 
 // The rest of its line: the counter, what the call left, and the sum of the tables.
 fn left(verb: u64, storage: &[u8], before: &[u8], regs: &mut [u64; CELLS]) {
-    sink::number(words::hex::byte_at(storage, 81) as u64, regs);
+    sink::number(words::hex::byte_at(storage, COUNTER_AT) as u64, regs);
     if regs[regs::WATCH] != 0 {
         sink::byte(b' ', regs);
         watched(verb, storage, before, regs);
@@ -76,9 +81,15 @@ fn marked(storage: &[u8], before: &[u8], regs: &mut [u64; CELLS]) {
         sink::byte(b'=', regs);
         return;
     }
-    if 82 <= n {
-        if same_at(storage, 0, before, 0, 81) {
-            if same_at(storage, 82, before, 82, n - 82) {
+    if BEHIND_COUNTER <= n {
+        if same_at(storage, 0, before, 0, COUNTER_AT) {
+            if same_at(
+                storage,
+                BEHIND_COUNTER,
+                before,
+                BEHIND_COUNTER,
+                n - BEHIND_COUNTER,
+            ) {
                 sink::byte(b'c', regs);
                 return;
             }

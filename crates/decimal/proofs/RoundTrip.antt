@@ -9,9 +9,8 @@ use lib.Dec.{ltb}
 use lib.ListN.{length, length-append}
 use borrow.Author.Tests.{le-leb, ltb-true, ltb-false}
 use Rattle.rules.specs.Session.{isDigit, allDigits, spelt, digits, decimal}
-use Rattle.decimal.specs.Read.{readFrom}
 use Rattle.decimal.specs.RoundTrip.{ReadBack}
-use Rattle.decimal.proofs.Steps.{from-start}
+use Rattle.decimal.proofs.Steps.{readFrom, from-start}
 use Rattle.decimal.proofs.Texts.{small, large}
 
 spelt-append : (xs ys : List ℕ) (n : ℕ) → spelt n (xs ++ ys) ≡ spelt (spelt n xs) ys

@@ -13,7 +13,11 @@ use Rattle.rules.proofs.Tests.{and-both}
 use Rattle.rules.specs.Session.{isDigit, allDigits, spelt, number}
 use Rattle.decimal.specs.declared.Number.{Number}
 use Rattle.decimal.specs.declared.Number.the-variants.{Value, Bad}
-use Rattle.decimal.specs.Read.{valueIn, numberTo, OfWidth, more, readFrom}
+use Rattle.decimal.specs.Read.{valueIn, numberTo, OfWidth, more}
+
+-- reading goes on behind n
+unfoldable pub readFrom : ℕ → ℕ → List ℕ → Option ℕ
+readFrom max n s = cond (allDigits s && leb (spelt n s) max) (some (spelt n s)) none
 
 -- what is spelt later only grows
 spelt-le : (s : List ℕ) (n : ℕ) → n ≤ spelt n s

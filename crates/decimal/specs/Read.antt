@@ -23,12 +23,6 @@ numberTo max s = cond (not (same s []) && allDigits s && leb (spelt 0 s) max) (s
 abbrev pub OfWidth : Type 0
 OfWidth = (bits max : ℕ) → max + 1 ≡ 2 ^ bits → (s : List ℕ) → numberTo max s ≡ number bits s
 
--- ---- on the way
-
--- n with one more digit behind it
+-- n with one more digit behind it (R148, R149)
 unfoldable pub more : ℕ → ℕ → ℕ → Option ℕ
 more max n b = cond (isDigit b && leb (n * 10 + (b - 48)) max) (some (n * 10 + (b - 48))) none
-
--- reading goes on behind n
-unfoldable pub readFrom : ℕ → ℕ → List ℕ → Option ℕ
-readFrom max n s = cond (allDigits s && leb (spelt n s) max) (some (spelt n s)) none

@@ -28,8 +28,8 @@ use Rattle.vfs.specs.Restoring.{restoredTold}
 use Rattle.vfs.specs.Unmounting.{unmountedTold}
 use Rattle.vfs.specs.declared.mounting.Mounted.{Mounted}
 use Rattle.vfs.specs.declared.mounting.Mounted.the-variants.{Done as MountedDone, TooLong as MountedTooLong, Inval as MountedInval, Inode as MountedInode, NoRoom as MountedNoRoom, Full as MountedFull, Small as MountedSmall}
-use Rattle.vfs.specs.declared.restoring.Restored.{Restored}
-use Rattle.vfs.specs.declared.restoring.Restored.the-variants.{Done as RestoredDone, TooLong as RestoredTooLong, Inval as RestoredInval, BadIndex, Inode as RestoredInode, NoRoom as RestoredNoRoom, Small as RestoredSmall}
+use Rattle.vfs.specs.declared.restoring.RestoredMount.{RestoredMount}
+use Rattle.vfs.specs.declared.restoring.RestoredMount.the-variants.{Done as RestoredDone, TooLong as RestoredTooLong, Inval as RestoredInval, BadIndex, Inode as RestoredInode, NoRoom as RestoredNoRoom, Small as RestoredSmall}
 use Rattle.vfs.specs.declared.unmounting.Unmounted.{Unmounted}
 use Rattle.vfs.specs.declared.unmounting.Unmounted.the-variants.{Done as UnmountedDone, NotFound as UnmountedNotFound, Inval as UnmountedInval, Small as UnmountedSmall}
 use Rattle.flat.specs.Flat.{mountNumbers, restoreMountNumbers, umountNumbers, rootfsNumbers, walkNumbers, routeNumbers, lookupNumbers, wroteNumbers, idsNumbers}
@@ -85,7 +85,7 @@ mounted-back MountedSmall = refl
 pub mounted-apart : (a b : Mounted) → mountNumbers (mountedTold a) ≡ mountNumbers (mountedTold b) → a ≡ b
 mounted-apart = apart (λ (a : Mounted). mountNumbers (mountedTold a)) mountedBack mounted-back
 
-abbrev restoredBack : RestoreMountAnswer → Restored
+abbrev restoredBack : RestoreMountAnswer → RestoredMount
 restoredBack r =
     at DONE (r .code) (RestoredDone (tagBack (r .«has_replaced») (r .replaced)) (tagBack (r .«has_displaced») (r .displaced)))
     (at TOOLONG (r .code) RestoredTooLong
@@ -94,7 +94,7 @@ restoredBack r =
     (at INODE (r .code) RestoredInode
     (at NOROOM (r .code) RestoredNoRoom RestoredSmall)))))
 
-restored-back : (a : Restored) → restoredBack (restoreMountNumbers (restoredTold a)) ≡ a
+restored-back : (a : RestoredMount) → restoredBack (restoreMountNumbers (restoredTold a)) ≡ a
 unfolding restoredTold tagIn
 restored-back (RestoredDone (Held t) (Held u)) = refl
 restored-back (RestoredDone (Held t) Empty) = refl
@@ -107,8 +107,8 @@ restored-back RestoredInode = refl
 restored-back RestoredNoRoom = refl
 restored-back RestoredSmall = refl
 
-pub restored-apart : (a b : Restored) → restoreMountNumbers (restoredTold a) ≡ restoreMountNumbers (restoredTold b) → a ≡ b
-restored-apart = apart (λ (a : Restored). restoreMountNumbers (restoredTold a)) restoredBack restored-back
+pub restored-apart : (a b : RestoredMount) → restoreMountNumbers (restoredTold a) ≡ restoreMountNumbers (restoredTold b) → a ≡ b
+restored-apart = apart (λ (a : RestoredMount). restoreMountNumbers (restoredTold a)) restoredBack restored-back
 
 abbrev unmountedBack : UmountAnswer → Unmounted
 unmountedBack r =

@@ -74,7 +74,7 @@ initialized-apart = apart (λ (a : IsInitialized). initializedNumbers (initializ
 abbrev optionsBack : OptionsAnswer → OptionsOf
 optionsBack r =
     at DONE (r .code)
-    (Options (record { «in_opts» = r .«in_opts»; «out_opts» = r .«out_opts»; mapping = record { internal = r .internal; external = r .external; range = r .range }; flags = r .flags }))
+    (Options (record { «in_opts» = r .«in_opts»; «out_opts» = r .«out_opts»; «id_mapping» = record { internal = r .internal; external = r .external; range = r .range }; flags = r .flags }))
     OptionsSmall
 
 options-back : (a : OptionsOf) → optionsBack (optionsNumbers (optionsTold a)) ≡ a

@@ -29,25 +29,25 @@ has none = 0
 has (some x) = 1
 
 -- the numbers of each answer's values, in order; a refusal has none, and a place behind the last counts as 0 (R16)
-abbrev pub values : Answer → List ℕ
-values nothing = []
-values (mounted k t) = k ∷ has t ∷ orZero t ∷ []
-values (restored a d) = has a ∷ orZero a ∷ has d ∷ orZero d ∷ []
-values (unmounted x p t) = x ∷ p ∷ has t ∷ orZero t ∷ []
-values (walked x) = has x ∷ orZero x ∷ []
-values (rootfs none) = []
-values (rootfs (some b)) = 1 ∷ b .0 ∷ b .1 ∷ []
-values (toTree x) = 0 ∷ 0 ∷ 0 ∷ x ∷ []
-values (toBackend t k x) = 1 ∷ t ∷ k ∷ x ∷ []
-values (entry x m u g b) = x ∷ m ∷ u ∷ g ∷ b ∷ []
-values (ids u g) = u ∷ g ∷ []
-values (wrote n) = n ∷ []
-values (settings o) = o .inOpts ∷ o .outOpts ∷ o .mapping .internal ∷ o .mapping .external ∷ o .mapping .range ∷ o .flags ∷ []
-values (truth b) = yesByte b ∷ []
+abbrev pub plainNumbers : Answer → List ℕ
+plainNumbers nothing = []
+plainNumbers (mounted k t) = k ∷ has t ∷ orZero t ∷ []
+plainNumbers (restored a d) = has a ∷ orZero a ∷ has d ∷ orZero d ∷ []
+plainNumbers (unmounted x p t) = x ∷ p ∷ has t ∷ orZero t ∷ []
+plainNumbers (walked x) = has x ∷ orZero x ∷ []
+plainNumbers (rootfs none) = []
+plainNumbers (rootfs (some b)) = 1 ∷ b .0 ∷ b .1 ∷ []
+plainNumbers (toTree x) = 0 ∷ 0 ∷ 0 ∷ x ∷ []
+plainNumbers (toBackend t k x) = 1 ∷ t ∷ k ∷ x ∷ []
+plainNumbers (entry x m u g b) = x ∷ m ∷ u ∷ g ∷ b ∷ []
+plainNumbers (ids u g) = u ∷ g ∷ []
+plainNumbers (wrote n) = n ∷ []
+plainNumbers (settings o) = o .inOpts ∷ o .outOpts ∷ o .mapping .internal ∷ o .mapping .external ∷ o .mapping .range ∷ o .flags ∷ []
+plainNumbers (truth b) = yesByte b ∷ []
 
 -- the value at a place
-abbrev pub value : Told → ℕ → ℕ
-value t k = getD (values (t .answer)) k 0
+abbrev pub plainNumber : Told → ℕ → ℕ
+plainNumber t k = getD (plainNumbers (t .answer)) k 0
 
 -- ---- answers
 
@@ -61,47 +61,47 @@ codeNumbers t = codeAlone (t .code)
 
 -- whether it is initialized (R33)
 abbrev pub initializedNumbers : Told → InitializedAnswer
-initializedNumbers t = record { code = t .code; initialized = value t 0 }
+initializedNumbers t = record { code = t .code; initialized = plainNumber t 0 }
 
--- the options, with their own mapping (R27, R34)
+-- the options, with their own mapping (R27, R33, R34)
 abbrev pub optionsNumbers : Told → OptionsAnswer
-optionsNumbers t = record { code = t .code; flags = value t 5; «in_opts» = value t 0; «out_opts» = value t 1; internal = value t 2; external = value t 3; range = value t 4 }
+optionsNumbers t = record { code = t .code; flags = plainNumber t 5; «in_opts» = plainNumber t 0; «out_opts» = plainNumber t 1; internal = plainNumber t 2; external = plainNumber t 3; range = plainNumber t 4 }
 
 -- the index, the count, and the tag replaced or none (R75, R79)
 abbrev pub mountNumbers : Told → MountAnswer
-mountNumbers t = record { code = t .code; «fs_idx» = value t 0; count = t .count; «has_replaced» = value t 1; replaced = value t 2 }
+mountNumbers t = record { code = t .code; «fs_idx» = plainNumber t 0; count = t .count; «has_replaced» = plainNumber t 1; replaced = plainNumber t 2 }
 
 -- the tag replaced or none, the tag displaced or none (R93)
 abbrev pub restoreMountNumbers : Told → RestoreMountAnswer
-restoreMountNumbers t = record { code = t .code; «has_replaced» = value t 0; replaced = value t 1; «has_displaced» = value t 2; displaced = value t 3 }
+restoreMountNumbers t = record { code = t .code; «has_replaced» = plainNumber t 0; replaced = plainNumber t 1; «has_displaced» = plainNumber t 2; displaced = plainNumber t 3 }
 
 -- node, parent, and the tag released or none (R97)
 abbrev pub umountNumbers : Told → UmountAnswer
-umountNumbers t = record { code = t .code; «has_released» = value t 2; node = value t 0; parent = value t 1; released = value t 3 }
+umountNumbers t = record { code = t .code; «has_released» = plainNumber t 2; node = plainNumber t 0; parent = plainNumber t 1; released = plainNumber t 3 }
 
 -- tag and index, or none (R103, R104)
 abbrev pub rootfsNumbers : Told → RootfsAnswer
-rootfsNumbers t = record { code = t .code; «has_backend» = value t 0; tag = value t 1; «fs_idx» = value t 2 }
+rootfsNumbers t = record { code = t .code; «has_backend» = plainNumber t 0; tag = plainNumber t 1; «fs_idx» = plainNumber t 2 }
 
 -- the node, or none (R47)
 abbrev pub walkNumbers : Told → WalkAnswer
-walkNumbers t = record { code = t .code; «has_node» = value t 0; node = value t 1 }
+walkNumbers t = record { code = t .code; «has_node» = plainNumber t 0; node = plainNumber t 1 }
 
 -- the tree, or a backend (R105, R106)
 abbrev pub routeNumbers : Told → RouteAnswer
-routeNumbers t = record { code = t .code; «to_backend» = value t 0; tag = value t 1; «fs_idx» = value t 2; number = value t 3 }
+routeNumbers t = record { code = t .code; «to_backend» = plainNumber t 0; tag = plainNumber t 1; «fs_idx» = plainNumber t 2; number = plainNumber t 3 }
 
 -- the entry found (R13, R108, R109)
 abbrev pub lookupNumbers : Told → LookupAnswer
-lookupNumbers t = record { code = t .code; mode = value t 1; inode = value t 0; uid = value t 2; gid = value t 3; blksize = value t 4 }
+lookupNumbers t = record { code = t .code; mode = plainNumber t 1; inode = plainNumber t 0; uid = plainNumber t 2; gid = plainNumber t 3; blksize = plainNumber t 4 }
 
 -- how many bytes (R66, R125)
 abbrev pub wroteNumbers : Told → WroteAnswer
-wroteNumbers t = record { code = t .code; written = value t 0 }
+wroteNumbers t = record { code = t .code; written = plainNumber t 0 }
 
 -- uid and gid (R118)
 abbrev pub idsNumbers : Told → IdsAnswer
-idsNumbers t = record { code = t .code; uid = value t 0; gid = value t 1 }
+idsNumbers t = record { code = t .code; uid = plainNumber t 0; gid = plainNumber t 1 }
 
 -- the full number, or none (R7)
 abbrev pub inodeNumbers : ℕ → Option ℕ → InodeAnswer

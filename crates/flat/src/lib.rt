@@ -43,7 +43,7 @@ use storage::OptionsOf;
 use storage::Removal;
 use tables::slots::Tag;
 use vfs::mounting::Mounted;
-use vfs::restoring::Restored;
+use vfs::restoring::RestoredMount;
 use vfs::unmounting::Unmounted;
 use vfs_query::Looked;
 use vfs_query::Remapped;
@@ -63,7 +63,7 @@ pub struct InitializedAnswer {
     pub initialized: u32,
 }
 
-// The options, with their own mapping (R27, R34).
+// The options, with their own mapping (R27, R33, R34).
 #[repr(C)]
 pub struct OptionsAnswer {
     pub code: u32,
@@ -165,7 +165,7 @@ pub struct InodeAnswer {
     pub inode: u64,
 }
 
-// Whether a slot holds a tag: 1, or 0 (R56).
+// Whether there is a tag: 1, or 0 (R16, R78, R97).
 fn has_tag(t: Tag) -> u32
     ensures { λ r. ⌜ r ≡ has (tagIn t) ⌝ }
 {
@@ -230,13 +230,13 @@ pub fn initialized(a: IsInitialized) -> InitializedAnswer
     }
 }
 
-// What the query of the options answers, as numbers (R27, R34).
+// What the query of the options answers, as numbers (R27, R33, R34).
 pub fn options(a: OptionsOf) -> OptionsAnswer
     ensures { λ r. ⌜ r ≡ optionsNumbers (optionsTold a) ⌝ }
 {
     match a {
         OptionsOf::Options(o) => {
-            let m = o.mapping;
+            let m = o.id_mapping;
             OptionsAnswer {
                 code: DONE,
                 flags: o.flags as u32,
@@ -311,11 +311,11 @@ fn no_restored_mount(code: u32) -> RestoreMountAnswer
 }
 
 // What a restored mount answers, as numbers (R91 to R95).
-pub fn restored_mount(a: Restored) -> RestoreMountAnswer
+pub fn restored_mount(a: RestoredMount) -> RestoreMountAnswer
     ensures { λ r. ⌜ r ≡ restoreMountNumbers (restoredTold a) ⌝ }
 {
     match a {
-        Restored::Done {
+        RestoredMount::Done {
             replaced,
             displaced,
         } => RestoreMountAnswer {
@@ -325,12 +325,12 @@ pub fn restored_mount(a: Restored) -> RestoreMountAnswer
             has_displaced: has_tag(displaced),
             displaced: tag_or_0(displaced),
         },
-        Restored::TooLong => no_restored_mount(TOOLONG),
-        Restored::Inval => no_restored_mount(INVAL),
-        Restored::BadIndex => no_restored_mount(BADINDEX),
-        Restored::Inode => no_restored_mount(INODE),
-        Restored::NoRoom => no_restored_mount(NOROOM),
-        Restored::Small => no_restored_mount(SMALL),
+        RestoredMount::TooLong => no_restored_mount(TOOLONG),
+        RestoredMount::Inval => no_restored_mount(INVAL),
+        RestoredMount::BadIndex => no_restored_mount(BADINDEX),
+        RestoredMount::Inode => no_restored_mount(INODE),
+        RestoredMount::NoRoom => no_restored_mount(NOROOM),
+        RestoredMount::Small => no_restored_mount(SMALL),
     }
 }
 

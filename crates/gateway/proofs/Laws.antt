@@ -11,9 +11,8 @@ use Rattle.tables.specs.Call.{Told, answeredBy, WritesBy, DoesBy, Writes, Does}
 use Rattle.inode.specs.Converted.{codeOf, fullOf, convertCode, Converts}
 use Rattle.inode.specs.declared.Converted.{Converted}
 use Rattle.storage.specs.Creation.{Creates}
-use Rattle.flat.specs.Flat.{codeAlone, wroteNumbers, inodeNumbers}
+use Rattle.flat.specs.Flat.{codeAlone, inodeNumbers}
 use Rattle.flat.specs.declared.CodeAnswer.{CodeAnswer}
-use Rattle.flat.specs.declared.WroteAnswer.{WroteAnswer}
 use Rattle.flat.specs.declared.InodeAnswer.{InodeAnswer}
 
 -- the numbers of what is told are the numbers of what the rule tells
@@ -31,9 +30,9 @@ pub does-asked : {A : Type 0} (numbers : Told → A) (mem : List ℕ) (rule : In
 does-asked numbers mem rule exact q p t r after e h d =
     does-by numbers mem (λ i. rule i p) t r after (exact p) h (subst (λ (x : Request). Does mem (λ i. rule i x) t after (exact x)) e d)
 
-pub writes-by : (mem : List ℕ) (f : Instance → Outcome) (d : List ℕ) (t : Told) (r : WroteAnswer) (e : List ℕ)
-    → r ≡ wroteNumbers t → Writes mem f d t e → WritesBy wroteNumbers mem f d r e
-writes-by mem f d t r e h w = record { answer = by-told wroteNumbers r t (answeredBy mem f) h (w .answer); bytes = w .bytes }
+pub writes-by : {A : Type 0} (numbers : Told → A) (mem : List ℕ) (f : Instance → Outcome) (d : List ℕ) (t : Told) (r : A) (e : List ℕ)
+    → r ≡ numbers t → Writes mem f d t e → WritesBy numbers mem f d r e
+writes-by numbers mem f d t r e h w = record { answer = by-told numbers r t (answeredBy mem f) h (w .answer); bytes = w .bytes }
 
 pub creates-by : (mem : List ℕ) (q : Creation) (code : ℕ) (r : CodeAnswer) (after : List ℕ) → r ≡ codeAlone code → Creates mem q code after → Creates mem q (r .code) after
 creates-by mem q code r after e d = rw e d

@@ -33,7 +33,7 @@ pub extern "C" fn galdovar_create(
 ) -> CodeAnswer
     ensures { λ r. ⌜ Creates (now (storage .entry)) (creationBy n known «in_opts» «out_opts» flags internal external range) (r .code) (now (storage .exit)) ⌝ }
 {
-    let mapping = IdMapping {
+    let id_mapping = IdMapping {
         internal,
         external,
         range,
@@ -41,7 +41,7 @@ pub extern "C" fn galdovar_create(
     let o = VfsOptions {
         in_opts,
         out_opts,
-        mapping,
+        id_mapping,
         flags,
     };
     flat::created(storage::create(storage, n, known, o))
@@ -63,7 +63,7 @@ pub extern "C" fn galdovar_initialized(storage: &[u8]) -> InitializedAnswer
     flat::initialized(storage::initialized(storage))
 }
 
-// The options, with their own mapping (R27, R34).
+// The options, with their own mapping (R27, R33, R34).
 #[no_mangle]
 pub extern "C" fn galdovar_options(storage: &[u8]) -> OptionsAnswer
     ensures { λ r. ⌜ r ≡ optionsNumbers (answeredBy (now (storage .entry)) optionsCall) ⌝ }

@@ -8,7 +8,7 @@ ghost use Rattle.rules.specs.Unmount.{unmountRule, rootRule};
 ghost use Rattle.rules.specs.Lookup.{routeRule};
 ghost use Rattle.tables.specs.Call.{answeredBy, DoesBy};
 ghost use Rattle.vfs.specs.Mounting.{requestOf, mountMem};
-ghost use Rattle.vfs.specs.Restoring.{restoreMem};
+ghost use Rattle.vfs.specs.Restoring.{restoreMountMem};
 ghost use Rattle.vfs.specs.Unmounting.{unmountMem};
 ghost use Rattle.flat.specs.Flat.{mountNumbers, restoreMountNumbers, umountNumbers, rootfsNumbers, routeNumbers};
 ghost use Rattle.gateway.specs.Calls.{requestBy};
@@ -65,7 +65,7 @@ pub extern "C" fn galdovar_restore_mount(
     gid: u32,
     mode: u32,
 ) -> RestoreMountAnswer
-    ensures { λ r. ⌜ DoesBy restoreMountNumbers (now (storage .entry)) (λ (i : Instance). restoreMountRule i «fs_idx» (requestBy (now (path .entry)) tag root max uid gid mode)) r (now (storage .exit)) (restoreMem «fs_idx» (requestBy (now (path .entry)) tag root max uid gid mode) (now (storage .entry))) ⌝ }
+    ensures { λ r. ⌜ DoesBy restoreMountNumbers (now (storage .entry)) (λ (i : Instance). restoreMountRule i «fs_idx» (requestBy (now (path .entry)) tag root max uid gid mode)) r (now (storage .exit)) (restoreMountMem «fs_idx» (requestBy (now (path .entry)) tag root max uid gid mode) (now (storage .entry))) ⌝ }
 {
     let b = backend(tag, root, max, uid, gid, mode);
     flat::restored_mount(vfs::restoring::restore_mount(storage, fs_idx, path, b))

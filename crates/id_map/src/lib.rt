@@ -3,7 +3,7 @@ ghost use mathlib.Core.Path.{_≡_};
 ghost use Rattle.rules.specs.Ids.{badMapping, wrapped, unwrapped};
 ghost use Rattle.id_map.specs.Mapping.{mappingOf};
 
-// One range of ids: the start inside, the start outside, and how many; range 0 means no mapping (R112).
+// One range of ids: the start inside, the start outside, and how many; range 0 means no mapping (R27, R112).
 pub struct IdMapping {
     pub internal: u32,
     pub external: u32,
@@ -11,7 +11,7 @@ pub struct IdMapping {
 }
 
 // The largest id (R30).
-const MAX_ID: u64 = 4294967295;
+const MAX_ID: u64 = u32::MAX as u64;
 
 // Out: an id in the internal range moves to the external one, any other stays (R113, R115, R117).
 pub fn map_out(m: IdMapping, id: u32) -> u32

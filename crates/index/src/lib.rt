@@ -10,8 +10,8 @@ use rules::codes::FULL;
 // The slots and the counter, of numbers alone, as a host lends them: a slot is held where its occupancy byte is not 0 (R56, R90).
 #[repr(C)]
 pub struct FsIndexes {
-    pub used: [u8; 256],
-    pub tags: [u32; 256],
+    pub used: [u8; rules::MAX_VFS_INDEX],
+    pub tags: [u32; rules::MAX_VFS_INDEX],
     pub next_super: u8,
 }
 
@@ -37,22 +37,22 @@ pub struct AllocateAnswer {
 }
 
 // The occupancy byte of an empty slot (R56).
-const EMPTY: u8 = 0;
+pub const EMPTY: u8 = 0;
 
 // The occupancy byte of a slot that is taken; any other but 0 means held too (R56).
-const HELD: u8 = 1;
+pub const HELD: u8 = 1;
 
 // The tag of an empty slot (R31, R56).
-const NO_TAG: u32 = 0;
+pub const NO_TAG: u32 = 0;
 
 // A new instance's: 256 empty slots, and counter 1 (R31).
 pub fn new() -> FsIndexes
     ensures { λ r. ⌜ New r ⌝ }
 {
     FsIndexes {
-        used: [EMPTY; 256],
-        tags: [NO_TAG; 256],
-        next_super: 1,
+        used: [EMPTY; rules::MAX_VFS_INDEX],
+        tags: [NO_TAG; rules::MAX_VFS_INDEX],
+        next_super: rules::FIRST_COUNTER,
     }
 }
 
@@ -98,8 +98,8 @@ pub fn allocate_fs_idx(used: &[u8], next_super: u8) -> Allocated
 
 // An index is taken for a tag, in place: the slot found holds it, and the counter has moved; answers the index and the count, or FULL (R83, R90).
 pub fn take<'a>(
-    used: &'a mut [u8; 256],
-    tags: &'a mut [u32; 256],
+    used: &'a mut [u8; rules::MAX_VFS_INDEX],
+    tags: &'a mut [u32; rules::MAX_VFS_INDEX],
     next_super: &'a mut u8,
     tag: u32,
 ) -> AllocateAnswer

@@ -1,5 +1,5 @@
 -- A line cut into its fields, by the places of its spaces.
-use Prim.Native.Nat.{ℕ, _+_, _≤_, _<_}
+use Prim.Native.Nat.{ℕ, _+_, _≤_}
 use mathlib.Core.Bool.{cond}
 use mathlib.Core.List.{List, [], _∷_}
 use mathlib.Core.Option.{Option, none, some}
@@ -7,7 +7,7 @@ use mathlib.Core.Path.{_≡_}
 use lib.ListN.{length}
 use lib.Dec.{eqb, ltb}
 use Rattle.rules.specs.Outcome.{_⇒_, firstOf}
-use Rattle.rules.specs.Session.{space, Line, anyEmpty, lineOf, parsed}
+use Rattle.rules.specs.Session.{space, Line, anyEmpty, lineOf}
 use Rattle.path.specs.Steps.{between, partEnd}
 use Rattle.line.specs.declared.Cut.{Cut}
 use Rattle.line.specs.declared.Cut.the-variants.{Two, Three, Five, Other}
@@ -57,18 +57,6 @@ cutOf s =
     ∷ (eqb e (length s) ⇒ Five a b c d)
     ∷ [])
     Other
-
--- what a cut says of the line: where its spaces stand, or that it has no form
-unfoldable pub Cuts : List ℕ → Cut → Type 0
-Cuts s (Two a) = (a < length s) × (parsed s ≡ twoAt s a)
-Cuts s (Three a b) = (a < b) × ((b < length s) × (parsed s ≡ threeAt s a b))
-Cuts s (Five a b c d) = (a < b) × ((b < c) × ((c < d) × ((d < length s) × (parsed s ≡ fiveAt s a b c d))))
-Cuts s Other = parsed s ≡ none
-
--- the cut, and what it says
-pub record Splits (s : List ℕ) (r : Cut) : Type 0 where
-  pub cut : r ≡ cutOf s
-  pub says : Cuts s r
 
 -- three numbers, where each is one (R138, R149)
 unfoldable pub mountNumbersFrom : Option ℕ → Option ℕ → Option ℕ → MountNumbers

@@ -14,6 +14,9 @@ use line_calls::umount_line;
 use line_calls::walk_line;
 use line_text::put_question;
 
+// The largest tag (R148).
+const MAX_TAG: u64 = u32::MAX as u64;
+
 // The three numbers of a mount line, where each is one.
 enum MountNumbers {
     Numbers { tag: u32, root: u64, max: u64 },
@@ -34,7 +37,7 @@ fn is_word(field: &[u8], word: &[u8]) -> bool
 fn numbers(tag: &[u8], root: &[u8], max: &[u8]) -> MountNumbers
     ensures { λ r. ⌜ r ≡ mountNumbersFrom (number 32 (now (tag .entry))) (number 64 (now (root .entry))) (number 64 (now (max .entry))) ⌝ }
 {
-    match decimal::read(tag, 4294967295) {
+    match decimal::read(tag, MAX_TAG) {
         Number::Value(t) => match decimal::read(root, u64::MAX) {
             Number::Value(r) => match decimal::read(max, u64::MAX) {
                 Number::Value(m) => MountNumbers::Numbers {

@@ -1,9 +1,10 @@
 // One line of a session, answered on an instance in lent bytes. The functions that lay a text ask for room in the lent output.
+ghost use mathlib.Core.Path.{_≡_};
 ghost use Prim.Native.Nat.{_+_, _≤_, _<_};
 ghost use lib.ListN.{length};
 ghost use Rattle.rules.specs.Session.{parsed};
 ghost use Rattle.line_calls.specs.Answered.{Answered};
-ghost use Rattle.line.specs.Fields.{Ends, Splits, twoAt, threeAt, fiveAt};
+ghost use Rattle.line.specs.Fields.{Ends, cutOf, twoAt, threeAt, fiveAt};
 
 mod forms;
 
@@ -35,7 +36,7 @@ fn field_end(line: &[u8], at: usize) -> usize
 
 // Where the line is cut; a line over 8,192 bytes, or of another number of fields, has no form (R145, R146, R150).
 fn split(line: &[u8]) -> Cut
-    ensures { λ r. ⌜ Splits (now (line .entry)) r ⌝ }
+    ensures { λ r. ⌜ r ≡ cutOf (now (line .entry)) ⌝ }
 {
     if rules::MAX_LINE < line.len() {
         return Cut::Other;

@@ -20,6 +20,6 @@ listedTold Small = toldSmall
 abbrev pub listing : ℕ → ℕ → ℕ → List ℕ → Instance → Outcome
 listing node size offset d i = listRule i (record { node = node; size = size; offset = offset; buffer = length d })
 
--- r is answered, and the lent output d is e then (R17)
+-- r is answered, and the lent output d is e then (R17, R65)
 abbrev pub Lists : List ℕ → ℕ → ℕ → ℕ → List ℕ → Listed → List ℕ → Type 0
 Lists mem node size offset d r e = Writes mem (listing node size offset d) d (listedTold r) e

@@ -7,7 +7,7 @@ ghost use Rattle.rules.specs.Tree.{childrenIn};
 ghost use Rattle.rules.specs.Listing.{dirent, direntsFrom};
 ghost use Rattle.tables.specs.Layout.{capacityOf, countOf};
 ghost use Rattle.tables.specs.View.{nodeAt, nodesOf};
-ghost use Rattle.tables.specs.Rule.{Laid};
+ghost use Rattle.tables.specs.Rule.{Bounds};
 ghost use Rattle.dirent.specs.Lays.{Lays};
 ghost use Rattle.listing.specs.Listed.{Lists};
 
@@ -21,7 +21,7 @@ pub enum Listed {
 // Lays the record of row i with that offset at the start of the lent bytes: its length, or 0 and all as it was where it does not fit. The last
 // seven bytes of the name go over as a number (R64, R65).
 fn lay_row(s: &[u8], i: usize, off: u64, out: &mut [u8]) -> usize
-    requires { ⌜ Laid (now s) ⌝ }
+    requires { ⌜ Bounds (now s) ⌝ }
     requires { ⌜ i < countOf (now s) ⌝ }
     ensures { λ r. ⌜ Lays (now (out .entry)) (length (now (out .entry))) (dirent (nodeAt (capacityOf (now (s .entry))) (now (s .entry)) i .number) off (nodeAt (capacityOf (now (s .entry))) (now (s .entry)) i .called) ∷ []) r (now (out .exit)) ⌝ }
 {
@@ -40,7 +40,7 @@ fn lay_row(s: &[u8], i: usize, off: u64, out: &mut [u8]) -> usize
 
 // Lays the records of a node's children from a place on into the first `end` of the lent bytes, each into the rest that is unwritten: how many bytes (R65, R66).
 fn lay_children(s: &[u8], x: u64, offset: u64, end: usize, out: &mut [u8]) -> usize
-    requires { ⌜ Laid (now s) ⌝ }
+    requires { ⌜ Bounds (now s) ⌝ }
     requires { ⌜ end ≤ length (now out) ⌝ }
     ensures { λ r. ⌜ Lays (now (out .entry)) end (direntsFrom offset (drop offset (childrenIn (nodesOf (now (s .entry))) x))) r (now (out .exit)) ⌝ }
 {

@@ -55,7 +55,7 @@ module _ (sep : ℕ) where
     unfolding partEnd
     end-more h e = rw (here s i h, part-cons (getD s i 0) (drop (i + 1) s), ne-eqb (getD s i 0) sep e) (omega arith)
 
-    -- it is behind the place where another byte stands there
+    -- the end of a part is behind its place, where another byte than `sep` stands there
     pub end-behind : {end : ℕ} → end ≡ partEnd sep s i → i < length s → (getD s i 0 ≡ sep → ⊥) → (i < end) × (end ≤ length s)
     end-behind e h n = omega (arith, end-in s (i + 1) (e ∙ end-more h n) (omega arith))
 

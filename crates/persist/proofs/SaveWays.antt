@@ -21,7 +21,7 @@ use Rattle.le.specs.Mem.{get, write}
 use Rattle.le.proofs.Lens.{write-append}
 use Rattle.le.proofs.Writes.{write-over}
 use Rattle.tables.specs.Table.{row, tab}
-use Rattle.tables.specs.Layout.{capacityOf, countOf, nextOf, counterAt}
+use Rattle.tables.specs.Layout.{capacityOf, countOf, nextOf, counterByte}
 use Rattle.tables.specs.View.{optionsFrom, headOf, nodeAt, nodesOf, view}
 use Rattle.tables.specs.Rule.{laid}
 use Rattle.tables.specs.Call.{Told, toldBy}
@@ -64,7 +64,7 @@ module _ (mem d : List ℕ) where
   state = encode (saved (view mem))
 
   parts : (end : ℕ) → end ≡ length (records mem)
-      → state ≡ records mem ++ (optionsBytes (optionsFrom (headOf mem)) ++ trailerBytes end (length (entriesFor (nodesOf mem))) (nextOf mem) (counterAt mem))
+      → state ≡ records mem ++ (optionsBytes (optionsFrom (headOf mem)) ++ trailerBytes end (length (entriesFor (nodesOf mem))) (nextOf mem) (counterByte mem))
   unfolding encode saved view row get
   parts end e = rw e
 
@@ -87,12 +87,12 @@ module _ (mem d : List ℕ) where
       saves-no-room h = saves-full (omega (arith, size))
 
       -- the records, the options and the trailer, one behind the other
-      pub saves-whole : end + 56 ≤ length d → (d₁ d₂ d₃ : List ℕ) (c x k : ℕ) → c ≡ countOf mem → x ≡ nextOf mem → k ≡ counterAt mem
+      pub saves-whole : end + 56 ≤ length d → (d₁ d₂ d₃ : List ℕ) (c x k : ℕ) → c ≡ countOf mem → x ≡ nextOf mem → k ≡ counterByte mem
           → d₁ ≡ write d 0 (records mem) → d₂ ≡ write d₁ end (optionsBytes (optionsFrom (headOf mem))) → d₃ ≡ write d₂ (end + 32) (trailerBytes end c x k)
           → Saves mem d (Wrote (end + 56)) d₃
       saves-whole h d₁ d₂ d₃ c x k f g j p q r =
           let os : List ℕ = optionsBytes (optionsFrom (headOf mem)) in
-          let ts : List ℕ = trailerBytes end (countOf mem) (nextOf mem) (counterAt mem) in
+          let ts : List ℕ = trailerBytes end (countOf mem) (nextOf mem) (counterByte mem) in
           let all : state ≡ records mem ++ (os ++ ts) = parts end e ∙ rw (entries-length (nodesOf mem), nodes-count mem) in
           let a : 0 + length (records mem) ≡ end = zero-add (length (records mem)) ∙ sym e in
           let w : write d 0 state ≡ write (write (write d 0 (records mem)) end os) (end + 32) ts =

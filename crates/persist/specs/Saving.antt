@@ -23,7 +23,7 @@ savedTold Small = toldSmall
 abbrev pub saving : List ℕ → Instance → Outcome
 saving d i = saveRule i (length d)
 
--- r is answered, and the lent output d is e then (R17)
+-- r is answered, and the lent output d is e then (R17, R125)
 abbrev pub Saves : List ℕ → List ℕ → Saved → List ℕ → Type 0
 Saves mem d r e = Writes mem (saving d) d (savedTold r) e
 

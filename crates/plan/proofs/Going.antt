@@ -18,7 +18,7 @@ use Rattle.path.proofs.Steps.{Goes}
 use Rattle.tables.specs.Table.{tab}
 use Rattle.tables.specs.Layout.{nextOf}
 use Rattle.tables.specs.View.{nodesOf, view}
-use Rattle.tables.specs.Rule.{Laid}
+use Rattle.tables.specs.Rule.{Bounds}
 use Rattle.plan.specs.declared.Planned.the-variants.{Fits, NoRoom}
 use Rattle.plan.specs.Plan.{Columns, columns, noted, plannedFrom, Sized, Within, roomOf, told, Plans}
 use Rattle.plan.proofs.Nodes.{makes-grows}
@@ -67,7 +67,7 @@ module _ (mem path : List ℕ) where
     goes-up x on start s e = moves x on start 2 (parent start) s (rw e)
 
     -- the end
-    pub ends : Laid mem → components at (drop at path) ≡ [] → Plans mem path t (Fits node count)
+    pub ends : Bounds mem → components at (drop at path) ≡ [] → Plans mem path t (Fits node count)
     unfolding told makes needed
     ends d e =
         let same : soFar mem path t count node ≡ planned (view mem .tree) path = rw e at (g .rest) in
@@ -102,7 +102,7 @@ module _ (mem path : List ℕ) where
         unfolding makes
         after = rw (s .parts) at (g .rest)
 
-        pub stops : Laid mem → count ≡ roomOf mem → Plans mem path t NoRoom
+        pub stops : Bounds mem → count ≡ roomOf mem → Plans mem path t NoRoom
         unfolding told needed
         stops d full =
             let more = makes-grows (nodesOf mem) (nextOf mem) (step (nodesOf mem) (nextOf mem) (soFar mem path t count node) (name start (part path start len))) (components on (drop on path)) in

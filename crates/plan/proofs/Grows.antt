@@ -14,7 +14,7 @@ use Rattle.tables.specs.Table.{row}
 use Rattle.tables.proofs.Table.{over}
 use Rattle.tables.specs.Layout.{capacityOf, countOf, nextOf}
 use Rattle.tables.specs.View.{field, view}
-use Rattle.tables.specs.Rule.{Laid, laid}
+use Rattle.tables.specs.Rule.{Bounds, laid}
 use Rattle.tables.specs.Write.{appendNode}
 use Rattle.tables.proofs.Tab.{tab-next, tab-done}
 use Rattle.tables.proofs.Spells.{cell-back}
@@ -26,7 +26,7 @@ use Rattle.plan.proofs.Fresh.{Fresh}
 
 -- ---- one node more: the header's numbers, and the rule that places of rows need
 
-module _ (mem : List ℕ) (d : Laid mem) (above : ℕ) (p : List ℕ) where
+module _ (mem : List ℕ) (d : Bounds mem) (above : ℕ) (p : List ℕ) where
   abbrev after : List ℕ
   after = appendNode above p mem
 
@@ -42,7 +42,7 @@ module _ (mem : List ℕ) (d : Laid mem) (above : ℕ) (p : List ℕ) where
   unfolding over row get
   append-next = ap (λ (h : List (List ℕ)). field 3 h) (head-append mem d above p) ∙ cell-back 8 (nextOf mem + 1) mem 24 (omega (arith, d .top))
 
-  append-laid : countOf mem + 1 < capacityOf mem → nextOf mem < 2 ^ 56 → Laid after
+  append-laid : countOf mem + 1 < capacityOf mem → nextOf mem < 2 ^ 56 → Bounds after
   append-laid room top = record {
     few-nodes = omega (arith, append-capacity, d .few-nodes);
     long = omega (arith, append-capacity, length-append above p mem, d .long);
@@ -79,14 +79,14 @@ grows (n ∷ ns) mem l f c x =
 pub record Writing (s₀ path : List ℕ) (t : Columns) (count : ℕ) (s : List ℕ) (j : ℕ) : Type 0 where
   pub so-far : j ≤ count
   pub long : length s ≡ length s₀
-  pub laid : Laid s
+  pub laid : Bounds s
   pub capacity : capacityOf s ≡ capacityOf s₀
   pub live : countOf s ≡ countOf s₀ + j
   pub numbers : nextOf s ≡ nextOf s₀ + j
   pub rest : appendAll (plannedFrom path (nextOf s₀) t j (count - j)) s ≡ appendAll (plannedFrom path (nextOf s₀) t 0 count) s₀
 
 module _ (s₀ path : List ℕ) (t : Columns) (count : ℕ) where
-  pub starts : Laid s₀ → Writing s₀ path t count s₀ 0
+  pub starts : Bounds s₀ → Writing s₀ path t count s₀ 0
   starts l = record { so-far = omega arith; long = refl; laid = l; capacity = refl; live = omega arith; numbers = omega arith; rest = simp sub-zero }
 
   module _ (s : List ℕ) (j : ℕ) (w : Writing s₀ path t count s j) where

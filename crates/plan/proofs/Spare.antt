@@ -17,7 +17,7 @@ use Rattle.rules.proofs.Tests.{le-or-lt, or-neither}
 use Rattle.tables.specs.Table.{row}
 use Rattle.tables.specs.Layout.{capacityOf, countOf, nextOf}
 use Rattle.tables.specs.View.{nodesOf, view}
-use Rattle.tables.specs.Rule.{Laid}
+use Rattle.tables.specs.Rule.{Bounds}
 use Rattle.tables.proofs.Places.{view-nodes, nodes-count}
 use Rattle.plan.specs.Plan.{roomOf, fitting}
 
@@ -50,7 +50,7 @@ exact cap live next top n h k =
     (⊎-elim (λ (m : cap - live ≤ top - next). rw (lt-ltb cap (live + n) (omega arith))) (λ (m : top - next < cap - live). rw (lt-ltb top (next + n) (omega arith), or-true)) (le-or-lt (cap - live) (top - next))))
     (le-or-lt n (min (cap - live) (top - next)))
 
-module _ (mem path : List ℕ) (d : Laid mem) where
+module _ (mem path : List ℕ) (d : Bounds mem) where
   -- NOROOM exactly if the needed nodes are more than the room (R67)
   pub no-room : noRoom (view mem) path ≡ not (leb (needed (view mem .tree) path) (roomOf mem))
   unfolding noRoom

@@ -15,7 +15,7 @@ use Rattle.rules.specs.Instance.{Tree}
 use Rattle.rules.specs.Mount.{planned, needed, noRoom, ended, walkedTo}
 use Rattle.tables.specs.Layout.{capacityOf, countOf, nextOf}
 use Rattle.tables.specs.View.{view}
-use Rattle.tables.specs.Rule.{laid, Laid}
+use Rattle.tables.specs.Rule.{laid, Bounds}
 use Rattle.plan.specs.declared.Planned.{Planned}
 use Rattle.plan.specs.declared.Planned.the-variants.{Fits, NoRoom}
 use Rattle.plan.specs.Plan.{Columns, plannedFrom, Within, roomOf, told, fitting, Plans}
@@ -104,7 +104,7 @@ unfolding planned
 planned-none t path x e = makes-none (t .nodes) (t .next) rootNumber x (components 0 path) e
 
 -- and there is room for it (R67)
-pub room-none : (mem path : List ℕ) (x : ℕ) → Laid mem → planned (view mem .tree) path ≡ record { nodes = []; here = x } → noRoom (view mem) path ≡ false
+pub room-none : (mem path : List ℕ) (x : ℕ) → Bounds mem → planned (view mem .tree) path ≡ record { nodes = []; here = x } → noRoom (view mem) path ≡ false
 unfolding needed
 room-none mem path x d e =
     no-room mem path d ∙ ap (λ (m : Made). not (leb (length (m .nodes)) (roomOf mem))) e ∙ ap not (le-leb 0 (roomOf mem) (omega arith))

@@ -13,7 +13,7 @@ ghost use Rattle.rules.specs.Path.{tooLong};
 ghost use Rattle.rules.specs.Tree.{isChild, childIn, parentIn};
 ghost use Rattle.tables.specs.Layout.{capacityOf, countOf, nextOf};
 ghost use Rattle.tables.specs.View.{nodesOf};
-ghost use Rattle.tables.specs.Rule.{Laid};
+ghost use Rattle.tables.specs.Rule.{Bounds};
 ghost use Rattle.tables.specs.Answer.{foundIn};
 ghost use Rattle.plan.specs.Plan.{columns, plannedAt, plannedFrom, Notes, Sized, Within, roomOf, Plans};
 ghost use Rattle.plan.specs.Apply.{appendAll};
@@ -47,7 +47,7 @@ fn length_of(x: u8) -> usize
 
 // How many nodes can still be made (R67).
 pub fn room(s: &[u8]) -> usize
-    requires { ⌜ Laid (now s) ⌝ }
+    requires { ⌜ Bounds (now s) ⌝ }
     ensures { λ r. ⌜ r ≡ roomOf (now (s .entry)) ⌝ }
 {
     let nodes = tables::header::capacity(s) - 1 - tables::header::count(s);
@@ -61,9 +61,9 @@ pub fn room(s: &[u8]) -> usize
 // Whether planned node j is the child of that name (R45).
 fn planned_is(
     path: &[u8],
-    parents: &[u64; 1024],
-    starts: &[u16; 1024],
-    lens: &[u8; 1024],
+    parents: &[u64; rules::MAX_NODES],
+    starts: &[u16; rules::MAX_NODES],
+    lens: &[u8; rules::MAX_NODES],
     j: usize,
     here: u64,
     name: &[u8],
@@ -85,9 +85,9 @@ fn planned_is(
 // The first planned child of that name (R45).
 fn find_planned(
     path: &[u8],
-    parents: &[u64; 1024],
-    starts: &[u16; 1024],
-    lens: &[u8; 1024],
+    parents: &[u64; rules::MAX_NODES],
+    starts: &[u16; rules::MAX_NODES],
+    lens: &[u8; rules::MAX_NODES],
     count: usize,
     next: u64,
     here: u64,
@@ -111,14 +111,14 @@ fn find_planned(
 fn find(
     s: &[u8],
     path: &[u8],
-    parents: &[u64; 1024],
-    starts: &[u16; 1024],
-    lens: &[u8; 1024],
+    parents: &[u64; rules::MAX_NODES],
+    starts: &[u16; rules::MAX_NODES],
+    lens: &[u8; rules::MAX_NODES],
     count: usize,
     here: u64,
     name: &[u8],
 ) -> Found
-    requires { ⌜ Laid (now s) ⌝ }
+    requires { ⌜ Bounds (now s) ⌝ }
     requires { ⌜ count ≤ 1024 ⌝ }
     requires { ⌜ Within (now path) (columns (now parents) (now starts) (now lens)) count ⌝ }
     ensures { λ r. ⌜ foundIn r ≡ childIn (nodesOf (now (s .entry)) ++ plannedFrom (now (path .entry)) (nextOf (now (s .entry))) (columns (now (parents .entry)) (now (starts .entry)) (now (lens .entry))) 0 count) here (now (name .entry)) ⌝ }
@@ -133,8 +133,8 @@ fn find(
 }
 
 // The parent's number of a node, live or planned, whatever the planned nodes' names are (R39, R54).
-fn up(s: &[u8], parents: &[u64; 1024], count: usize, x: u64) -> u64
-    requires { ⌜ Laid (now s) ⌝ }
+fn up(s: &[u8], parents: &[u64; rules::MAX_NODES], count: usize, x: u64) -> u64
+    requires { ⌜ Bounds (now s) ⌝ }
     requires { ⌜ count ≤ 1024 ⌝ }
     ensures { λ r. ⌜ ((path starts lens : List ℕ) → r ≡ parentIn (nodesOf (now (s .entry)) ++ plannedFrom path (nextOf (now (s .entry))) (columns (now (parents .entry)) starts lens) 0 count) x) ⌝ }
 {
@@ -158,15 +158,15 @@ fn up(s: &[u8], parents: &[u64; 1024], count: usize, x: u64) -> u64
 // One node more is planned, behind count others: its cells are written, and it answers its number (R49).
 fn note(
     s: &[u8],
-    parents: &mut [u64; 1024],
-    starts: &mut [u16; 1024],
-    lens: &mut [u8; 1024],
+    parents: &mut [u64; rules::MAX_NODES],
+    starts: &mut [u16; rules::MAX_NODES],
+    lens: &mut [u8; rules::MAX_NODES],
     count: usize,
     above: u64,
     start: usize,
     len: usize,
 ) -> u64
-    requires { ⌜ Laid (now s) ⌝ }
+    requires { ⌜ Bounds (now s) ⌝ }
     requires { ⌜ (count < 1024) × (start < 65536) × (len < 256) ⌝ }
     ensures { λ r. ⌜ Notes (now (s .entry)) (columns (now (parents .entry)) (now (starts .entry)) (now (lens .entry))) count above start len r (columns (now (parents .exit)) (now (starts .exit)) (now (lens .exit))) ⌝ }
 {
@@ -180,11 +180,11 @@ fn note(
 pub fn plan_mount(
     s: &[u8],
     path: &[u8],
-    parents: &mut [u64; 1024],
-    starts: &mut [u16; 1024],
-    lens: &mut [u8; 1024],
+    parents: &mut [u64; rules::MAX_NODES],
+    starts: &mut [u16; rules::MAX_NODES],
+    lens: &mut [u8; rules::MAX_NODES],
 ) -> Planned
-    requires { ⌜ Laid (now s) ⌝ }
+    requires { ⌜ Bounds (now s) ⌝ }
     requires { ⌜ tooLong (now path) ≡ false ⌝ }
     requires { ⌜ Sized (columns (now parents) (now starts) (now lens)) ⌝ }
     ensures { λ r. ⌜ Plans (now (s .entry)) (now (path .entry)) (columns (now (parents .exit)) (now (starts .exit)) (now (lens .exit))) r ⌝ }
@@ -220,12 +220,12 @@ pub fn plan_mount(
 pub fn apply_plan(
     s: &mut [u8],
     path: &[u8],
-    parents: &[u64; 1024],
-    starts: &[u16; 1024],
-    lens: &[u8; 1024],
+    parents: &[u64; rules::MAX_NODES],
+    starts: &[u16; rules::MAX_NODES],
+    lens: &[u8; rules::MAX_NODES],
     count: usize,
 )
-    requires { ⌜ Laid (now s) ⌝ }
+    requires { ⌜ Bounds (now s) ⌝ }
     requires { ⌜ (countOf (now s) + count < capacityOf (now s)) × (nextOf (now s) + count ≤ 2 ^ 56) ⌝ }
     requires { ⌜ Within (now path) (columns (now parents) (now starts) (now lens)) count ⌝ }
     ensures { λ _. ⌜ now (s .exit) ≡ appendAll (plannedFrom (now (path .entry)) (nextOf (now (s .entry))) (columns (now (parents .entry)) (now (starts .entry)) (now (lens .entry))) 0 count) (now (s .entry)) ⌝ }

@@ -94,27 +94,27 @@ module _ (mem path : List ℕ) (t : Told) (e : t ≡ answeredBy mem (λ (i : Ins
   told-end l b = ap (λ (a : Told). a .answer) (e ∙ told-by mem _ l ∙ ap toldBy (walk-to (view mem) path b _ refl))
 
 -- the bytes keep the layout rule, and the path is sound and leads there
-abbrev pub Leads : List ℕ → List ℕ → Option ℕ → Type 0
-Leads mem path o = (laid mem ≡ true) × (badPath path ≡ false) × (reached (view mem) path ≡ o)
+abbrev pub PathLeads : List ℕ → List ℕ → Option ℕ → Type 0
+PathLeads mem path o = (laid mem ≡ true) × (badPath path ≡ false) × (reached (view mem) path ≡ o)
 
 -- what each answer says of the bytes and the path
 abbrev pub Walked : List ℕ → List ℕ → PathWalk → Type 0
-Walked mem path (WalkNode x) = Leads mem path (some (x .0))
-Walked mem path WalkNothing = Leads mem path none
+Walked mem path (WalkNode x) = PathLeads mem path (some (x .0))
+Walked mem path WalkNothing = PathLeads mem path none
 Walked mem path WalkInval = (laid mem ≡ true) × (badPath path ≡ true)
 Walked mem path WalkSmall = laid mem ≡ false
 
 module _ (mem path : List ℕ) where
-  leads : (o : Option ℕ) → tells (walked o) ≡ answeredBy mem (λ (i : Instance). walkRule i path) → Leads mem path o
+  leads : (o : Option ℕ) → tells (walked o) ≡ answeredBy mem (λ (i : Instance). walkRule i path) → PathLeads mem path o
   leads o e =
       let l = told-laid mem path _ e in
       let b = told-bad mem path _ e l in
       let w = told-end mem path _ e l b in
       (l, b, (cc))
 
-  pub walk-apart : (r q : PathWalk) → pathWalkTold r ≡ answeredBy mem (λ (i : Instance). walkRule i path) → r ≡ q → Walked mem path q
+  pub walk-says : (r q : PathWalk) → pathWalkTold r ≡ answeredBy mem (λ (i : Instance). walkRule i path) → r ≡ q → Walked mem path q
   unfolding pathWalkTold
-  walk-apart r q e f = go q (ap pathWalkTold (sym f) ∙ e)
+  walk-says r q e f = go q (ap pathWalkTold (sym f) ∙ e)
     where
       go : (q : PathWalk) → pathWalkTold q ≡ answeredBy mem (λ (i : Instance). walkRule i path) → Walked mem path q
       go (WalkNode x) e = leads (some (x .0)) e

@@ -35,6 +35,6 @@ entryAnswer e = entry (e .inode .0) (e .mode) (e .uid) (e .gid) (e .blksize)
 
 -- ---- the pseudo entry
 
--- of any number, with any mapping in force (R7, R13, R117)
+-- of any number, with any mapping in force (R7, R13, R118)
 unfoldable pub pseudoAnswer : Instance → ℕ → Answer
 pseudoAnswer i x = entry (orZero (convert 0 x)) dirMode (wrapped (i .fixed .mapping) 0) (wrapped (i .fixed .mapping) 0) blockSize

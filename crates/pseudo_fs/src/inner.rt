@@ -20,7 +20,7 @@ use utf8::is_utf8;
 ghost use mathlib.Core.Path.{_≡_};
 ghost use Rattle.rules.specs.Unmount.{reached};
 ghost use Rattle.tables.specs.View.{nodesOf, view};
-ghost use Rattle.tables.specs.Rule.{Laid};
+ghost use Rattle.tables.specs.Rule.{Bounds};
 ghost use Rattle.tables.specs.Answer.{foundIn};
 ghost use Rattle.pseudo_fs.specs.Finds.{childFinding, Finds};
 ghost use Rattle.pseudo_fs.specs.Told.{entryAnswer, pseudoAnswer};
@@ -34,7 +34,7 @@ pub enum Finding {
 
 // The node where the walk from the root along the components of a path ends, or nothing (R37, R38, R39, R45, R46).
 pub fn walk(s: &[u8], path: &[u8]) -> Found
-    requires { ⌜ Laid (now s) ⌝ }
+    requires { ⌜ Bounds (now s) ⌝ }
     ensures { λ r. ⌜ foundIn r ≡ reached (view (now (s .entry))) (now (path .entry)) ⌝ }
 {
     let n = count(s);
@@ -69,7 +69,7 @@ pub fn walk(s: &[u8], path: &[u8]) -> Found
 
 // The child of that name, or NOENT; a name with a slash is NOENT, whatever the rows hold (R45, R59).
 fn child_in(s: &[u8], x: u64, name: &[u8]) -> Finding
-    requires { ⌜ Laid (now s) ⌝ }
+    requires { ⌜ Bounds (now s) ⌝ }
     ensures { λ r. ⌜ r ≡ childFinding (nodesOf (now (s .entry))) x (now (name .entry)) ⌝ }
 {
     if has_byte(name, b'/') {
@@ -83,7 +83,7 @@ fn child_in(s: &[u8], x: u64, name: &[u8]) -> Finding
 
 // In a directory: NOENT where it is no node; INVAL where the name has byte 0 or is not UTF-8; then `.`, `..`, the child or NOENT (R57, R58, R59). Of a plain name only the first test and the slash are left to ask.
 pub fn find(s: &[u8], x: u64, name: &[u8]) -> Finding
-    requires { ⌜ Laid (now s) ⌝ }
+    requires { ⌜ Bounds (now s) ⌝ }
     ensures { λ r. ⌜ Finds (nodesOf (now (s .entry))) x (now (name .entry)) r ⌝ }
 {
     if !is_known(s, x) {
@@ -109,7 +109,7 @@ pub fn find(s: &[u8], x: u64, name: &[u8]) -> Finding
 
 // The pseudo entry of a node, with its ids mapped out by the mapping in force; its full number is 0 where the number is above 2^56 − 1, which no node's is (R7, R13, R118).
 pub fn pseudo_entry(s: &[u8], x: u64) -> Entry
-    requires { ⌜ Laid (now s) ⌝ }
+    requires { ⌜ Bounds (now s) ⌝ }
     ensures { λ r. ⌜ entryAnswer r ≡ pseudoAnswer (view (now (s .entry))) x ⌝ }
 {
     let full = inode::or_zero(inode::pseudo_inode(NodeNumber(x)));

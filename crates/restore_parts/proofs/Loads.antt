@@ -15,7 +15,7 @@ use Rattle.tables.specs.Table.{row}
 use Rattle.tables.proofs.Table.{over, Fit}
 use Rattle.tables.specs.Layout.{header, capacityOf, countOf, nextOf}
 use Rattle.tables.specs.View.{field, headOf, nodesOf, view}
-use Rattle.tables.specs.Rule.{laidBy, laid, Laid}
+use Rattle.tables.specs.Rule.{laidBy, laid, Bounds}
 use Rattle.tables.specs.Write.{fromPlace, setNext}
 use Rattle.tables.proofs.Spells.{cell-back}
 use Rattle.tables.proofs.Heads.{head-put, view-header}
@@ -27,7 +27,7 @@ use Rattle.restore_parts.proofs.Records.{AllLoad}
 
 -- ---- the next number is set
 
-module _ (mem : List ℕ) (d : Laid mem) (x : ℕ) (top : x ≤ 2 ^ 56) where
+module _ (mem : List ℕ) (d : Bounds mem) (x : ℕ) (top : x ≤ 2 ^ 56) where
   abbrev xs : List (List ℕ)
   xs = bytesOf 8 x ∷ []
 

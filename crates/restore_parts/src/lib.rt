@@ -10,7 +10,7 @@ ghost use Rattle.rules.specs.Restore.{fresh};
 ghost use Rattle.saved.specs.Options.{meant};
 ghost use Rattle.tables.specs.Layout.{capacityOf, countOf};
 ghost use Rattle.tables.specs.View.{view};
-ghost use Rattle.tables.specs.Rule.{laid, Laid};
+ghost use Rattle.tables.specs.Rule.{laid, Bounds};
 ghost use Rattle.tables.specs.Write.{yesByte};
 ghost use Rattle.restore_parts.specs.Parts.{hasBits, Loads, loadNode, loadNodes, setOptions, setState, stateMem};
 use saved::inner::SavedOptions;
@@ -18,7 +18,7 @@ use tables::mounts::MountOn;
 
 // Whether there is no node besides the root, and no mount (R132).
 pub fn is_fresh(s: &[u8]) -> bool
-    requires { ⌜ Laid (now s) ⌝ }
+    requires { ⌜ Bounds (now s) ⌝ }
     ensures { λ r. ⌜ r ≡ fresh (view (now (s .entry))) ⌝ }
 {
     if 0 < tables::header::count(s) {
@@ -43,7 +43,7 @@ pub fn has_unknown(s: &[u8], b: &[u8]) -> bool
 
 // Whether the records and the root are more than N (R131).
 pub fn is_too_many(s: &[u8], b: &[u8]) -> bool
-    requires { ⌜ Laid (now s) ⌝ }
+    requires { ⌜ Bounds (now s) ⌝ }
     requires { ⌜ 56 ≤ length (now b) ⌝ }
     ensures { λ r. ⌜ r ≡ ltb (view (now (s .entry)) .fixed .capacity) (1 + length (stateOf (now (b .entry)) .nodes)) ⌝ }
 {

@@ -5,12 +5,12 @@ ghost use lib.ListN.{length};
 ghost use Rattle.le.specs.Mem.{get};
 ghost use Rattle.tables.specs.Layout.{capacityOf, countOf, lastAt, firstAt};
 ghost use Rattle.tables.specs.View.{nodeAt};
-ghost use Rattle.tables.specs.Rule.{Laid};
+ghost use Rattle.tables.specs.Rule.{Bounds};
 ghost use Rattle.row_name.specs.Copied.{Copied};
 
 // How many bytes the name of row i has (R10).
 pub fn name_len(s: &[u8], i: usize) -> usize
-    requires { ⌜ Laid (now s) ⌝ }
+    requires { ⌜ Bounds (now s) ⌝ }
     requires { ⌜ i < countOf (now s) ⌝ }
     ensures { λ r. ⌜ r ≡ length (nodeAt (capacityOf (now (s .entry))) (now (s .entry)) i .called) ⌝ }
 {
@@ -18,9 +18,9 @@ pub fn name_len(s: &[u8], i: usize) -> usize
     le::fields::get_u8(s, tables::rows::TABLE + 24 * n + 8 * i) as usize
 }
 
-// The cell of the name of row i as one number: the lowest byte is its length, and those above are its last seven bytes (R64).
+// The cell of the name of row i as one number: the lowest byte is its length, and those above are its last seven bytes (R10).
 pub fn name_cell(s: &[u8], i: usize) -> u64
-    requires { ⌜ Laid (now s) ⌝ }
+    requires { ⌜ Bounds (now s) ⌝ }
     requires { ⌜ i < countOf (now s) ⌝ }
     ensures { λ r. ⌜ r ≡ get 8 (now (s .entry)) (lastAt (capacityOf (now (s .entry))) i) ⌝ }
 {
@@ -28,9 +28,9 @@ pub fn name_cell(s: &[u8], i: usize) -> u64
     le::fields::get_u64(s, tables::rows::TABLE + 24 * n + 8 * i)
 }
 
-// Where the bytes before the last seven of the name of row i stand (R64).
+// Where the bytes before the last seven of the name of row i stand (R10).
 pub fn first_at(s: &[u8], i: usize) -> usize
-    requires { ⌜ Laid (now s) ⌝ }
+    requires { ⌜ Bounds (now s) ⌝ }
     requires { ⌜ i < countOf (now s) ⌝ }
     ensures { λ r. ⌜ r ≡ firstAt (capacityOf (now (s .entry))) i ⌝ }
 {
@@ -40,7 +40,7 @@ pub fn first_at(s: &[u8], i: usize) -> usize
 
 // Copies the name of row i into the lent bytes at a place: its length. Its last seven bytes stand apart from those before them (R120).
 pub fn copy_name(s: &[u8], i: usize, out: &mut [u8], to: usize) -> usize
-    requires { ⌜ Laid (now s) ⌝ }
+    requires { ⌜ Bounds (now s) ⌝ }
     requires { ⌜ i < countOf (now s) ⌝ }
     requires { ⌜ to + length (nodeAt (capacityOf (now s)) (now s) i .called) ≤ length (now out) ⌝ }
     ensures { λ r. ⌜ Copied (nodeAt (capacityOf (now (s .entry))) (now (s .entry)) i .called) (now (out .entry)) to r (now (out .exit)) ⌝ }

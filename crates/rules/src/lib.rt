@@ -10,11 +10,17 @@ pub const NUMBERS: u64 = VFS_MAX_INO + 1;
 // The index of the tree itself (R11).
 pub const VFS_PSEUDO_FS_IDX: u8 = 0;
 
+// How many indexes there are, 0 among them (R31).
+pub const MAX_VFS_INDEX: usize = 256;
+
+// The counter of a new instance (R31).
+pub const FIRST_COUNTER: u8 = VFS_PSEUDO_FS_IDX + 1;
+
 // The root's number (R12).
 pub const ROOT_ID: u64 = 1;
 
 // The number of the first new node (R12).
-pub const FIRST_NODE: u64 = 2;
+pub const PSEUDOFS_NEXT_INODE: u64 = 2;
 
 // The largest N (R9).
 pub const MAX_NODES: usize = 1024;

@@ -18,7 +18,7 @@ use Rattle.le.proofs.Lens.{length-write, write-append, put-write, put-add}
 use Rattle.le.proofs.Writes.{write-part}
 use Rattle.tables.specs.Layout.{capacityOf, countOf}
 use Rattle.tables.specs.View.{nodeAt, nodesOf}
-use Rattle.tables.specs.Rule.{Laid}
+use Rattle.tables.specs.Rule.{Bounds}
 use Rattle.tables.proofs.Tab.{tab-next, tab-done}
 use Rattle.tables.proofs.Find.{left, none-looked}
 use Rattle.row_name.specs.Copied.{Copied}
@@ -111,7 +111,7 @@ pub record Sized (mem : List ℕ) (c size i : ℕ) : Type 0 where
   pub few : size ≤ 273 * i
   pub count : size + length (later mem c i) ≡ length (records mem)
 
-pub sized-start : (mem : List ℕ) (c : ℕ) → Laid mem → c ≡ countOf mem → Sized mem c 0 0
+pub sized-start : (mem : List ℕ) (c : ℕ) → Bounds mem → c ≡ countOf mem → Sized mem c 0 0
 sized-start mem c l e = record {
   rows = omega arith;
   most = omega (arith, l .live, l .few-nodes);

@@ -7,7 +7,7 @@ ghost use Rattle.rules.specs.Saved.{nodeBytes, nodesBytes, optionsBytes, traile
 ghost use Rattle.rules.specs.Restore.{entryFor, entriesFor};
 ghost use Rattle.tables.specs.Layout.{capacityOf, countOf};
 ghost use Rattle.tables.specs.View.{optionsFrom, headOf, nodeAt, nodesOf};
-ghost use Rattle.tables.specs.Rule.{Laid};
+ghost use Rattle.tables.specs.Rule.{Bounds};
 ghost use Rattle.row_name.specs.Copied.{Copied};
 ghost use Rattle.storage.specs.Answers.{optionsIn};
 ghost use Rattle.save_parts.specs.Parts.{Sizes};
@@ -21,7 +21,7 @@ use storage::VfsOptions;
 
 // How many bytes the node records take (R120).
 pub fn records_size(s: &[u8]) -> usize
-    requires { ⌜ Laid (now s) ⌝ }
+    requires { ⌜ Bounds (now s) ⌝ }
     ensures { λ r. ⌜ Sizes (now (s .entry)) r ⌝ }
 {
     let c = tables::header::count(s);
@@ -36,7 +36,7 @@ pub fn records_size(s: &[u8]) -> usize
 
 // Puts the record of row i at the start of the lent bytes: its length (R120).
 fn put_record(s: &[u8], i: usize, out: &mut [u8]) -> usize
-    requires { ⌜ Laid (now s) ⌝ }
+    requires { ⌜ Bounds (now s) ⌝ }
     requires { ⌜ i < countOf (now s) ⌝ }
     requires { ⌜ 18 + length (nodeAt (capacityOf (now s)) (now s) i .called) ≤ length (now out) ⌝ }
     ensures { λ r. ⌜ Copied (nodeBytes (entryFor (nodeAt (capacityOf (now (s .entry))) (now (s .entry)) i))) (now (out .entry)) 0 r (now (out .exit)) ⌝ }
@@ -49,7 +49,7 @@ fn put_record(s: &[u8], i: usize, out: &mut [u8]) -> usize
 
 // Puts the records of all rows, in table order, each into the rest that is unwritten (R120, R126).
 pub fn put_records(s: &[u8], out: &mut [u8])
-    requires { ⌜ Laid (now s) ⌝ }
+    requires { ⌜ Bounds (now s) ⌝ }
     requires { ⌜ length (nodesBytes (entriesFor (nodesOf (now s)))) ≤ length (now out) ⌝ }
     ensures { λ _. ⌜ now (out .exit) ≡ write (now (out .entry)) 0 (nodesBytes (entriesFor (nodesOf (now (s .entry))))) ⌝ }
 {
@@ -70,9 +70,9 @@ fn put_fields(out: &mut [u8], at: usize, o: VfsOptions)
 {
     put_u64(out, at, o.in_opts);
     put_u64(out, at + 8, o.out_opts);
-    put_u32(out, at + 16, o.mapping.internal);
-    put_u32(out, at + 20, o.mapping.external);
-    put_u32(out, at + 24, o.mapping.range);
+    put_u32(out, at + 16, o.id_mapping.internal);
+    put_u32(out, at + 20, o.id_mapping.external);
+    put_u32(out, at + 24, o.id_mapping.range);
     put_u8(out, at + 28, o.flags);
     put_u8(out, at + 29, 0);
     put_u16(out, at + 30, 0);
@@ -80,7 +80,7 @@ fn put_fields(out: &mut [u8], at: usize, o: VfsOptions)
 
 // Puts the options of the header, with their own mapping, at a place (R34, R121).
 pub fn put_options(s: &[u8], out: &mut [u8], at: usize)
-    requires { ⌜ Laid (now s) ⌝ }
+    requires { ⌜ Bounds (now s) ⌝ }
     requires { ⌜ at + 32 ≤ length (now out) ⌝ }
     ensures { λ _. ⌜ now (out .exit) ≡ write (now (out .entry)) at (optionsBytes (optionsFrom (headOf (now (s .entry))))) ⌝ }
 {

@@ -9,7 +9,7 @@ use lib.Seq.{getD-set-same, getD-set-other}
 use borrow.Author.Count.{below-more}
 use Rattle.rules.specs.Saved.{nodeAt, behind}
 use Rattle.saved.specs.Scan.{startOf}
-use Rattle.saved.specs.Columns.{keyAt, numberOf, keyOf, filled, Fills, Column, Columns, Among}
+use Rattle.saved.specs.Columns.{keyAt, recordNumber, recordKey, filled, FillsColumns, Column, Columns, Among}
 
 -- one more cell
 column-more : (f : ℕ → ℕ) (i : ℕ) (c : List ℕ) (v : ℕ) → i < length c → Column f i c → v ≡ f i → Column f (i + 1) (set c i v)
@@ -17,7 +17,7 @@ column-more f i c v l h e =
     below-more _ _ (λ j k. getD-set-other c i j v 0 (λ g. omega arith) ∙ h j k) (getD-set-same c i v 0 l ∙ e)
 
 -- none yet
-pub none-filled : (b s n c : List ℕ) → Fills b 0 s n c s n c
+pub none-filled : (b s n c : List ℕ) → FillsColumns b 0 s n c s n c
 unfolding filled
 none-filled b s n c = record { starts = refl; numbers = refl; keys = refl }
 
@@ -26,16 +26,16 @@ unfolding filled
 cell-filled f i c c′ v e g = rw (add-one, e, g)
 
 -- one more row
-pub row-filled : (b s n c s′ n′ c′ : List ℕ) (i at number key : ℕ) → Fills b i s n c s′ n′ c′
-    → at ≡ startOf b i → number ≡ nodeAt b at .number → key ≡ keyAt b at → Fills b (i + 1) s n c (set s′ i at) (set n′ i number) (set c′ i key)
+pub row-filled : (b s n c s′ n′ c′ : List ℕ) (i at number key : ℕ) → FillsColumns b i s n c s′ n′ c′
+    → at ≡ startOf b i → number ≡ nodeAt b at .number → key ≡ keyAt b at → FillsColumns b (i + 1) s n c (set s′ i at) (set n′ i number) (set c′ i key)
 row-filled b s n c s′ n′ c′ i at number key t e f g = record {
   starts = cell-filled (startOf b) i s s′ at (t .starts) e;
-  numbers = cell-filled (numberOf b) i n n′ number (t .numbers) (f ∙ ap (λ (x : ℕ). nodeAt b x .number) e);
-  keys = cell-filled (keyOf b) i c c′ key (t .keys) (g ∙ ap (keyAt b) e);
+  numbers = cell-filled (recordNumber b) i n n′ number (t .numbers) (f ∙ ap (λ (x : ℕ). nodeAt b x .number) e);
+  keys = cell-filled (recordKey b) i c c′ key (t .keys) (g ∙ ap (keyAt b) e);
 }
 
 -- all of them
-pub all-filled : (b s n c s′ n′ c′ : List ℕ) (k i : ℕ) → i ≤ k → k ≤ i → Fills b i s n c s′ n′ c′ → Fills b k s n c s′ n′ c′
+pub all-filled : (b s n c s′ n′ c′ : List ℕ) (k i : ℕ) → i ≤ k → k ≤ i → FillsColumns b i s n c s′ n′ c′ → FillsColumns b k s n c s′ n′ c′
 all-filled b s n c s′ n′ c′ k i g h t = let e : i ≡ k = omega arith in rw e at t
 
 -- ---- what they hold
@@ -53,11 +53,11 @@ filled-column f (suc k) c h = rw add-one at (column-more f k (filled f k c) (f k
 column-by : (f : ℕ → ℕ) (k : ℕ) (c c′ : List ℕ) → k ≤ length c → c′ ≡ filled f k c → Column f k c′
 column-by f k c c′ h e = rw e (filled-column f k c h)
 
-pub columns : (b s n c s′ n′ c′ : List ℕ) (k : ℕ) → k ≤ length s → k ≤ length n → k ≤ length c → Fills b k s n c s′ n′ c′ → Columns b k s′ n′ c′
+pub columns : (b s n c s′ n′ c′ : List ℕ) (k : ℕ) → k ≤ length s → k ≤ length n → k ≤ length c → FillsColumns b k s n c s′ n′ c′ → Columns b k s′ n′ c′
 columns b s n c s′ n′ c′ k hs hn hc t = record {
   starts = column-by (startOf b) k s s′ hs (t .starts);
-  numbers = column-by (numberOf b) k n n′ hn (t .numbers);
-  keys = column-by (keyOf b) k c c′ hc (t .keys);
+  numbers = column-by (recordNumber b) k n n′ hn (t .numbers);
+  keys = column-by (recordKey b) k c c′ hc (t .keys);
 }
 
 -- the first of them

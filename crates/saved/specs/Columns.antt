@@ -22,23 +22,23 @@ listed x c (suc i) = eqb (getD c i 0) x || listed x c i
 -- ---- the columns of the first k records
 
 -- the number of record j
-abbrev pub numberOf : List ℕ → ℕ → ℕ
-numberOf b j = nodeAt b (startOf b j) .number
+abbrev pub recordNumber : List ℕ → ℕ → ℕ
+recordNumber b j = nodeAt b (startOf b j) .number
 
 -- its key
-abbrev pub keyOf : List ℕ → ℕ → ℕ
-keyOf b j = keyAt b (startOf b j)
+abbrev pub recordKey : List ℕ → ℕ → ℕ
+recordKey b j = keyAt b (startOf b j)
 
--- with what f says put into the first k cells
+-- the column c with f j in cell j, for each j below k
 unfoldable pub filled : (ℕ → ℕ) → ℕ → List ℕ → List ℕ
 filled f zero c = c
 filled f (suc k) c = set (filled f k c) k (f k)
 
--- filled, where s, n and c stood: where each record starts, its number, its key
-pub record Fills (b : List ℕ) (k : ℕ) (s n c s′ n′ c′ : List ℕ) : Type 0 where
+-- s′, n′ and c′ are s, n and c with the first k cells filled: where each record starts, its number, its key
+pub record FillsColumns (b : List ℕ) (k : ℕ) (s n c s′ n′ c′ : List ℕ) : Type 0 where
   pub starts : s′ ≡ filled (startOf b) k s
-  pub numbers : n′ ≡ filled (numberOf b) k n
-  pub keys : c′ ≡ filled (keyOf b) k c
+  pub numbers : n′ ≡ filled (recordNumber b) k n
+  pub keys : c′ ≡ filled (recordKey b) k c
 
 -- the first k cells are what f says
 abbrev pub Column : (ℕ → ℕ) → ℕ → List ℕ → Type 0
@@ -47,8 +47,8 @@ Column f k c = (j : ℕ) → j < k → getD c j 0 ≡ f j
 -- what filled columns hold
 pub record Columns (b : List ℕ) (k : ℕ) (s n c : List ℕ) : Type 0 where
   pub starts : Column (startOf b) k s
-  pub numbers : Column (numberOf b) k n
-  pub keys : Column (keyOf b) k c
+  pub numbers : Column (recordNumber b) k n
+  pub keys : Column (recordKey b) k c
 
 -- record i stands at a place within the bytes, and the columns know those before it
 pub record Among (b : List ℕ) (at i : ℕ) (s c : List ℕ) : Type 0 where
@@ -56,4 +56,4 @@ pub record Among (b : List ℕ) (at i : ℕ) (s c : List ℕ) : Type 0 where
   pub whole : behind b at ≤ length b
   pub few : i ≤ 1023
   pub starts : Column (startOf b) i s
-  pub keys : Column (keyOf b) i c
+  pub keys : Column (recordKey b) i c

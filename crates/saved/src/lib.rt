@@ -6,9 +6,12 @@ ghost use Prim.Native.Nat.{_≤_};
 ghost use lib.ListN.{length};
 ghost use Rattle.rules.specs.Saved.{nodeAt, nodesAt, behind, goodName, used, accepted};
 ghost use Rattle.saved.specs.Scan.{startOf, earlier, sound, placed, allPlaced, framed, soundTo, twin};
-ghost use Rattle.saved.specs.Columns.{keyAt, listed, Fills, Among, Columns};
+ghost use Rattle.saved.specs.Columns.{keyAt, listed, FillsColumns, Among, Columns};
 
 pub mod inner;
+
+// The records that columns know: all that an instance has room for besides its root (R9).
+const COLUMN: usize = rules::MAX_NODES - 1;
 
 // Whether the options and the trailer are in order: length, offset, version, zero bytes, flags, next number. The version and six zeros
 // are one number, and so are the flags and three zeros (R129 a, b, d, e, f, h).
@@ -31,7 +34,7 @@ fn is_framed(b: &[u8]) -> bool
         return false;
     }
     let next = inner::next_of(b);
-    if next < rules::FIRST_NODE {
+    if next < rules::PSEUDOFS_NEXT_INODE {
         return false;
     }
     next <= rules::NUMBERS
@@ -151,7 +154,7 @@ fn key_at(b: &[u8], at: usize) -> u64
 }
 
 // Whether a number is the root's or one of the first i (R129 i).
-fn is_listed(numbers: &[u64; 1023], i: usize, number: u64) -> bool
+fn is_listed(numbers: &[u64; COLUMN], i: usize, number: u64) -> bool
     requires { ⌜ i ≤ 1023 ⌝ }
     ensures { λ r. ⌜ r ≡ listed number (now (numbers .entry)) i ⌝ }
 {
@@ -166,7 +169,7 @@ fn is_listed(numbers: &[u64; 1023], i: usize, number: u64) -> bool
 }
 
 // Whether one of the i records before has the parent and the name of the record at a place: only those with its key are read (R129 k).
-fn is_used(b: &[u8], at: usize, i: usize, starts: &[usize; 1023], keys: &[u64; 1023]) -> bool
+fn is_used(b: &[u8], at: usize, i: usize, starts: &[usize; COLUMN], keys: &[u64; COLUMN]) -> bool
     requires { ⌜ Among (now b) at i (now starts) (now keys) ⌝ }
     ensures { λ r. ⌜ r ≡ used (nodeAt (now (b .entry)) at .above) (nodeAt (now (b .entry)) at .called) (earlier (now (b .entry)) i) ⌝ }
 {
@@ -192,9 +195,9 @@ fn is_placed(
     at: usize,
     i: usize,
     k: usize,
-    starts: &[usize; 1023],
-    numbers: &[u64; 1023],
-    keys: &[u64; 1023],
+    starts: &[usize; COLUMN],
+    numbers: &[u64; COLUMN],
+    keys: &[u64; COLUMN],
 ) -> bool
     requires { ⌜ (at ≡ startOf (now b) i) × (behind (now b) at ≤ length (now b)) × (k ≤ 1023) ⌝ }
     requires { ⌜ Columns (now b) k (now starts) (now numbers) (now keys) ⌝ }
@@ -210,13 +213,13 @@ fn is_placed(
 }
 
 // Whether all of the records are placed, with columns of the first k (R129 i, k).
-fn all_placed(
+fn are_placed_by_columns(
     b: &[u8],
     count: usize,
     k: usize,
-    starts: &[usize; 1023],
-    numbers: &[u64; 1023],
-    keys: &[u64; 1023],
+    starts: &[usize; COLUMN],
+    numbers: &[u64; COLUMN],
+    keys: &[u64; COLUMN],
 ) -> bool
     requires { ⌜ (startOf (now b) count ≤ length (now b)) × (k ≤ 1023) ⌝ }
     requires { ⌜ Columns (now b) k (now starts) (now numbers) (now keys) ⌝ }
@@ -237,7 +240,7 @@ fn all_placed(
 // Puts down where each of the first k records starts, its number and its key.
 fn fill(b: &[u8], k: usize, starts: &mut [usize], numbers: &mut [u64], keys: &mut [u64])
     requires { ⌜ (startOf (now b) k ≤ length (now b)) × (k ≤ length (now starts)) × (k ≤ length (now numbers)) × (k ≤ length (now keys)) ⌝ }
-    ensures { λ _. ⌜ Fills (now (b .entry)) k (now (starts .entry)) (now (numbers .entry)) (now (keys .entry)) (now (starts .exit)) (now (numbers .exit)) (now (keys .exit)) ⌝ }
+    ensures { λ _. ⌜ FillsColumns (now (b .entry)) k (now (starts .entry)) (now (numbers .entry)) (now (keys .entry)) (now (starts .exit)) (now (numbers .exit)) (now (keys .exit)) ⌝ }
 {
     let mut at = 0;
     let mut i = 0;
@@ -255,12 +258,12 @@ fn are_placed(b: &[u8], count: usize) -> bool
     requires { ⌜ startOf (now b) count ≤ length (now b) ⌝ }
     ensures { λ r. ⌜ r ≡ allPlaced [] (nodesAt (now (b .entry)) count 0) ⌝ }
 {
-    let mut starts = [0usize; 1023];
-    let mut numbers = [0u64; 1023];
-    let mut keys = [0u64; 1023];
-    let k = if count < 1023 { count } else { 1023 };
+    let mut starts = [0usize; COLUMN];
+    let mut numbers = [0u64; COLUMN];
+    let mut keys = [0u64; COLUMN];
+    let k = if count < COLUMN { count } else { COLUMN };
     fill(b, k, &mut starts, &mut numbers, &mut keys);
-    all_placed(b, count, k, &starts, &numbers, &keys)
+    are_placed_by_columns(b, count, k, &starts, &numbers, &keys)
 }
 
 // Whether the bytes are a saved state: what BADSAVE does not refuse (R129).

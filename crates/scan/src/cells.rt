@@ -53,7 +53,7 @@ fn find_by_eight(s: &[u8], at: usize, from: usize, n: usize, mask: u64, x: u64) 
 }
 
 // The mask under which a cell is compared whole.
-pub const ALL: u64 = 0xffff_ffff_ffff_ffff;
+pub const ALL: u64 = u64::MAX;
 
 // The first cell from `from` on that is x under the mask; n where there is none (R45, R53). The eight at `from` are asked one by one: in a short table, and where many fit, the first is near. Where the mask is of all bits, the cells are compared without it.
 pub fn find_cell(s: &[u8], at: usize, from: usize, n: usize, mask: u64, x: u64) -> usize

@@ -18,7 +18,7 @@ use Rattle.tables.specs.View.{view}
 use Rattle.tables.specs.Rule.{laid}
 use Rattle.line_calls.specs.Answered.{lineText}
 use Rattle.script.specs.Step.{Answers, byBytes, byRules, endText, byteText, byteKept, Ended, Took}
-use Rattle.script.specs.Feed.{Going, start, step, fed, accepts, goes, went, viewed, Feeds, lastText, lastNext, finishes, Finishes}
+use Rattle.script.specs.Feed.{Going, start, step, fed, accepts, goes, went, viewed, Feeds, lastText, lastNext, endAccepts, Finishes}
 use Rattle.script.proofs.Carry.{length-carry, accepts-true, accepts-short, accepts-many}
 use Rattle.script.specs.declared.Next.{Next}
 use Rattle.script.specs.declared.Fed.the-variants.{Went, Refused}
@@ -184,7 +184,7 @@ module _ (mem₀ carry₀ : List ℕ) (kept₀ : ℕ) (piece out₀ : List ℕ) 
 -- ---- the end of the input
 
 module _ (mem carry : List ℕ) (kept : ℕ) (out : List ℕ) where
-  not-done : finishes carry kept (length out) ≡ false → Finishes mem carry kept out NotDone mem out
+  not-done : endAccepts carry kept (length out) ≡ false → Finishes mem carry kept out NotDone mem out
   not-done e = record {
     answer = rw e;
     bytes = rw e;
@@ -195,20 +195,20 @@ module _ (mem carry : List ℕ) (kept : ℕ) (out : List ℕ) where
   }
 
   pub not-short : length carry < 8192 → Finishes mem carry kept out NotDone mem out
-  unfolding finishes
+  unfolding endAccepts
   not-short h = not-done (rw (accepts-short carry kept h))
 
   pub not-many : 8192 ≤ length carry → 8193 < kept → Finishes mem carry kept out NotDone mem out
-  unfolding finishes
+  unfolding endAccepts
   not-many h k = not-done (rw (accepts-many carry kept h k))
 
   pub not-room : 8192 ≤ length carry → kept ≤ 8193 → length out < 64 → Finishes mem carry kept out NotDone mem out
-  unfolding finishes
+  unfolding endAccepts
   not-room h k r = not-done (rw (accepts-true carry kept h k, lt-leb 64 (length out) r))
 
   module _ (h : 8192 ≤ length carry) (k : kept ≤ 8193) (r : 64 ≤ length out) where
-    on : finishes carry kept (length out) ≡ true
-    unfolding finishes
+    on : endAccepts carry kept (length out) ≡ true
+    unfolding endAccepts
     on = rw (accepts-true carry kept h k, le-leb 64 (length out) r)
 
     pub done-none : kept ≡ 0 → Finishes mem carry kept out (Done 0) mem out

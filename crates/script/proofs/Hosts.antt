@@ -9,7 +9,7 @@ use borrow.Author.Tests.{le-leb}
 use Rattle.rules.specs.Bytes.{Bytes}
 use Rattle.storage.proofs.Bytes.{append-bytes, take-bytes, drop-bytes}
 use Rattle.script.specs.Step.{byBytes}
-use Rattle.script.specs.Feed.{accepts, finishes, lastText}
+use Rattle.script.specs.Feed.{accepts, endAccepts, lastText}
 use Rattle.script.specs.Runs.{usedIn, keptIn, Run, Onward, Lent, FeedOf, FinishOf, Host, CutBy, RunBy, EveryHost}
 use Rattle.script.specs.declared.Finished.the-variants.{Done}
 use Rattle.script.proofs.Onward.{onward}
@@ -33,7 +33,7 @@ front-most (suc n) (b ∷ bs) = omega (arith, front-most n bs)
 module _ (h : Host) where
   -- the finish is done
   ended : (mem carry : List ℕ) (kept : ℕ) → Lent mem → Lent carry → accepts carry kept ≡ true → RunBy h [] mem carry kept
-  unfolding Run CutBy finishes
+  unfolding Run CutBy endAccepts
   ended mem carry kept m c a =
       let f : FinishOf mem carry kept (h .lends []) = h .finish mem carry kept (h .lends []) a m c (h .lent []) in
       let done : f .answer ≡ Done (length (lastText (List ℕ) byBytes mem carry kept)) = f .finishes .answer ∙ rw (a, le-leb 64 (length (h .lends [])) (h .room [])) in

@@ -15,7 +15,7 @@ use Rattle.le.proofs.Writes.{take-write}
 use Rattle.tables.specs.View.{view}
 use Rattle.tables.specs.Rule.{laid}
 use Rattle.script.specs.Step.{byBytes, byRules}
-use Rattle.script.specs.Feed.{Going, start, accepts, goes, went, viewed, Feeds, lastText, lastNext, finishes, Finishes}
+use Rattle.script.specs.Feed.{Going, start, accepts, goes, went, viewed, Feeds, lastText, lastNext, endAccepts, Finishes}
 use Rattle.script.specs.Runs.{usedIn, wroteIn, keptIn, Feed, Finish, Run, written, WholeOf, EveryCutting}
 use Rattle.script.specs.declared.Fed.{Fed}
 use Rattle.script.specs.declared.Finished.the-variants.{Done, Refused as NotDone}
@@ -100,13 +100,13 @@ unfolding lastText
 same-last mem carry kept l = rw (same-end mem carry kept l)
 
 module _ (mem carry : List ℕ) (kept : ℕ) (out : List ℕ) (w : ℕ) (after left : List ℕ) (f : Finishes mem carry kept out (Done w) after left) where
-  accepted : (t : Bool) → finishes carry kept (length out) ≡ t → finishes carry kept (length out) ≡ true
+  accepted : (t : Bool) → endAccepts carry kept (length out) ≡ t → endAccepts carry kept (length out) ≡ true
   accepted true e = e
   accepted false e =
       let a : Done w ≡ NotDone = f .answer ∙ rw e in
       absurd (let z : _≡_ {A = ℕ} 0 1 = cc in let y : ⊥ = omega arith in y)
 
-  on : finishes carry kept (length out) ≡ true
+  on : endAccepts carry kept (length out) ≡ true
   on = accepted _ refl
 
   wrote-last : w ≡ length (lastText (List ℕ) byBytes mem carry kept)

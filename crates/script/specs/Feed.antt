@@ -79,14 +79,14 @@ unfoldable pub lastNext : (S : Type 0) → Answers S → S → List ℕ → ℕ 
 lastNext S a s carry kept = cond (eqb kept 0) s (endNext S a s carry kept)
 
 -- the carry is accepted, and the output has room for a line
-unfoldable pub finishes : List ℕ → ℕ → ℕ → Bool
-finishes carry kept room = accepts carry kept && leb 64 room
+unfoldable pub endAccepts : List ℕ → ℕ → ℕ → Bool
+endAccepts carry kept room = accepts carry kept && leb 64 room
 
 -- the input at its end: the answer, the bytes and the output exactly, and what the bytes stand for
 pub record Finishes (mem carry : List ℕ) (kept : ℕ) (out : List ℕ) (r : Finished) (after left : List ℕ) : Type 0 where
-  pub answer : r ≡ cond (finishes carry kept (length out)) (Done (length (lastText (List ℕ) byBytes mem carry kept))) NotDone
-  pub bytes : after ≡ cond (finishes carry kept (length out)) (lastNext (List ℕ) byBytes mem carry kept) mem
-  pub text : left ≡ cond (finishes carry kept (length out)) (write out 0 (lastText (List ℕ) byBytes mem carry kept)) out
-  pub within : finishes carry kept (length out) ≡ true → length (lastText (List ℕ) byBytes mem carry kept) ≤ length out
-  pub stands : laid mem ≡ true → view after ≡ cond (finishes carry kept (length out)) (lastNext Instance byRules (view mem) carry kept) (view mem)
+  pub answer : r ≡ cond (endAccepts carry kept (length out)) (Done (length (lastText (List ℕ) byBytes mem carry kept))) NotDone
+  pub bytes : after ≡ cond (endAccepts carry kept (length out)) (lastNext (List ℕ) byBytes mem carry kept) mem
+  pub text : left ≡ cond (endAccepts carry kept (length out)) (write out 0 (lastText (List ℕ) byBytes mem carry kept)) out
+  pub within : endAccepts carry kept (length out) ≡ true → length (lastText (List ℕ) byBytes mem carry kept) ≤ length out
+  pub stands : laid mem ≡ true → view after ≡ cond (endAccepts carry kept (length out)) (lastNext Instance byRules (view mem) carry kept) (view mem)
   pub keeps : laid mem ≡ true → laid after ≡ true

@@ -11,7 +11,7 @@ use Rattle.script.specs.Runs.{Feed, Finish, Run, written}
 
 -- 64 nodes, no option bits, no mapping (R137)
 abbrev pub sessionCreation : Creation
-sessionCreation = creationOf 64 0 (record { «in_opts» = 0; «out_opts» = 0; mapping = record { internal = 0; external = 0; range = 0 }; flags = 0 })
+sessionCreation = creationOf 64 0 (record { «in_opts» = 0; «out_opts» = 0; «id_mapping» = record { internal = 0; external = 0; range = 0 }; flags = 0 })
 
 -- on 40,960 bytes, whatever they held: all that is written is what the rules write for the input on a new instance of 64 nodes (R137, R150, R151)
 abbrev pub EverySession : Type 0

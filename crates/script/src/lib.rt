@@ -29,7 +29,7 @@ struct Next {
 // Says of a begun line that it is over the limit already (R150).
 const OVER: usize = rules::MAX_LINE + 1;
 
-// The output must have as much left for one more line.
+// An answer with its line end has at most 46 bytes; so many are asked for (D85).
 const ROOM: usize = 64;
 
 // The byte that ends a line (R151).

@@ -21,13 +21,15 @@ opened c place variable turns =
 abbrev pub anyOpen : List ℕ → Bool
 anyOpen c = leb 1 (depth c) && leb (depth c) 4
 
--- the turns that it has left, its place and its variable
+-- the turns that it has left
 abbrev pub left : List ℕ → ℕ
 left c = getD c (3 * depth c) 0
 
+-- its place
 abbrev pub placeOf : List ℕ → ℕ
 placeOf c = getD c (3 * depth c - 2) 0
 
+-- its variable
 abbrev pub variableOf : List ℕ → ℕ
 variableOf c = getD c (3 * depth c - 1) 0
 

@@ -36,8 +36,8 @@ module _ (mem : List ℕ) where
   unfolding optionsTold
   options-small e = sym (told-small mem optionsCall e)
 
-  pub options-by : (o : VfsOptions) → o .«in_opts» ≡ get 8 mem 40 → o .«out_opts» ≡ get 8 mem 48 → o .mapping .internal ≡ get 4 mem 68 → o .mapping .external ≡ get 4 mem 72
-      → o .mapping .range ≡ get 4 mem 76 → o .flags ≡ get 1 mem 80 → optionsIn o ≡ optionsFrom (headOf mem)
+  pub options-by : (o : VfsOptions) → o .«in_opts» ≡ get 8 mem 40 → o .«out_opts» ≡ get 8 mem 48 → o .«id_mapping» .internal ≡ get 4 mem 68 → o .«id_mapping» .external ≡ get 4 mem 72
+      → o .«id_mapping» .range ≡ get 4 mem 76 → o .flags ≡ get 1 mem 80 → optionsIn o ≡ optionsFrom (headOf mem)
   unfolding row get
   options-by o a b c d f g = λ t. record { inOpts = a t; outOpts = b t; mapping = record { internal = c t; external = d t; range = f t }; flags = g t }
 

@@ -44,7 +44,7 @@ pub all-put : (mem : List ℕ) (n known : ℕ) (o : VfsOptions) →
     putHeader 13 (bytesOf 1 (o .flags) ∷ bytesOf 1 1 ∷ bytesOf 1 0 ∷ bytesOf 1 0 ∷ bytesOf 8 0 ∷ [])
     (put 4 (put 4 (put 4 (put 4 (put 4 (put 4
     (putHeader 0 (bytesOf 8 mark ∷ bytesOf 8 n ∷ bytesOf 8 0 ∷ bytesOf 8 2 ∷ bytesOf 8 known ∷ bytesOf 8 (o .«in_opts») ∷ bytesOf 8 (o .«out_opts») ∷ []) (emptySlots mem))
-    56 (o .mapping .internal)) 60 (o .mapping .external)) 64 (o .mapping .range)) 68 (o .mapping .internal)) 72 (o .mapping .external)) 76 (o .mapping .range))
+    56 (o .«id_mapping» .internal)) 60 (o .«id_mapping» .external)) 64 (o .«id_mapping» .range)) 68 (o .«id_mapping» .internal)) 72 (o .«id_mapping» .external)) 76 (o .«id_mapping» .range))
     ≡ createMem (creationOf n known o) mem
 unfolding put putHeader putRow createMem spell headerOf newInstance
 all-put mem n known o = refl

@@ -15,7 +15,7 @@ use Rattle.rules.proofs.Tests.{fails}
 use Rattle.tables.specs.Table.{row}
 use Rattle.tables.specs.Layout.{mark, capacityOf, countOf, nextOf}
 use Rattle.tables.specs.View.{mappingFrom, optionsFrom, headOf, view}
-use Rattle.tables.specs.Rule.{laidBy, laid, Laid}
+use Rattle.tables.specs.Rule.{laidBy, laid, Bounds}
 use Rattle.tables.specs.Call.{Told, toldBy, toldSmall, answeredBy}
 use Rattle.tables.proofs.Keeps.{laid-is}
 
@@ -81,5 +81,5 @@ module _ (mem : List ℕ) (l : Bool) (le : l ≡ laid mem) (on : not l ≡ false
   pub laid-by : laid mem ≡ true
   laid-by = sym le ∙ not-false l on
 
-  pub rule-by : Laid mem
+  pub rule-by : Bounds mem
   rule-by = laid-is mem laid-by

@@ -13,13 +13,13 @@ use Rattle.le.specs.Mem.{bytesOf}
 use Rattle.rules.specs.Bytes.{Bytes}
 use Rattle.rules.specs.Numbers.{storageFor}
 use Rattle.rules.specs.Tree.{Mount}
-use Rattle.rules.specs.Instance.{Slot, Instance, withIndexes, withTree}
+use Rattle.rules.specs.Instance.{Slot, Instance, withTree, withSlots}
 use Rattle.tables.specs.Table.{tab}
 use Rattle.tables.specs.Layout.{header, slotTable}
-use Rattle.tables.specs.View.{slotsOf, nodesFrom, view}
+use Rattle.tables.specs.View.{nodesFrom, view}
 use Rattle.tables.specs.Rule.{laid}
 use Rattle.tables.specs.Write.{fromPlace, putHeader, yesByte, setSlot, mountCells, setRootMount}
-use Rattle.tables.proofs.Tab.{length-tab}
+use Rattle.tables.proofs.Indexes.{slots-count}
 use Rattle.tables.proofs.Refine.{view-slot, view-root-mount}
 use Rattle.tables.proofs.Keeps.{laid-long, laid-is, length-header, length-slot, keeps-slot, keeps-root}
 use Rattle.storage.specs.Header.{spell, headerOf}
@@ -39,18 +39,11 @@ unfolding setSlot
 slot-bytes k s mem h =
     row-bytes slotTable (bytesOf 1 (yesByte (s .held)) ∷ bytesOf 4 (s .tag) ∷ []) mem k h (number-bytes 1 (yesByte (s .held)), (number-bytes 4 (s .tag), omega arith))
 
-abbrev withSlots : List Slot → Instance → Instance
-withSlots ss i = withIndexes (record { slots = ss; counter = i .indexes .counter }) i
-
 pub record Slotted (mem : List ℕ) (ss : List Slot) (k : ℕ) (after : List ℕ) : Type 0 where
   pub size : length after ≡ length mem
   pub bytes : Bytes mem → Bytes after
   pub keeps : laid after ≡ true
   pub stands : view after ≡ withSlots (take k (view mem .indexes .slots) ++ ss) (view mem)
-
-slots-count : (mem : List ℕ) → length (view mem .indexes .slots) ≡ 256
-unfolding view slotsOf
-slots-count mem = length-tab _ 0 256
 
 slots-there : (ss : List Slot) (k : ℕ) (mem : List ℕ) → laid mem ≡ true → SlotsFit ss → k + length ss ≡ 256 → Slotted mem ss k (putSlots ss k mem)
 unfolding putSlots

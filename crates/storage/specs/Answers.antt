@@ -40,9 +40,9 @@ initializedTold InitializedSmall = toldSmall
 
 -- the options that the struct stands for (R27)
 abbrev pub optionsIn : VfsOptions → Options
-optionsIn o = record { inOpts = o .«in_opts»; outOpts = o .«out_opts»; mapping = mappingOf (o .mapping); flags = o .flags }
+optionsIn o = record { inOpts = o .«in_opts»; outOpts = o .«out_opts»; mapping = mappingOf (o .«id_mapping»); flags = o .flags }
 
--- of the query of the options (R27, R34)
+-- of the query of the options (R27, R33, R34)
 unfoldable pub optionsTold : OptionsOf → Told
 optionsTold (OptionsAre o) = tells (settings (optionsIn o))
 optionsTold OptionsSmall = toldSmall

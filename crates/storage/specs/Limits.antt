@@ -10,7 +10,7 @@ use Rattle.rules.specs.Tree.{Node}
 use Rattle.rules.specs.Instance.{Slot, Instance}
 use Rattle.rules.specs.Create.{unknown}
 use Rattle.rules.specs.RoundTrip.{OptionsFit}
-use Rattle.rules.specs.Numbers.{maxNodes, topNumber, storageFor}
+use Rattle.rules.specs.Numbers.{firstNumber, maxNodes, topNumber, storageFor}
 use Rattle.tables.specs.View.{view}
 use Rattle.tables.specs.Rule.{laid}
 use Rattle.tables.specs.Write.{MayFit}
@@ -39,7 +39,7 @@ pub record Limits (i : Instance) : Type 0 where
   pub some-node : 1 ≤ i .fixed .capacity
   pub few-nodes : i .fixed .capacity ≤ maxNodes
   pub live : length (i .tree .nodes) < i .fixed .capacity
-  pub low : 2 ≤ i .tree .next
+  pub low : firstNumber ≤ i .tree .next
   pub top : i .tree .next ≤ topNumber
   pub within : unknown (i .fixed .known) (i .options) ≡ false
   pub mapping : badMapping (i .fixed .mapping) ≡ false

@@ -23,7 +23,7 @@ pub fn options_in(s: &[u8]) -> VfsOptions
     requires { ⌜ 8192 ≤ length (now s) ⌝ }
     ensures { λ r. ⌜ optionsIn r ≡ optionsFrom (headOf (now (s .entry))) ⌝ }
 {
-    let mapping = id_map::IdMapping {
+    let id_mapping = id_map::IdMapping {
         internal: le::fields::get_u32(s, tables::header::OWN_INTERNAL_AT),
         external: le::fields::get_u32(s, tables::header::OWN_EXTERNAL_AT),
         range: le::fields::get_u32(s, tables::header::OWN_RANGE_AT),
@@ -31,7 +31,7 @@ pub fn options_in(s: &[u8]) -> VfsOptions
     VfsOptions {
         in_opts: le::fields::get_u64(s, tables::header::IN_OPTS_AT),
         out_opts: le::fields::get_u64(s, tables::header::OUT_OPTS_AT),
-        mapping,
+        id_mapping,
         flags: le::fields::get_u8(s, tables::header::FLAGS_AT),
     }
 }

@@ -39,7 +39,7 @@ pub enum IsInitialized {
 pub struct VfsOptions {
     pub in_opts: u64,
     pub out_opts: u64,
-    pub mapping: id_map::IdMapping,
+    pub id_mapping: id_map::IdMapping,
     pub flags: u8,
 }
 
@@ -66,7 +66,7 @@ fn is_small(bytes: usize, n: u64) -> bool
 }
 
 // Whether an option bit is outside the mask or a flag above bit 5 (R28, R29).
-fn has_bad(known: u64, o: VfsOptions) -> bool
+fn has_bad_options(known: u64, o: VfsOptions) -> bool
     ensures { λ r. ⌜ r ≡ badOptions known (optionsIn o) ⌝ }
 {
     if inner::is_unknown(known, o.in_opts, o.out_opts) {
@@ -93,13 +93,13 @@ pub fn is_laid(s: &[u8]) -> bool
         return false;
     }
     let next = le::fields::get_u64(s, tables::header::NEXT_AT);
-    if next < rules::FIRST_NODE {
+    if next < rules::PSEUDOFS_NEXT_INODE {
         return false;
     }
     if rules::NUMBERS < next {
         return false;
     }
-    if has_bad(
+    if has_bad_options(
         le::fields::get_u64(s, tables::header::KNOWN_AT),
         inner::options_in(s),
     ) {
@@ -138,7 +138,7 @@ fn put_words(s: &mut [u8], n: u64, known: u64, in_opts: u64, out_opts: u64)
     le::fields::put_u64(s, tables::header::MARK_AT, MARK);
     le::fields::put_u64(s, tables::header::CAPACITY_AT, n);
     le::fields::put_u64(s, tables::header::COUNT_AT, 0);
-    le::fields::put_u64(s, tables::header::NEXT_AT, rules::FIRST_NODE);
+    le::fields::put_u64(s, tables::header::NEXT_AT, rules::PSEUDOFS_NEXT_INODE);
     le::fields::put_u64(s, tables::header::KNOWN_AT, known);
     le::fields::put_u64(s, tables::header::IN_OPTS_AT, in_opts);
     le::fields::put_u64(s, tables::header::OUT_OPTS_AT, out_opts);
@@ -155,12 +155,12 @@ fn put_mapping(s: &mut [u8], at: usize, m: id_map::IdMapping)
 }
 
 // The flags, counter 1, removal unset, not initialized, no mount on the root.
-fn put_bytes(s: &mut [u8], flags: u8)
+fn put_rest(s: &mut [u8], flags: u8)
     requires { ⌜ 8192 ≤ length (now s) ⌝ }
     ensures { λ _. ⌜ now (s .exit) ≡ putHeader 13 (bytesOf 1 flags ∷ bytesOf 1 1 ∷ bytesOf 1 0 ∷ bytesOf 1 0 ∷ bytesOf 8 0 ∷ []) (now (s .entry)) ⌝ }
 {
     le::fields::put_u8(s, tables::header::FLAGS_AT, flags);
-    le::fields::put_u8(s, tables::header::COUNTER_AT, 1);
+    le::fields::put_u8(s, tables::header::COUNTER_AT, rules::FIRST_COUNTER);
     le::fields::put_u8(s, tables::header::REMOVAL_AT, 0);
     le::fields::put_u8(s, tables::header::INITIALIZED_AT, 0);
     le::fields::put_u64(s, tables::header::ROOT_CELL_AT, 0);
@@ -171,12 +171,12 @@ fn put_new(s: &mut [u8], n: usize, known: u64, o: VfsOptions)
     requires { ⌜ 8192 ≤ length (now s) ⌝ }
     ensures { λ _. ⌜ now (s .exit) ≡ createMem (creationOf n known o) (now (s .entry)) ⌝ }
 {
-    let mapping = o.mapping;
+    let id_mapping = o.id_mapping;
     put_slots(s);
     put_words(s, n as u64, known, o.in_opts, o.out_opts);
-    put_mapping(s, tables::header::INTERNAL_AT, mapping);
-    put_mapping(s, tables::header::OWN_INTERNAL_AT, mapping);
-    put_bytes(s, o.flags);
+    put_mapping(s, tables::header::INTERNAL_AT, id_mapping);
+    put_mapping(s, tables::header::OWN_INTERNAL_AT, id_mapping);
+    put_rest(s, o.flags);
 }
 
 // A new instance of N nodes, whatever the bytes held: SMALL, then BADOPT, then BADMAP, or done (R19, R26 to R34).
@@ -186,10 +186,10 @@ pub fn create(s: &mut [u8], n: usize, known: u64, o: VfsOptions) -> Created
     if is_small(s.len(), n as u64) {
         return Created::Small;
     }
-    if has_bad(known, o) {
+    if has_bad_options(known, o) {
         return Created::BadOpt;
     }
-    if id_map::is_bad(o.mapping) {
+    if id_map::is_bad(o.id_mapping) {
         return Created::BadMap;
     }
     put_new(s, n, known, o);
@@ -217,7 +217,7 @@ pub fn initialized(s: &[u8]) -> IsInitialized
     IsInitialized::Is(le::fields::get_u8(s, tables::header::INITIALIZED_AT) != 0)
 }
 
-// The options, with their own mapping; SMALL before all else (R19, R27, R34).
+// The options, with their own mapping; SMALL before all else (R19, R27, R33, R34).
 pub fn options(s: &[u8]) -> OptionsOf
     ensures { λ r. ⌜ optionsTold r ≡ answeredBy (now (s .entry)) optionsCall ⌝ }
 {

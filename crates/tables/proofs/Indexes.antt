@@ -1,4 +1,4 @@
--- Slots read from the memory: what one holds, and that a search over the lent occupancy bytes is a search over the slots.
+-- Slots read from the memory: how many, what one holds, and that a search over the lent occupancy bytes is a search over the slots.
 -- Assumes nothing.
 use mathlib.Core.Path.{_≡_, refl}
 use mathlib.Core.Bool.{Bool, not, cond, _&&_}
@@ -17,9 +17,15 @@ use Rattle.rules.specs.Instance.{tagInSlot}
 use Rattle.rules.specs.Round.{goingRound, untilTwice, visited, firstFree, freeOf, allocate}
 use Rattle.index.specs.Slots.{heldIn}
 use Rattle.tables.specs.Table.{row}
-use Rattle.tables.specs.View.{slotFrom, slotAt}
+use Rattle.tables.specs.View.{slotFrom, slotAt, slotsOf, view}
 use Rattle.tables.specs.Answer.{tagIn, heldAt}
 use Rattle.tables.specs.declared.slots.Tag.the-variants.{Held, Empty}
+use Rattle.tables.proofs.Tab.{length-tab}
+
+-- 256 slots are seen in the bytes
+pub slots-count : (mem : List ℕ) → length (view mem .indexes .slots) ≡ 256
+unfolding view slotsOf
+slots-count mem = length-tab _ 0 256
 
 -- ---- what a slot holds
 

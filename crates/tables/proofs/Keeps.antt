@@ -19,7 +19,7 @@ use Rattle.rules.proofs.Tests.{pass, passed}
 use Rattle.tables.specs.Table.{row, putRow}
 use Rattle.tables.specs.Layout.{header, slotTable, nodeTable, mark, capacityOf, countOf, nextOf}
 use Rattle.tables.specs.View.{field, mappingFrom, optionsFrom, headOf, nodesOf}
-use Rattle.tables.specs.Rule.{laidBy, laid, Laid}
+use Rattle.tables.specs.Rule.{laidBy, laid, Bounds}
 use Rattle.tables.specs.Write.{fromPlace, putHeader, setCount, setNext, setCounter, setRemoval, yesByte, setSlot, mountCells, rowMountCells, setRootMount, setRowMount, appendNode, removeRow}
 use Rattle.tables.specs.Answer.{placeIn, atPlace, nodeMountMem, removeMem}
 use Rattle.tables.proofs.Table.{over, Fit, length-putRow, length-closeUp}
@@ -86,7 +86,7 @@ pub laid-long : (mem : List ℕ) → laid mem ≡ true → 8192 ≤ length mem
 laid-long mem e = laid-ruled mem e .size .long
 
 -- what places of rows need
-pub laid-is : (mem : List ℕ) → laid mem ≡ true → Laid mem
+pub laid-is : (mem : List ℕ) → laid mem ≡ true → Bounds mem
 unfolding row get
 laid-is mem e =
     let r = laid-ruled mem e in

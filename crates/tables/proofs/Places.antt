@@ -13,7 +13,7 @@ use Rattle.rules.specs.Tree.{Mount, Node, nodeIn, mountAt, without, withMount, 
 use Rattle.rules.specs.Instance.{setMount, withTree, cut}
 use Rattle.tables.specs.Layout.{capacityOf, countOf}
 use Rattle.tables.specs.View.{nodeAt, nodesOf, view}
-use Rattle.tables.specs.Rule.{Laid}
+use Rattle.tables.specs.Rule.{Bounds}
 use Rattle.tables.specs.Write.{MayFit, setRootMount, setRowMount, removeRow}
 use Rattle.tables.specs.Answer.{later, placeIn, atPlace, nodeMountMem, removeMem}
 use Rattle.tables.proofs.Tab.{removeAt, length-tab, tab-at}
@@ -92,7 +92,7 @@ module _ (mem : List ℕ) where
   pub node-found : (x i : ℕ) → placeIn (nodesOf mem) x ≡ some i → nodeIn (nodesOf mem) x ≡ some (nodeAt (capacityOf mem) mem i)
   node-found x i e = place-first (nodesOf mem) x i e .node ∙ ap some (nodes-at i (row-below x i e))
 
-module _ (mem : List ℕ) (d : Laid mem) (x : ℕ) where
+module _ (mem : List ℕ) (d : Bounds mem) (x : ℕ) where
   row-nowhere : (m : Option Mount) → placeIn (nodesOf mem) x ≡ none
       → view mem ≡ withTree (record { next = view mem .tree .next; root = view mem .tree .root; nodes = mountAt m (view mem .tree .nodes) x }) (view mem)
   unfolding view

@@ -18,7 +18,7 @@ use Rattle.tables.specs.Layout.{header, slotTable, nodeTable, capacityOf
 use Rattle.tables.specs.View.{field, mountFrom, nodeFrom, slotFrom, instanceFrom, headOf, slotAt, nodeAt, slotsOf, nodesFrom, nodesOf, view}
 use Rattle.tables.specs.Write.{fromPlace, setCount, setCounter, setRemoval, yesByte, setSlot, mountCells, rowMountCells, MayFit, setRootMount, setRowMount, nodeCells, appendNode, removeRow}
 use Rattle.tables.proofs.Tab.{removeAt, tab-same, tab-set, tab-append, tab-remove}
-use Rattle.tables.specs.Rule.{Laid}
+use Rattle.tables.specs.Rule.{Bounds}
 use Rattle.tables.proofs.Table.{over, Fit, length-putRow, length-closeUp, upper-kept, lower-kept, close-low, close-high, put-other, put-same}
 use Rattle.tables.proofs.Spells.{cell-back, yes-back, yes-fits, mount-word, mount-written, cells-fit, node-written, mount-fit, root-fit}
 use Rattle.tables.proofs.Heads.{slots-ordered, nodes-ordered, header-beneath, slots-beneath, slots-above, nodes-above, view-header, low-head, low-slots, put-low, closed-low, head-low, view-low, two-fields, one-fit, fields-fit}
@@ -123,7 +123,7 @@ rows-closed n mem i k fits l =
 
 -- ---- what the writes of rows and mounts do
 
-module _ (mem : List ℕ) (d : Laid mem) where
+module _ (mem : List ℕ) (d : Bounds mem) where
   abbrev n : ℕ
   n = capacityOf mem
 

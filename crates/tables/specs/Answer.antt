@@ -31,7 +31,7 @@ unfoldable pub rowIn : Row → Option ℕ
 rowIn (At i) = some i
 rowIn RowNothing = none
 
--- a mount of the rules (R3)
+-- a mount of the rules (R3, R76)
 abbrev pub mountOfPoint : MountPoint → Mount
 mountOfPoint m = record { index = m .«fs_idx»; root = m .ino; uid = m .uid; gid = m .gid; mode = m .mode }
 

@@ -46,7 +46,7 @@ writtenBy mem f = cond (laid mem) (f (view mem) .written) []
 
 -- ---- contracts, with the answer as a function of what is told: an export of `gateway` has its plain numbers
 
--- of a call that lays bytes into the lent output d, which is e then: the answer; the bytes stand at its start, and later ones keep what they held (R15, R17)
+-- of a call that lays bytes into the lent output d, which is e then: the answer; the bytes stand at its start, and later ones keep what they held (R15, R17, R65, R125)
 pub record WritesBy {A : Type 0} (says : Told → A) (mem : List ℕ) (f : Instance → Outcome) (d : List ℕ) (r : A) (e : List ℕ) : Type 0 where
   pub answer : r ≡ says (answeredBy mem f)
   pub bytes : e ≡ write d 0 (writtenBy mem f)
@@ -62,6 +62,6 @@ pub record DoesBy {A : Type 0} (says : Told → A) (mem : List ℕ) (f : Instanc
 abbrev pub Writes : List ℕ → (Instance → Outcome) → List ℕ → Told → List ℕ → Type 0
 Writes = WritesBy (λ (t : Told). t)
 
--- `DoesBy` where it is (R15, R21)
+-- `DoesBy` where the answer is what is told (R15, R21)
 abbrev pub Does : List ℕ → (Instance → Outcome) → Told → List ℕ → List ℕ → Type 0
 Does = DoesBy (λ (t : Told). t)

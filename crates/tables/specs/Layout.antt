@@ -76,8 +76,8 @@ abbrev pub nextOf : List ℕ → ℕ
 nextOf mem = get 8 mem 24
 
 -- the counter (R80)
-abbrev pub counterAt : List ℕ → ℕ
-counterAt mem = get 1 mem 81
+abbrev pub counterByte : List ℕ → ℕ
+counterByte mem = get 1 mem 81
 
 -- ---- where the name of row i stands, in a table of N rows
 

@@ -4,23 +4,23 @@ use mathlib.Core.Bool.{Bool, not}
 use mathlib.Core.List.{List, [], _∷_}
 use lib.ListN.{length}
 use lib.Dec.{leb, ltb, eqb}
-use Rattle.rules.specs.Numbers.{maxNodes, topNumber, storageFor}
+use Rattle.rules.specs.Numbers.{firstNumber, maxNodes, topNumber, storageFor}
 use Rattle.rules.specs.Ids.{badMapping}
 use Rattle.rules.specs.Create.{tooSmall, badOptions}
 use Rattle.rules.specs.Saved.{every}
-use Rattle.tables.specs.Layout.{mark, capacityOf, countOf, nextOf}
+use Rattle.tables.specs.Layout.{mark, tableAt, capacityOf, countOf, nextOf}
 use Rattle.tables.specs.View.{field, mappingFrom, optionsFrom, headOf}
 
--- of the header's cells and the number of bytes: the mark stands, the root and the nodes are at most N, the next number is within its limits; and N, the number of
+-- of the header's cells and the number of bytes: header and slots have room, the mark stands, the root and the nodes are at most N, the next number is within its limits; and N, the number of
 -- bytes, the options and the mapping in force pass the tests of creation (R20, R22)
 unfoldable pub laidBy : List (List ℕ) → ℕ → Bool
 laidBy h bytes =
     every
-    (leb 8192 bytes
+    (leb tableAt bytes
     ∷ eqb (field 0 h) mark
     ∷ not (tooSmall bytes (field 1 h))
     ∷ ltb (field 2 h) (field 1 h)
-    ∷ leb 2 (field 3 h)
+    ∷ leb firstNumber (field 3 h)
     ∷ leb (field 3 h) topNumber
     ∷ not (badOptions (field 4 h) (optionsFrom h))
     ∷ not (badMapping (mappingFrom 7 h))
@@ -30,8 +30,8 @@ laidBy h bytes =
 unfoldable pub laid : List ℕ → Bool
 laid mem = laidBy (headOf mem) (length mem)
 
--- what follows from it for places of rows and for new numbers
-pub record Laid (mem : List ℕ) : Type 0 where
+-- what follows from it for places of rows and for new numbers: the bounds that inner functions ask for
+pub record Bounds (mem : List ℕ) : Type 0 where
   pub few-nodes : capacityOf mem ≤ maxNodes
   pub long : storageFor (capacityOf mem) ≤ length mem
   pub live : countOf mem < capacityOf mem

@@ -8,6 +8,7 @@ pub record Col : Type 0 where
   pub base : ℕ
   pub width : ℕ
 
+-- such a column
 abbrev pub col : ℕ → ℕ → Col
 col base width = record { base = base; width = width }
 

@@ -3,9 +3,9 @@ ghost use mathlib.Core.Path.{_≡_};
 ghost use Prim.Native.Nat.{_≤_};
 ghost use lib.ListN.{length};
 ghost use Rattle.id_map.specs.Mapping.{mappingOf};
-ghost use Rattle.tables.specs.Layout.{capacityOf, countOf, nextOf, counterAt};
+ghost use Rattle.tables.specs.Layout.{capacityOf, countOf, nextOf, counterByte};
 ghost use Rattle.tables.specs.View.{flag, mappingFrom, headOf};
-ghost use Rattle.tables.specs.Rule.{Laid};
+ghost use Rattle.tables.specs.Rule.{Bounds};
 ghost use Rattle.tables.specs.Write.{setCounter, setRemoval};
 
 // Where each number stands (docs/LAYOUT.md).
@@ -55,7 +55,7 @@ pub const ROOT_MODE_AT: usize = 104;
 
 // N (R9).
 pub fn capacity(s: &[u8]) -> usize
-    requires { ⌜ Laid (now s) ⌝ }
+    requires { ⌜ Bounds (now s) ⌝ }
     ensures { λ r. ⌜ r ≡ capacityOf (now (s .entry)) ⌝ }
 {
     le::fields::get_u64(s, CAPACITY_AT) as usize
@@ -63,7 +63,7 @@ pub fn capacity(s: &[u8]) -> usize
 
 // How many nodes are live besides the root (R51).
 pub fn count(s: &[u8]) -> usize
-    requires { ⌜ Laid (now s) ⌝ }
+    requires { ⌜ Bounds (now s) ⌝ }
     ensures { λ r. ⌜ r ≡ countOf (now (s .entry)) ⌝ }
 {
     le::fields::get_u64(s, COUNT_AT) as usize
@@ -71,7 +71,7 @@ pub fn count(s: &[u8]) -> usize
 
 // The next number (R49).
 pub fn next(s: &[u8]) -> u64
-    requires { ⌜ Laid (now s) ⌝ }
+    requires { ⌜ Bounds (now s) ⌝ }
     ensures { λ r. ⌜ r ≡ nextOf (now (s .entry)) ⌝ }
 {
     le::fields::get_u64(s, NEXT_AT)
@@ -80,7 +80,7 @@ pub fn next(s: &[u8]) -> u64
 // The counter (R80).
 pub fn counter(s: &[u8]) -> u8
     requires { ⌜ 8192 ≤ length (now s) ⌝ }
-    ensures { λ r. ⌜ r ≡ counterAt (now (s .entry)) ⌝ }
+    ensures { λ r. ⌜ r ≡ counterByte (now (s .entry)) ⌝ }
 {
     le::fields::get_u8(s, COUNTER_AT)
 }

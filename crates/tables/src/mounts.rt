@@ -5,7 +5,7 @@ ghost use Prim.Native.Nat.{_<_, _^_};
 ghost use Rattle.rules.specs.Instance.{mountOf as mountOfTree};
 ghost use Rattle.tables.specs.Layout.{capacityOf, countOf};
 ghost use Rattle.tables.specs.View.{mountFrom, nodeAt, nodesOf, view};
-ghost use Rattle.tables.specs.Rule.{Laid};
+ghost use Rattle.tables.specs.Rule.{Bounds};
 ghost use Rattle.tables.specs.Write.{setRootMount, setRowMount};
 ghost use Rattle.tables.specs.Answer.{mountOfPoint, mountIn, RowOf, WithParent, nodeMountMem};
 use crate::rows::Row;
@@ -44,7 +44,7 @@ fn spelt(word: u64, uid: u32, gid: u32, mode: u32) -> MountOn
 
 // The mount on the root (R52).
 pub fn of_root(s: &[u8]) -> MountOn
-    requires { ⌜ Laid (now s) ⌝ }
+    requires { ⌜ Bounds (now s) ⌝ }
     ensures { λ r. ⌜ mountIn r ≡ view (now (s .entry)) .tree .root ⌝ }
 {
     spelt(
@@ -56,8 +56,8 @@ pub fn of_root(s: &[u8]) -> MountOn
 }
 
 // The mount of row i (R76).
-pub fn of_row(s: &[u8], i: usize) -> MountOn
-    requires { ⌜ Laid (now s) ⌝ }
+fn of_row(s: &[u8], i: usize) -> MountOn
+    requires { ⌜ Bounds (now s) ⌝ }
     requires { ⌜ i < countOf (now s) ⌝ }
     ensures { λ r. ⌜ mountIn r ≡ nodeAt (capacityOf (now (s .entry))) (now (s .entry)) i .mount ⌝ }
 {
@@ -72,7 +72,7 @@ pub fn of_row(s: &[u8], i: usize) -> MountOn
 
 // The mount on the node of that number; 1 is the root before any row is asked (R52).
 pub fn of_node(s: &[u8], x: u64) -> MountOn
-    requires { ⌜ Laid (now s) ⌝ }
+    requires { ⌜ Bounds (now s) ⌝ }
     ensures { λ r. ⌜ mountIn r ≡ mountOfTree (view (now (s .entry)) .tree) x ⌝ }
 {
     if x == rules::ROOT_ID {
@@ -93,7 +93,7 @@ pub struct NodeMount {
 
 // The mount on the node of that number, its parent's number and its row, by one search (R52, R54).
 pub fn with_parent(s: &[u8], x: u64) -> NodeMount
-    requires { ⌜ Laid (now s) ⌝ }
+    requires { ⌜ Bounds (now s) ⌝ }
     ensures { λ r. ⌜ WithParent (now (s .entry)) x r ⌝ }
 {
     if x == rules::ROOT_ID {
@@ -119,7 +119,7 @@ pub fn with_parent(s: &[u8], x: u64) -> NodeMount
 
 // The root has that mount.
 fn put_root(s: &mut [u8], m: MountPoint)
-    requires { ⌜ Laid (now s) ⌝ }
+    requires { ⌜ Bounds (now s) ⌝ }
     requires { ⌜ m .ino < 2 ^ 56 ⌝ }
     ensures { λ _. ⌜ now (s .exit) ≡ setRootMount (some (mountOfPoint m)) (now (s .entry)) ⌝ }
 {
@@ -132,7 +132,7 @@ fn put_root(s: &mut [u8], m: MountPoint)
 
 // Row i has that mount.
 fn put_row(s: &mut [u8], i: usize, m: MountPoint)
-    requires { ⌜ Laid (now s) ⌝ }
+    requires { ⌜ Bounds (now s) ⌝ }
     requires { ⌜ i < countOf (now s) ⌝ }
     requires { ⌜ m .ino < 2 ^ 56 ⌝ }
     ensures { λ _. ⌜ now (s .exit) ≡ setRowMount (some (mountOfPoint m)) i (now (s .entry)) ⌝ }
@@ -147,7 +147,7 @@ fn put_row(s: &mut [u8], i: usize, m: MountPoint)
 
 // The node of that number, in that row, has that mount (R76).
 pub fn set(s: &mut [u8], x: u64, row: Row, m: MountPoint)
-    requires { ⌜ Laid (now s) ⌝ }
+    requires { ⌜ Bounds (now s) ⌝ }
     requires { ⌜ RowOf (now s) x row ⌝ }
     requires { ⌜ m .ino < 2 ^ 56 ⌝ }
     ensures { λ _. ⌜ now (s .exit) ≡ nodeMountMem (nodesOf (now (s .entry))) (some (mountOfPoint m)) x (now (s .entry)) ⌝ }
@@ -164,7 +164,7 @@ pub fn set(s: &mut [u8], x: u64, row: Row, m: MountPoint)
 
 // The node of that number, in that row, has no mount (R98).
 pub fn clear(s: &mut [u8], x: u64, row: Row)
-    requires { ⌜ Laid (now s) ⌝ }
+    requires { ⌜ Bounds (now s) ⌝ }
     requires { ⌜ RowOf (now s) x row ⌝ }
     ensures { λ _. ⌜ now (s .exit) ≡ nodeMountMem (nodesOf (now (s .entry))) none x (now (s .entry)) ⌝ }
 {

@@ -11,7 +11,7 @@ ghost use Rattle.rules.specs.Tree.{isChild, childIn, isKnown, parentIn};
 ghost use Rattle.tables.specs.Table.{putRow, closeUp};
 ghost use Rattle.tables.specs.Layout.{nodeTable, tableAt, capacityOf, countOf, nextOf};
 ghost use Rattle.tables.specs.View.{nodeAt, nodesOf};
-ghost use Rattle.tables.specs.Rule.{Laid};
+ghost use Rattle.tables.specs.Rule.{Bounds};
 ghost use Rattle.tables.specs.Write.{nodeCells, appendNode, removeRow};
 ghost use Rattle.tables.specs.Answer.{foundIn, rowIn, placeIn};
 
@@ -35,7 +35,7 @@ const NUMBER_BITS: u64 = rules::VFS_MAX_INO;
 
 // The number of row i (R5).
 pub fn number(s: &[u8], i: usize) -> u64
-    requires { ⌜ Laid (now s) ⌝ }
+    requires { ⌜ Bounds (now s) ⌝ }
     requires { ⌜ i < countOf (now s) ⌝ }
     ensures { λ r. ⌜ r ≡ nodeAt (capacityOf (now (s .entry))) (now (s .entry)) i .number ⌝ }
 {
@@ -44,7 +44,7 @@ pub fn number(s: &[u8], i: usize) -> u64
 
 // The parent's number of row i (R5).
 pub fn parent(s: &[u8], i: usize) -> u64
-    requires { ⌜ Laid (now s) ⌝ }
+    requires { ⌜ Bounds (now s) ⌝ }
     requires { ⌜ i < countOf (now s) ⌝ }
     ensures { λ r. ⌜ r ≡ nodeAt (capacityOf (now (s .entry))) (now (s .entry)) i .above ⌝ }
 {
@@ -54,7 +54,7 @@ pub fn parent(s: &[u8], i: usize) -> u64
 
 // The first row from `from` on whose name's cell is that of the key; the count where there is none. Rows of that name are among them (R45).
 pub fn next_alike(s: &[u8], from: usize, key: NameKey) -> usize
-    requires { ⌜ Laid (now s) ⌝ }
+    requires { ⌜ Bounds (now s) ⌝ }
     requires { ⌜ from ≤ countOf (now s) ⌝ }
     ensures { λ r. ⌜ r ≡ firstPlace (cellIs (now (s .entry)) (tableAt + 24 * capacityOf (now (s .entry))) (key .mask) (key .word)) from (countOf (now (s .entry)) - from) ⌝ }
 {
@@ -82,7 +82,7 @@ fn same_start(s: &[u8], p: usize, name: &[u8]) -> bool
 // Whether row i, whose name's cell is that of the name, is the child of that name: what is left to compare is the parent and the bytes before the last seven; a name over
 // 255 bytes is no row's (R10, R45).
 pub fn child_alike(s: &[u8], i: usize, here: u64, name: &[u8]) -> bool
-    requires { ⌜ Laid (now s) ⌝ }
+    requires { ⌜ Bounds (now s) ⌝ }
     requires { ⌜ i < countOf (now s) ⌝ }
     requires { ⌜ cellIs (now s) (tableAt + 24 * capacityOf (now s)) (maskOf (now name)) (wordOf (now name)) i ≡ true ⌝ }
     ensures { λ r. ⌜ r ≡ isChild here (now (name .entry)) (nodeAt (capacityOf (now (s .entry))) (now (s .entry)) i) ⌝ }
@@ -99,7 +99,7 @@ pub fn child_alike(s: &[u8], i: usize, here: u64, name: &[u8]) -> bool
 
 // The first child of that name (R45).
 pub fn find_child(s: &[u8], here: u64, name: &[u8]) -> Found
-    requires { ⌜ Laid (now s) ⌝ }
+    requires { ⌜ Bounds (now s) ⌝ }
     ensures { λ r. ⌜ foundIn r ≡ childIn (nodesOf (now (s .entry))) here (now (name .entry)) ⌝ }
 {
     let c = crate::header::count(s);
@@ -119,7 +119,7 @@ pub fn find_child(s: &[u8], here: u64, name: &[u8]) -> Found
 
 // The row of the first node of that number (R53).
 pub fn find_row(s: &[u8], x: u64) -> Row
-    requires { ⌜ Laid (now s) ⌝ }
+    requires { ⌜ Bounds (now s) ⌝ }
     ensures { λ r. ⌜ rowIn r ≡ placeIn (nodesOf (now (s .entry))) x ⌝ }
 {
     let c = crate::header::count(s);
@@ -132,14 +132,14 @@ pub fn find_row(s: &[u8], x: u64) -> Row
 
 // Whether the number is the root's or a node's; the row that it has where no node was removed before it is asked first (R52).
 pub fn is_known(s: &[u8], x: u64) -> bool
-    requires { ⌜ Laid (now s) ⌝ }
+    requires { ⌜ Bounds (now s) ⌝ }
     ensures { λ r. ⌜ r ≡ isKnown (nodesOf (now (s .entry))) x ⌝ }
 {
     if x == rules::ROOT_ID {
         return true;
     }
-    if rules::FIRST_NODE <= x {
-        let i = (x - rules::FIRST_NODE) as usize;
+    if rules::PSEUDOFS_NEXT_INODE <= x {
+        let i = (x - rules::PSEUDOFS_NEXT_INODE) as usize;
         if i < crate::header::count(s) {
             if number(s, i) == x {
                 return true;
@@ -154,7 +154,7 @@ pub fn is_known(s: &[u8], x: u64) -> bool
 
 // The parent's number; the root's is the root's, and so is that of a number which is no node (R39, R52, R54, R58).
 pub fn parent_of(s: &[u8], x: u64) -> u64
-    requires { ⌜ Laid (now s) ⌝ }
+    requires { ⌜ Bounds (now s) ⌝ }
     ensures { λ r. ⌜ r ≡ parentIn (nodesOf (now (s .entry))) x ⌝ }
 {
     if x == rules::ROOT_ID {
@@ -193,7 +193,7 @@ fn put_node(s: &mut [u8], n: usize, i: usize, x: u64, above: u64, name: &[u8])
 
 // A new node at the end takes the next number (R48, R49).
 pub fn append(s: &mut [u8], above: u64, name: &[u8])
-    requires { ⌜ Laid (now s) ⌝ }
+    requires { ⌜ Bounds (now s) ⌝ }
     requires { ⌜ countOf (now s) + 1 < capacityOf (now s) ⌝ }
     requires { ⌜ nextOf (now s) < 2 ^ 56 ⌝ }
     requires { ⌜ length (now name) ≤ 255 ⌝ }
@@ -224,7 +224,7 @@ fn close_up(s: &mut [u8], n: usize, k: usize, m: usize)
 
 // Row i goes, and those behind it close up (R25, R44).
 pub fn remove(s: &mut [u8], i: usize)
-    requires { ⌜ Laid (now s) ⌝ }
+    requires { ⌜ Bounds (now s) ⌝ }
     requires { ⌜ i < countOf (now s) ⌝ }
     ensures { λ _. ⌜ now (s .exit) ≡ removeRow i (now (s .entry)) ⌝ }
 {

@@ -22,7 +22,7 @@ use Rattle.rules.proofs.Allocation.{exact}
 use Rattle.index.specs.Search.{readOf, told as toldFound, foundOf}
 use Rattle.index.specs.declared.FsIndex.the-variants.{Index, Full as IndexFull}
 use Rattle.index.specs.declared.Allocated.{Allocated}
-use Rattle.tables.specs.Layout.{counterAt}
+use Rattle.tables.specs.Layout.{counterByte}
 use Rattle.tables.specs.Table.{row}
 use Rattle.tables.specs.View.{view}
 use Rattle.tables.specs.Rule.{laid}
@@ -42,7 +42,7 @@ use Rattle.vfs.specs.Restoring.{restoredTold, RestoresAt}
 use Rattle.vfs.specs.declared.backend.Backend.{Backend}
 use Rattle.vfs.specs.declared.mounting.Mounted.{Mounted}
 use Rattle.vfs.specs.declared.mounting.Mounted.the-variants.{Done as Mounted-Done, Inval, Inode, Full}
-use Rattle.vfs.specs.declared.restoring.Restored.the-variants.{Done as Restored-Done, Inode as Restored-Inode}
+use Rattle.vfs.specs.declared.restoring.RestoredMount.the-variants.{Done as Restored-Done, Inode as Restored-Inode}
 
 -- ---- row 8, by the placing
 
@@ -118,21 +118,21 @@ module _ (mem : List ℕ) (l : laid mem ≡ true) where
 -- ---- the search over the bytes is the allocation of the view
 
 module _ (mem : List ℕ) (l : laid mem ≡ true) (bytes : Bytes mem) where
-  counter-is : counterOf (view mem) ≡ counterAt mem
+  counter-is : counterOf (view mem) ≡ counterByte mem
   unfolding view row get
   counter-is = refl
 
-  allocation-is : allocation (view mem) ≡ allocate (heldAt mem) (counterAt mem)
+  allocation-is : allocation (view mem) ≡ allocate (heldAt mem) (counterByte mem)
   unfolding allocation
   allocation-is =
       ap (allocate (heldIn (view mem))) counter-is
-      ∙ allocate-same (heldIn (view mem)) (heldAt mem) (λ k h. ap (λ s. s .held) (slot-of mem k h)) (counterAt mem) (get-fits 1 mem 81 bytes)
+      ∙ allocate-same (heldIn (view mem)) (heldAt mem) (λ k h. ap (λ s. s .held) (slot-of mem k h)) (counterByte mem) (get-fits 1 mem 81 bytes)
 
   index-up : (k : ℕ) → allocation (view mem) .found ≡ some k → 1 ≤ k
   unfolding allocation
   index-up k e = exact (heldIn (view mem)) (counterOf (view mem)) (counter-in mem bytes) .handed-out k .0 e .1 .least
 
-  pub allocates : (a : Allocated) → readOf a ≡ toldFound (allocate (heldAt mem) (counterAt mem)) → (after : List ℕ) → after ≡ setCounter (a .«next_super») mem → Allocates mem a after
+  pub allocates : (a : Allocated) → readOf a ≡ toldFound (allocate (heldAt mem) (counterByte mem)) → (after : List ℕ) → after ≡ setCounter (a .«next_super») mem → Allocates mem a after
   unfolding readOf toldFound foundOf allocMem
   allocates a h after w =
       let as-told : readOf a ≡ toldFound (allocation (view mem)) = h ∙ ap toldFound (sym allocation-is) in

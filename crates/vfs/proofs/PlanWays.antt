@@ -17,7 +17,7 @@ use Rattle.index.specs.declared.FsIndex.the-variants.{Index, Full as IndexFull}
 use Rattle.index.specs.declared.Allocated.{Allocated}
 use Rattle.tables.specs.Layout.{nextOf, countOf, capacityOf}
 use Rattle.tables.specs.View.{view}
-use Rattle.tables.specs.Rule.{laid, Laid}
+use Rattle.tables.specs.Rule.{laid, Bounds}
 use Rattle.tables.specs.Call.{Told, toldBy, counted}
 use Rattle.tables.proofs.Keeps.{laid-is}
 use Rattle.plan.specs.Plan.{Columns, plannedFrom, Within, Plans}
@@ -31,8 +31,8 @@ use Rattle.vfs.specs.Restoring.{restoredTold, restoredRule, restoredMem,
 use Rattle.vfs.specs.declared.backend.Backend.{Backend}
 use Rattle.vfs.specs.declared.mounting.Mounted.{Mounted}
 use Rattle.vfs.specs.declared.mounting.Mounted.the-variants.{NoRoom, Full}
-use Rattle.vfs.specs.declared.restoring.Restored.{Restored}
-use Rattle.vfs.specs.declared.restoring.Restored.the-variants.{NoRoom as Restored-NoRoom}
+use Rattle.vfs.specs.declared.restoring.RestoredMount.{RestoredMount}
+use Rattle.vfs.specs.declared.restoring.RestoredMount.the-variants.{NoRoom as Restored-NoRoom}
 use Rattle.vfs.proofs.MountWays.{found-is, visited-is}
 
 -- ---- the nodes of the path: m has them all, and the path ends at x
@@ -52,7 +52,7 @@ module _ (mem path : List ℕ) (l : laid mem ≡ true) where
 
   -- the plan has those that are missing
   module _ (t : Columns) (node nodes : ℕ) (f : Fitted mem path t node nodes) where
-    pub applies : Laid mem × (((countOf mem + nodes < capacityOf mem) × (nextOf mem + nodes ≤ 2 ^ 56)) × Within path t nodes)
+    pub applies : Bounds mem × (((countOf mem + nodes < capacityOf mem) × (nextOf mem + nodes ≤ 2 ^ 56)) × Within path t nodes)
     applies = (laid-is mem l, ((f .rows, f .numbers), f .named))
 
     pub plan-leads : (m : List ℕ) → m ≡ appendAll (plannedFrom path (nextOf mem) t 0 nodes) mem → Leads mem path m node
@@ -162,7 +162,7 @@ module _ (mem path : List ℕ) (k : ℕ) (b : Backend) where
   abbrev Q : Request
   Q = requestOf path b
 
-  abbrev Back : Restored → List ℕ → Type 0
+  abbrev Back : RestoredMount → List ℕ → Type 0
   Back r after = Follows (restoredRule (view mem) k Q) (restoredMem k Q mem) (restoredTold r) after
 
   pub no-room-back : laid mem ≡ true → (t : Columns) (q : Planned) → Plans mem path t q → q ≡ PlanNoRoom → Back Restored-NoRoom mem
@@ -181,7 +181,7 @@ module _ (mem path : List ℕ) (k : ℕ) (b : Backend) where
   unfolding restoreAs firstOf
   back-is room on = rw (room, on)
 
-  pub restores-way : laid mem ≡ true → tooLong path ≡ false → rooted path ≡ true → (m : List ℕ) (x : ℕ) → Leads mem path m x → (r : Restored) (after : List ℕ) → RestoresAt m k x b r after → Back r after
+  pub restores-way : laid mem ≡ true → tooLong path ≡ false → rooted path ≡ true → (m : List ℕ) (x : ℕ) → Leads mem path m x → (r : RestoredMount) (after : List ℕ) → RestoresAt m k x b r after → Back r after
   unfolding placed restoredMem
   restores-way l s on m x w r after e =
       let v : view m ≡ walkedTo path (view mem) = leads-view mem path l s m x w in

@@ -1,19 +1,18 @@
 -- What a refused mount, restored mount or unmount leaves of the bytes, from the bytes that the contracts name. Assumes nothing.
 use mathlib.Core.Path.{_≡_, refl, ap, _∙_}
 use mathlib.Core.Bool.{Bool, true, false, cond, _&&_}
-use mathlib.Core.Logic.{inl, inr, ⊎-elim}
+use mathlib.Core.Logic.{⊎-elim}
 use mathlib.Core.List.{List}
 use mathlib.Core.Option.{Option, none, some}
-use Prim.Native.Nat.{ℕ}
+use Prim.Native.Nat.{ℕ, _≤_, _<_}
 use native.Mathlib.Omega.{arith}
 use lib.ListN.{length}
 use lib.Dec.{ltb}
-use borrow.Author.Tests.{not-true, not-false}
+use borrow.Author.Tests.{not-true, not-false, ltb-true, ltb-false}
 use Rattle.rules.specs.Numbers.{maxIno, INODE}
 use Rattle.rules.specs.Path.{rooted}
-use Rattle.rules.specs.Round.{visited}
 use Rattle.rules.specs.Tree.{Mount}
-use Rattle.rules.specs.Outcome.{Outcome, count}
+use Rattle.rules.specs.Outcome.{Outcome}
 use Rattle.rules.specs.Mount.{Request, noRoom, allocation, mountAs, mountRule, restoreAs, restoreMountRule}
 use Rattle.rules.specs.Unmount.{badPath, reached, mountUnder, unmounts, unmountAt, unmountRule}
 use Rattle.rules.proofs.Tests.{known, and-both, and-rest}
@@ -24,7 +23,7 @@ use Rattle.tables.specs.Rule.{laid}
 use Rattle.tables.specs.Write.{setCounter}
 use Rattle.tables.specs.Call.{Told, toldBy, answeredBy}
 use Rattle.vfs.specs.Mounting.{allocMem, endMem, walkMem, plannedMem, foundMem, rootedMem, early, mountMem}
-use Rattle.vfs.specs.Restoring.{restoredMem, stopped, restoreMem}
+use Rattle.vfs.specs.Restoring.{restoredMem, stopped, restoreMountMem}
 use Rattle.vfs.specs.Unmounting.{offMem, unmountMem}
 use Rattle.vfs.specs.Refused.{movedMem, MountLeaves, RestoredLeaves, EveryRefusedCall}
 
@@ -118,14 +117,17 @@ module _ (r : Request) (mem : List ℕ) where
 
 module _ (k : ℕ) (r : Request) (mem : List ℕ) where
   module _ (t : Told) (after : List ℕ) where
-    restored-kept : after ≡ mem → RestoredLeaves r mem t after
-    restored-kept e = record { most = λ f g. e; inode = λ f. inl e }
+    restored-kept : (t .code ≡ INODE → ⊥) → after ≡ mem → RestoredLeaves r mem t after
+    restored-kept n e = record { most = λ f g. e; row3 = λ i l. e; row7 = λ i l. absurd (n i) }
+
+    restored-row3 : maxIno < r .largest → after ≡ mem → RestoredLeaves r mem t after
+    restored-row3 l e = record { most = λ f g. e; row3 = λ i h. e; row7 = λ i h. absurd (omega arith) }
+
+    restored-row7 : r .largest ≤ maxIno → t .code ≡ INODE → after ≡ walkMem (r .path) mem → RestoredLeaves r mem t after
+    restored-row7 l i e = record { most = λ f g. absurd (g i); row3 = λ j h. absurd (omega arith); row7 = λ j h. e }
 
     restored-done : t .code ≡ 0 → RestoredLeaves r mem t after
-    restored-done z = record { most = λ f g. absurd (f z); inode = λ f. absurd (omega arith) }
-
-    restored-walked : t .code ≡ INODE → after ≡ walkMem (r .path) mem → RestoredLeaves r mem t after
-    restored-walked i e = record { most = λ f g. absurd (g i); inode = λ f. inr e }
+    restored-done z = record { most = λ f g. absurd (f z); row3 = λ i l. absurd (omega arith); row7 = λ i l. absurd (omega arith) }
 
   abbrev left : List ℕ
   left = cond (stopped k r) mem (restoredMem k r mem)
@@ -134,21 +136,21 @@ module _ (k : ℕ) (r : Request) (mem : List ℕ) where
   unfolding restoreMountRule restoreAs stopped restoredMem plannedMem endMem
   restored-tests =
       first-of (λ (o : Outcome). RestoredLeaves r mem (toldBy o) left) _ _ (
-        λ a. restored-kept _ _ (rw a),
+        λ a. restored-kept _ _ (λ e. omega arith) (rw a),
         λ a. (
-          λ b. restored-kept _ _ (rw (a, b)),
+          λ b. restored-kept _ _ (λ e. omega arith) (rw (a, b)),
           λ b. (
-            λ z. restored-kept _ _ (rw (a, b, z)),
+            λ z. restored-kept _ _ (λ e. omega arith) (rw (a, b, z)),
             λ z. (
-              λ d. restored-kept _ _ (rw (a, b, z, d)),
+              λ d. restored-row3 _ _ (ltb-true maxIno (r .largest) d) (rw (a, b, z, d)),
               λ d. (
-                λ n. let w = and-both (rooted (r .path)) (noRoom (view mem) (r .path)) n in restored-kept _ _ (rw (a, b, z, d, w .0, w .1)),
+                λ n. let w = and-both (rooted (r .path)) (noRoom (view mem) (r .path)) n in restored-kept _ _ (λ e. omega arith) (rw (a, b, z, d, w .0, w .1)),
                 λ n.
                     first-of (λ (o : Outcome). RestoredLeaves r mem (toldBy o) left) _ _ (
-                      λ s. restored-kept _ _ (rw (a, b, z, d, s)),
+                      λ s. restored-kept _ _ (λ e. omega arith) (rw (a, b, z, d, s)),
                       λ s.
                           let m = and-rest (rooted (r .path)) (noRoom (view mem) (r .path)) n (not-false _ s) in
-                          (λ c. restored-walked _ _ refl (rw (a, b, z, d, s, m, c)), λ c. restored-done _ _ refl),
+                          (λ c. restored-row7 _ _ (ltb-false maxIno (r .largest) d) refl (rw (a, b, z, d, s, m, c)), λ c. restored-done _ _ refl),
                     ),
               ),
             ),
@@ -156,9 +158,9 @@ module _ (k : ℕ) (r : Request) (mem : List ℕ) where
         ),
       )
 
-  restored-leaves : RestoredLeaves r mem (answeredBy mem (λ i. restoreMountRule i k r)) (restoreMem k r mem)
-  unfolding answeredBy restoreMem
-  restored-leaves = split (RestoredLeaves r mem) (laid mem) (λ l. restored-tests) (λ l. restored-kept _ _ refl)
+  restored-leaves : RestoredLeaves r mem (answeredBy mem (λ i. restoreMountRule i k r)) (restoreMountMem k r mem)
+  unfolding answeredBy restoreMountMem
+  restored-leaves = split (RestoredLeaves r mem) (laid mem) (λ l. restored-tests) (λ l. restored-kept _ _ (λ e. omega arith) refl)
 
 -- ---- unmount
 

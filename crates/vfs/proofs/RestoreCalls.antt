@@ -15,10 +15,10 @@ use Rattle.tables.specs.View.{view}
 use Rattle.tables.specs.Call.{toldBy, Does}
 use Rattle.vfs.specs.Follows.{Follows}
 use Rattle.vfs.specs.Mounting.{requestOf}
-use Rattle.vfs.specs.Restoring.{restoredTold, restoredRule, restoredMem, stopped, restoreMem}
+use Rattle.vfs.specs.Restoring.{restoredTold, restoredRule, restoredMem, stopped, restoreMountMem}
 use Rattle.vfs.specs.declared.backend.Backend.{Backend}
-use Rattle.vfs.specs.declared.restoring.Restored.{Restored}
-use Rattle.vfs.specs.declared.restoring.Restored.the-variants.{TooLong, Inval, BadIndex, Inode, Small}
+use Rattle.vfs.specs.declared.restoring.RestoredMount.{RestoredMount}
+use Rattle.vfs.specs.declared.restoring.RestoredMount.the-variants.{TooLong, Inval, BadIndex, Inode, Small}
 use Rattle.storage.proofs.Calls.{does-nothing, does}
 use Rattle.vfs.proofs.FirstRows.{Begins, Passed}
 
@@ -32,17 +32,17 @@ module _ (mem path : List ℕ) (k : ℕ) (b : Backend) where
   abbrev F : Instance → Outcome
   F = λ (i : Instance). restoreMountRule i k Q
 
-  abbrev Gives : Restored → List ℕ → Type 0
-  Gives r after = Does mem F (restoredTold r) after (restoreMem k Q mem)
+  abbrev Gives : RestoredMount → List ℕ → Type 0
+  Gives r after = Does mem F (restoredTold r) after (restoreMountMem k Q mem)
 
-  pub restore-begins : Begins mem path F (restoreMem k Q mem) (restoredTold Small) (restoredTold TooLong) (restoredTold Inval)
-  unfolding restoreMem stopped restoreMountRule restoredTold
+  pub restore-begins : Begins mem path F (restoreMountMem k Q mem) (restoredTold Small) (restoredTold TooLong) (restoredTold Inval)
+  unfolding restoreMountMem stopped restoreMountRule restoredTold
   restore-begins = record { rest = _; last = _; stop = stopped k Q; other = _; rule = refl; bytes = refl; stops-long = λ z. rw z; stops-bad = λ y z. rw (y, z); is-small = refl; is-long = refl; is-bad = refl }
 
   module _ (p : Passed mem path) where
-    refusal : (r : Restored) (code : ℕ) → F (view mem) ≡ refused code (view mem) → restoredTold r ≡ toldBy (refused code (view mem)) → stopped k Q ≡ true → Gives r mem
-    unfolding restoreMem
-    refusal r code f t x = does-nothing mem F (restoredTold r) (restoreMem k Q mem) (refused code (view mem)) (p .laid) f refl t (rw (p .laid, x))
+    refusal : (r : RestoredMount) (code : ℕ) → F (view mem) ≡ refused code (view mem) → restoredTold r ≡ toldBy (refused code (view mem)) → stopped k Q ≡ true → Gives r mem
+    unfolding restoreMountMem
+    refusal r code f t x = does-nothing mem F (restoredTold r) (restoreMountMem k Q mem) (refused code (view mem)) (p .laid) f refl t (rw (p .laid, x))
 
     pub bad-index : k ≡ 0 → Gives BadIndex mem
     unfolding restoredTold restoreMountRule firstOf stopped
@@ -64,8 +64,8 @@ module _ (mem path : List ℕ) (k : ℕ) (b : Backend) where
         unfolding restoredTold restoreMountRule restoreAs firstOf stopped
         no-slash-back e = let z : rooted path ≡ false = sym re ∙ not-true r e in refusal Inval INVAL (rw (p .fits, p .formed, held, top, z)) refl (rw (p .fits, p .formed, held, top, z))
 
-        pub slash-back : not r ≡ false → (v : Restored) (after : List ℕ) → Follows (restoredRule (view mem) k Q) (restoredMem k Q mem) (restoredTold v) after → Gives v after
-        unfolding restoreMountRule restoreMem firstOf stopped
+        pub slash-back : not r ≡ false → (v : RestoredMount) (after : List ℕ) → Follows (restoredRule (view mem) k Q) (restoredMem k Q mem) (restoredTold v) after → Gives v after
+        unfolding restoreMountRule restoreMountMem firstOf stopped
         slash-back e v after w =
             let at : rooted path ≡ true = sym re ∙ not-false r e in
-            does mem F (restoredTold v) after (restoreMem k Q mem) (restoredRule (view mem) k Q) (p .laid) (rw (p .fits, p .formed, held, top, at)) (w .told) (w .bytes ∙ sym (rw (p .laid, p .fits, p .formed, held, top, at))) (w .stands) (w .keeps)
+            does mem F (restoredTold v) after (restoreMountMem k Q mem) (restoredRule (view mem) k Q) (p .laid) (rw (p .fits, p .formed, held, top, at)) (w .told) (w .bytes ∙ sym (rw (p .laid, p .fits, p .formed, held, top, at))) (w .stands) (w .keeps)

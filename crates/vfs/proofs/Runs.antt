@@ -5,7 +5,6 @@ use mathlib.Core.List.{List, [], _∷_}
 use mathlib.Core.Logic.{_⊎_, inl, inr, ⊎-elim}
 use mathlib.Core.Option.{Option, none, some}
 use Prim.Native.Nat.{ℕ, _+_, _<_}
-use lib.ListN.{length}
 use Rattle.rules.specs.Bytes.{Bytes}
 use Rattle.rules.specs.Numbers.{indexOf, numberOf, NOENT}
 use Rattle.rules.specs.Instance.{Instance}
@@ -21,10 +20,10 @@ use Rattle.rules.specs.Kept.{Standing, LeadsTo, MountedAt}
 use Rattle.rules.proofs.Turn.{mounts-allocate}
 use Rattle.rules.proofs.Trace.{laps}
 use Rattle.rules.proofs.Kept.{least-index, every-new, every-standing, every-kept}
-use Rattle.tables.specs.View.{view, slotsOf}
+use Rattle.tables.specs.View.{view}
 use Rattle.tables.specs.Rule.{laid}
 use Rattle.tables.specs.Call.{Told, toldBy, tells, answeredBy, Does}
-use Rattle.tables.proofs.Tab.{length-tab}
+use Rattle.tables.proofs.Indexes.{slots-count}
 use Rattle.storage.proofs.Laid.{told-by}
 use Rattle.vfs.specs.Runs.{Step, Allowed, Run, callsOf, counts, EveryLapOfBytes, EveryMountOfBytes, lastOf, EveryKeptOfBytes, EveryStandingOfBytes, StaysDriven}
 use Rattle.vfs.proofs.MountWays.{counter-in}
@@ -72,11 +71,6 @@ run-leaves (s ∷ ss) mem l (b, (a, r)) =
     let w = run-leaves ss (s .after) (a .keeps on) r in
     (w .0, w .1 ∙ (λ i. afterAll (a .stands on i) (callsOf ss)) ∙ (λ i. afterAll (rule (view (b i)) (s .call) .after) (callsOf ss)))
 
--- 256 slots are seen in the bytes
-slots-many : (mem : List ℕ) → length (view mem .indexes .slots) ≡ 256
-unfolding view slotsOf
-slots-many mem = length-tab _ 0 256
-
 -- a step that tells a done mount
 mounted-at : (s : Step) → Allowed s → laid (s .before) ≡ true → Bytes (s .before) → (r : Request) → s .call ≡ mount r → s .told .code ≡ 0 → (k : ℕ) (t : Option ℕ) → s .told .answer ≡ mounted k t
     → MountedAt (view (s .before)) r k
@@ -88,7 +82,7 @@ mounted-at s a l bytes r e z k t m =
     let same : w .0 ≡ k = let q = sym (w .2) ∙ m in cc in
     record {
       counter = counter-in (s .before) bytes;
-      slots = slots-many (s .before);
+      slots = slots-count (s .before);
       done = sym (λ j. by j .code) ∙ (sym (λ j. told j .code) ∙ z);
       found = sym (λ j. by j .found) ∙ (w .3 ∙ ap {B = Option ℕ} some same);
     }

@@ -22,7 +22,7 @@ use Rattle.inode.specs.declared.NodeNumber.{NodeNumber}
 use Rattle.pseudo_fs.specs.Told.{pathWalkTold}
 use Rattle.pseudo_fs.specs.declared.PathWalk.{PathWalk}
 use Rattle.pseudo_fs.specs.declared.PathWalk.the-variants.{Node as WalkNode, Nothing as WalkNothing, Inval as WalkInval, Small as WalkSmall}
-use Rattle.pseudo_fs.proofs.Calls.{Leads, walk-apart}
+use Rattle.pseudo_fs.proofs.Calls.{PathLeads, walk-says}
 use Rattle.placing.specs.Place.{TakesOff}
 use Rattle.placing.proofs.Stands.{view-taken-off, keeps-taken-off}
 use Rattle.vfs.specs.Follows.{Follows}
@@ -66,24 +66,24 @@ module _ (mem path : List ℕ) (w : PathWalk) (k : pathWalkTold w ≡ answeredBy
   pub small : w ≡ WalkSmall → Does mem F (unmountedTold Small) mem (unmountMem path mem)
   unfolding unmountMem unmountedTold
   small e =
-      let f = walk-apart mem path w WalkSmall k e in
+      let f = walk-says mem path w WalkSmall k e in
       does-small mem F (unmountedTold Small) (unmountMem path mem) f refl (rw f)
 
   pub bad : w ≡ WalkInval → Does mem F (unmountedTold Inval) mem (unmountMem path mem)
   unfolding unmountMem unmountedTold unmountRule firstOf
   bad e =
-      let b = walk-apart mem path w WalkInval k e in
+      let b = walk-says mem path w WalkInval k e in
       does-nothing mem F (unmountedTold Inval) (unmountMem path mem) (refused INVAL (view mem)) (b .0) (rw (b .1)) refl refl (rw (b .0, b .1))
 
   pub missing : w ≡ WalkNothing → Does mem F (unmountedTold NotFound) mem (unmountMem path mem)
   unfolding unmountMem unmountedTold unmountRule unmountAt offMem firstOf
   missing e =
-      let n = walk-apart mem path w WalkNothing k e in
+      let n = walk-says mem path w WalkNothing k e in
       does-nothing mem F (unmountedTold NotFound) (unmountMem path mem) (refused NOTFOUND (view mem)) (n .0) (rw (n .1, n .2)) refl refl (rw (n .0, n .1, n .2))
 
   module _ (x : NodeNumber) (e : w ≡ WalkNode x) where
-    leads : Leads mem path (some (x .0))
-    leads = walk-apart mem path w (WalkNode x) k e
+    leads : PathLeads mem path (some (x .0))
+    leads = walk-says mem path w (WalkNode x) k e
 
     pub kept : laid mem ≡ true
     kept = leads .0

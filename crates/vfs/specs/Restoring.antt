@@ -15,11 +15,11 @@ use Rattle.tables.specs.Answer.{tagIn}
 use Rattle.tables.specs.Call.{Told, tells, refuses, toldSmall}
 use Rattle.vfs.specs.Mounting.{plannedMem, EndsAt}
 use Rattle.vfs.specs.declared.backend.Backend.{Backend}
-use Rattle.vfs.specs.declared.restoring.Restored.{Restored}
-use Rattle.vfs.specs.declared.restoring.Restored.the-variants.{Done, TooLong, Inval, BadIndex, Inode, NoRoom, Small}
+use Rattle.vfs.specs.declared.restoring.RestoredMount.{RestoredMount}
+use Rattle.vfs.specs.declared.restoring.RestoredMount.the-variants.{Done, TooLong, Inval, BadIndex, Inode, NoRoom, Small}
 
 -- the number and the values of each answer (R91 to R95)
-unfoldable pub restoredTold : Restored → Told
+unfoldable pub restoredTold : RestoredMount → Told
 restoredTold (Done a d) = tells (restored (tagIn a) (tagIn d))
 restoredTold TooLong = refuses TOOLONG
 restoredTold Inval = refuses INVAL
@@ -29,7 +29,7 @@ restoredTold NoRoom = refuses NOROOM
 restoredTold Small = toldSmall
 
 -- rows 7 and 8 on the node x: the tag replaced, and the tag displaced (R93)
-abbrev pub RestoresAt : List ℕ → ℕ → ℕ → Backend → Restored → List ℕ → Type 0
+abbrev pub RestoresAt : List ℕ → ℕ → ℕ → Backend → RestoredMount → List ℕ → Type 0
 RestoresAt mem k x b r after =
     EndsAt mem k x b (restored (tagAt (mountOf (view mem .tree) x) (view mem)) (tagOf (freed (mountOf (view mem .tree) x) (view mem)) k)) 0 (restoredTold r) after
 
@@ -46,5 +46,5 @@ unfoldable pub stopped : ℕ → Request → Bool
 stopped k r = tooLong (r .path) || not (wellFormed (r .path)) || eqb k 0 || ltb maxIno (r .largest) || not (rooted (r .path))
 
 -- the bytes after a restored mount: every refusal but row 7's leaves every one
-unfoldable pub restoreMem : ℕ → Request → List ℕ → List ℕ
-restoreMem k r mem = cond (laid mem) (cond (stopped k r) mem (restoredMem k r mem)) mem
+unfoldable pub restoreMountMem : ℕ → Request → List ℕ → List ℕ
+restoreMountMem k r mem = cond (laid mem) (cond (stopped k r) mem (restoredMem k r mem)) mem

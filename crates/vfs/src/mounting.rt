@@ -86,9 +86,9 @@ fn mount_new(s: &mut [u8], path: &[u8], b: Backend) -> Mounted
     requires { ⌜ rooted (now path) ≡ true ⌝ }
     ensures { λ r. ⌜ Follows (rootedRule (view (now (s .entry))) (requestOf (now (path .entry)) b)) (rootedMem (requestOf (now (path .entry)) b) (now (s .entry))) (mountedTold r) (now (s .exit)) ⌝ }
 {
-    let mut parents = [0u64; 1024];
-    let mut starts = [0u16; 1024];
-    let mut lens = [0u8; 1024];
+    let mut parents = [0u64; rules::MAX_NODES];
+    let mut starts = [0u16; rules::MAX_NODES];
+    let mut lens = [0u8; rules::MAX_NODES];
     match plan::plan_mount(s, path, &mut parents, &mut starts, &mut lens) {
         Planned::NoRoom => Mounted::NoRoom,
         Planned::Fits { node, count } => {

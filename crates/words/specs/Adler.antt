@@ -2,13 +2,15 @@
 use Prim.Native.Nat.{ℕ, _+_, _*_, _/_, _%_}
 use mathlib.Core.List.{List, [], _∷_}
 
--- the two halves of the sum with one byte more
+-- the low half of the sum with one byte more
 abbrev pub low : ℕ → ℕ → ℕ
 low sum b = (sum % 65536 + b) % 65521
 
+-- the high half
 abbrev pub high : ℕ → ℕ → ℕ
 high sum b = (sum / 65536 % 65536 + low sum b) % 65521
 
+-- both
 unfoldable pub summed : ℕ → ℕ → ℕ
 summed sum b = high sum b * 65536 + low sum b
 

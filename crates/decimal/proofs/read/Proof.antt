@@ -7,8 +7,8 @@ use native.Mathlib.Numerals.{add-one}
 use lib.ListN.{length, drop, drop-of-length-le}
 use lib.Seq.{drop-cons}
 use Rattle.decimal.specs.declared.Number.the-variants.{Value, Bad}
-use Rattle.decimal.specs.Read.{valueIn, numberTo, readFrom}
-use Rattle.decimal.proofs.Steps.{from-none, from-start, from-nil, next-value, next-bad}
+use Rattle.decimal.specs.Read.{valueIn, numberTo}
+use Rattle.decimal.proofs.Steps.{readFrom, from-none, from-start, from-nil, next-value, next-bad}
 use Rattle.decimal.proofs.read.Statement.{statement}
 use Rattle.decimal.proofs.read.Tie as tie
 

@@ -16,8 +16,8 @@ fill-requires c κs =
     let f : (k ≤ a .count) × (k ≤ 1023) = ⊎-elim (λ w. (omega arith, omega arith)) (λ w. (omega arith, omega arith)) (c .before .before .before .if1 .came) in
     (omega (arith, starts-up (now (a .b)) k (a .count) (f .0)), f .1, f .1, f .1)
 
-all-placed-requires : tie.Need-all-placed-requires
-all-placed-requires c κs =
+are-placed-by-columns-requires : tie.Need-are-placed-by-columns-requires
+are-placed-by-columns-requires c κs =
     let k = c .before .before .before .before .before .before .before .before .before .before .if1 .k in
     let f : k ≤ 1023 = ⊎-elim (λ w. omega arith) (λ w. omega arith) (c .before .before .before .before .before .before .before .before .before .before .if1 .came) in
     ((c .before .before .before .before .before .before .before .before .before .before .before .before .pre, f), columns _ _ _ _ _ _ _ _ f f f (c .before .before .before .before .before .before .fill .ensures))
@@ -30,5 +30,5 @@ are-placed-spec =
     (λ c. search needs)
     (λ c. search needs)
     fill-requires
-    all-placed-requires
+    are-placed-by-columns-requires
     (λ c. search needs))

@@ -6,14 +6,14 @@ use native.Mathlib.Omega.{arith}
 use lib.ListN.{length}
 use denote.Ref.{now}
 use Rattle.saved.specs.Scan.{startOf}
-use Rattle.saved.specs.Columns.{Fills}
+use Rattle.saved.specs.Columns.{FillsColumns}
 use Rattle.saved.proofs.Walk.{start-next, within}
 use Rattle.saved.proofs.Filled.{none-filled, row-filled, all-filled}
 use Rattle.saved.proofs.fill.Statement.{statement}
 use Rattle.saved.proofs.fill.Tie as tie
 
 abbrev Inv-loop : tie.InvT-loop
-Inv-loop b k starts₀ numbers₀ keys₀ at₀ i₀ starts numbers keys at i = (i ≤ k) × (at ≡ startOf b i) × Fills b i starts₀ numbers₀ keys₀ starts numbers keys × (length starts ≡ length starts₀) × (length numbers ≡ length numbers₀) × (length keys ≡ length keys₀)
+Inv-loop b k starts₀ numbers₀ keys₀ at₀ i₀ starts numbers keys at i = (i ≤ k) × (at ≡ startOf b i) × FillsColumns b i starts₀ numbers₀ keys₀ starts numbers keys × (length starts ≡ length starts₀) × (length numbers ≡ length numbers₀) × (length keys ≡ length keys₀)
 
 abbrev μ-loop : tie.MeasureT-loop
 μ-loop b k starts₀ numbers₀ keys₀ at₀ i₀ starts numbers keys at i = k - i

@@ -14,11 +14,11 @@ returns c = refused _ _ _ 11 refl (code-small _ _ (sym (c .before .is-small .ens
 
 returns-2 : tie.Need-returns-2
 unfolding createdCode
-returns-2 c = refused _ _ _ 12 refl (code-options _ _ (sym (c .before .before .before .is-small .ensures) ∙ c .before .before .if1 .left) (sym (c .before .has-bad .ensures) ∙ c .if2 .taken))
+returns-2 c = refused _ _ _ 12 refl (code-options _ _ (sym (c .before .before .before .is-small .ensures) ∙ c .before .before .if1 .left) (sym (c .before .has-bad-options .ensures) ∙ c .if2 .taken))
 
 returns-3 : tie.Need-returns-3
 unfolding createdCode
-returns-3 c = refused _ _ _ 8 refl (code-map _ _ (sym (c .before .before .before .before .before .is-small .ensures) ∙ c .before .before .before .before .if1 .left) (sym (c .before .before .before .has-bad .ensures) ∙ c .before .before .if2 .left) (sym (c .before .is-bad .ensures) ∙ c .if3 .taken))
+returns-3 c = refused _ _ _ 8 refl (code-map _ _ (sym (c .before .before .before .before .before .is-small .ensures) ∙ c .before .before .before .before .if1 .left) (sym (c .before .before .before .has-bad-options .ensures) ∙ c .before .before .if2 .left) (sym (c .before .is-bad .ensures) ∙ c .if3 .taken))
 
 put-new-requires : tie.Need-put-new-requires
 put-new-requires c κs = let l = large-enough _ _ (sym (c .before .before .before .before .before .before .is-small .ensures) ∙ c .before .before .before .before .before .if1 .left) in search needs
@@ -28,7 +28,7 @@ unfolding createdCode
 returns-4 c =
     let s = c .before .before .before .before .before .before .before .before .before .before .before .args .s .now in
     let e = sym (c .before .before .before .before .before .before .before .before .before .is-small .ensures) ∙ c .before .before .before .before .before .before .before .before .if1 .left in
-    let f = sym (c .before .before .before .before .before .before .before .has-bad .ensures) ∙ c .before .before .before .before .before .before .if2 .left in
+    let f = sym (c .before .before .before .before .before .before .before .has-bad-options .ensures) ∙ c .before .before .before .before .before .before .if2 .left in
     let h = sym (c .before .before .before .before .before .is-bad .ensures) ∙ c .before .before .before .before .if3 .left in
     done _ s _ (code-done _ _ e f h) (c .before .before .put-new .ensures) (new-limits _ s e f h (search needs) (search needs) (search needs)) (large-enough _ _ e .2)
 

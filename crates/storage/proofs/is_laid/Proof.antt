@@ -28,12 +28,12 @@ returns-6 : tie.Need-returns-6
 returns-6 c = sym (high-next _ (omega arith))
 
 returns-7 : tie.Need-returns-7
-returns-7 c = sym (bad-options _ (sym (c .before .has-bad .ensures ∙ ap₂ badOptions (c .before .before .before .get-u645 .ensures) (c .before .before .options-in .ensures)) ∙ c .if7 .taken))
+returns-7 c = sym (bad-options _ (sym (c .before .has-bad-options .ensures ∙ ap₂ badOptions (c .before .before .before .get-u645 .ensures) (c .before .before .options-in .ensures)) ∙ c .if7 .taken))
 
 returns-8 : tie.Need-returns-8
 returns-8 c =
     let n = sym (c .before .before .before .before .before .before .before .before .before .before .before .before .is-small .ensures ∙ ap (tooSmall _) (c .before .before .before .before .before .before .before .before .before .before .before .before .before .get-u642 .ensures)) ∙ c .before .before .before .before .before .before .before .before .before .before .before .if3 .left in
-    let o = sym (c .before .before .before .has-bad .ensures ∙ ap₂ badOptions (c .before .before .before .before .before .get-u645 .ensures) (c .before .before .before .before .options-in .ensures)) ∙ c .before .before .if7 .left in
+    let o = sym (c .before .before .before .has-bad-options .ensures ∙ ap₂ badOptions (c .before .before .before .before .before .get-u645 .ensures) (c .before .before .before .before .options-in .ensures)) ∙ c .before .before .if7 .left in
     ap not (c .is-bad .ensures ∙ ap badMapping (c .before .mapping .ensures)) ∙ by-mapping _ (omega arith) (omega arith) n (omega arith) (omega arith) (omega arith) o
 
 pub is-laid-spec : {M : Type 1} → statement M

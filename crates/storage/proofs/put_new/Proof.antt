@@ -12,7 +12,7 @@ returns c =
     let w = m₁ .before .before .before .before in
     let s = w .before .before .before .before in
     let a = s .before .before .before .before .args in
-    c .before .before .put-bytes .ensures
+    c .before .before .put-rest .ensures
     ∙ (rw (m₂ .put-mapping2 .ensures, m₁ .put-mapping .ensures, w .put-words .ensures, s .put-slots .ensures)
     (all-put (a .s .now) (a .n) (a .known) (a .o)))
 

@@ -2,7 +2,7 @@
 use mathlib.Core.Path.{refl, sym, ap, _∙_}
 use mathlib.Core.Option.{some}
 use denote.Ref.{now}
-use Rattle.pseudo_fs.proofs.Calls.{Leads, walk-apart}
+use Rattle.pseudo_fs.proofs.Calls.{PathLeads, walk-says}
 use Rattle.tables.specs.Answer.{mountIn}
 use Rattle.tables.proofs.Keeps.{laid-is}
 use Rattle.vfs_query.specs.Told.{rootfsTold}
@@ -12,8 +12,8 @@ use borrow.Author.Needs.{needs}
 use Rattle.vfs_query.proofs.get_rootfs.Statement.{statement}
 use Rattle.vfs_query.proofs.get_rootfs.Tie as tie
 
-leads : (c : tie.After-known-told) → let a = c .before .before .before .before .before .before .args in Leads (now (a .s)) (now (a .path)) (some (c .before .x .given .0 .0 .0))
-leads c = walk-apart _ _ _ _ (c .before .before .before .path-walk .ensures) (c .before .x .given .1)
+leads : (c : tie.After-known-told) → let a = c .before .before .before .before .before .before .args in PathLeads (now (a .s)) (now (a .path)) (some (c .before .x .given .0 .0 .0))
+leads c = walk-says _ _ _ _ (c .before .before .before .path-walk .ensures) (c .before .x .given .1)
 
 of-node-requires : tie.Need-of-node-requires
 of-node-requires c κs = laid-is _ (leads c .0)
@@ -38,18 +38,18 @@ returns-2 c =
 returns-3 : tie.Need-returns-3
 unfolding rootfsTold
 returns-3 c =
-    let w = walk-apart _ _ _ _ (c .before .before .path-walk .ensures) (c .enum-told2 .given .1) in
+    let w = walk-says _ _ _ _ (c .before .before .path-walk .ensures) (c .enum-told2 .given .1) in
     tells-by _ _ _ _ (w .0) refl (root-nowhere _ _ (w .1) (w .2))
 
 returns-4 : tie.Need-returns-4
 unfolding rootfsTold
 returns-4 c =
-    let w = walk-apart _ _ _ _ (c .before .before .path-walk .ensures) (c .enum-told3 .given .1) in
+    let w = walk-says _ _ _ _ (c .before .before .path-walk .ensures) (c .enum-told3 .given .1) in
     tells-by _ _ _ _ (w .0) refl (root-bad _ _ (w .1))
 
 returns-5 : tie.Need-returns-5
 unfolding rootfsTold
-returns-5 c = sym (told-small _ _ (walk-apart _ _ _ _ (c .before .before .path-walk .ensures) (c .enum-told4 .given .1)))
+returns-5 c = sym (told-small _ _ (walk-says _ _ _ _ (c .before .before .path-walk .ensures) (c .enum-told4 .given .1)))
 
 pub get-rootfs-spec : {M : Type 1} → statement M
 get-rootfs-spec =

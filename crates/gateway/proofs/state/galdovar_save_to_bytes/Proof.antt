@@ -5,7 +5,7 @@ use Rattle.gateway.proofs.state.galdovar_save_to_bytes.Statement.{state
 use Rattle.gateway.proofs.state.galdovar_save_to_bytes.Tie as tie
 
 returns : tie.Need-returns
-returns c = writes-by _ _ _ _ _ _ (c .saved .ensures) (c .before .before .before .save-to-bytes .ensures)
+returns c = writes-by _ _ _ _ _ _ _ (c .saved .ensures) (c .before .before .before .save-to-bytes .ensures)
 
 pub galdovar-save-to-bytes-spec : {M : Type 1} → statement M
 galdovar-save-to-bytes-spec =

@@ -2,8 +2,8 @@
 use mathlib.Core.Path.{_∙_}
 use Rattle.storage.proofs.Creation.{bytes-put}
 use borrow.Author.Needs.{needs}
-use Rattle.storage.proofs.put_bytes.Statement.{statement}
-use Rattle.storage.proofs.put_bytes.Tie as tie
+use Rattle.storage.proofs.put_rest.Statement.{statement}
+use Rattle.storage.proofs.put_rest.Tie as tie
 
 returns : tie.Need-returns
 returns c =
@@ -15,8 +15,8 @@ returns c =
     let a = w1 .before .before .before .args in
     w5 .put-u64 .ensures ∙ rw (w4 .put-u84 .ensures, w3 .put-u83 .ensures, w2 .put-u82 .ensures, w1 .put-u8 .ensures) (bytes-put (a .s .now) (a .flags))
 
-pub put-bytes-spec : {M : Type 1} → statement M
-put-bytes-spec =
+pub put-rest-spec : {M : Type 1} → statement M
+put-rest-spec =
     tie.close
     (tie.spec
     (λ c κs. search needs)

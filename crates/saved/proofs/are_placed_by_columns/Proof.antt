@@ -1,4 +1,4 @@
--- `saved::all_placed` meets its contract. The invariant: the records that are left are placed where all are. Assumes nothing.
+-- `saved::are_placed_by_columns` meets its contract. The invariant: the records that are left are placed where all are. Assumes nothing.
 use borrow.Author.Needs.{needs}
 use mathlib.Core.Path.{_≡_, refl, sym, _∙_}
 use mathlib.Core.List.{[]}
@@ -9,8 +9,8 @@ use denote.Ref.{now}
 use Rattle.rules.specs.Saved.{nodesAt}
 use Rattle.saved.specs.Scan.{startOf, earlier, allPlaced}
 use Rattle.saved.proofs.Walk.{start-next, within, all-bad, all-on, all-done, all-start}
-use Rattle.saved.proofs.all_placed.Statement.{statement}
-use Rattle.saved.proofs.all_placed.Tie as tie
+use Rattle.saved.proofs.are_placed_by_columns.Statement.{statement}
+use Rattle.saved.proofs.are_placed_by_columns.Tie as tie
 
 abbrev Inv-loop : tie.InvT-loop
 Inv-loop b count k starts numbers keys at₀ i₀ at i = (i ≤ count) × (at ≡ startOf b i) × (allPlaced (earlier b i) (nodesAt b (count - i) at) ≡ allPlaced [] (nodesAt b count 0))
@@ -52,8 +52,8 @@ returns-2 c =
     let l = c .before .loop in
     sym (all-done _ _ (l .at) (l .i) (c .loop-test .left)) ∙ l .inv .2
 
-pub all-placed-spec : {M : Type 1} → statement M
-all-placed-spec =
+pub are-placed-by-columns-spec : {M : Type 1} → statement M
+are-placed-by-columns-spec =
     tie.close
     (tie.spec
     Inv-loop

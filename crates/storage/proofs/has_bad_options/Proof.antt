@@ -2,8 +2,8 @@
 use mathlib.Core.Path.{sym, _∙_}
 use Rattle.storage.proofs.Refusals.{bad-bits, by-flags}
 use borrow.Author.Needs.{needs}
-use Rattle.storage.proofs.has_bad.Statement.{statement}
-use Rattle.storage.proofs.has_bad.Tie as tie
+use Rattle.storage.proofs.has_bad_options.Statement.{statement}
+use Rattle.storage.proofs.has_bad_options.Tie as tie
 
 returns : tie.Need-returns
 returns c = sym (bad-bits _ _ (sym (c .before .is-unknown .ensures) ∙ c .if1 .taken))
@@ -11,5 +11,5 @@ returns c = sym (bad-bits _ _ (sym (c .before .is-unknown .ensures) ∙ c .if1 .
 returns-2 : tie.Need-returns-2
 returns-2 c = by-flags _ _ (sym (c .before .before .is-unknown .ensures) ∙ c .before .if1 .left)
 
-pub has-bad-spec : {M : Type 1} → statement M
-has-bad-spec = tie.close (tie.spec (λ c κs. search needs) returns returns-2)
+pub has-bad-options-spec : {M : Type 1} → statement M
+has-bad-options-spec = tie.close (tie.spec (λ c κs. search needs) returns returns-2)
