@@ -1,7 +1,7 @@
 #!/usr/bin/env python3
 """Writes the script of crates/calls_test and what the program must answer.
 
-    python3 tools/calls_vectors.py           from the repository's root
+    python3 tools/calls_vectors.py
 
 The script is made here; the answers come from tools/model, which follows docs/RULES.md and, for what damaged bytes
 mean, docs/LAYOUT.md. Nothing comes from the port. docs/TESTS.md says what the script covers and how it is written.
@@ -15,17 +15,12 @@ sys.path.insert(0, os.path.dirname(os.path.abspath(__file__)))
 sys.dont_write_bytecode = True
 
 from model import saved, script  # noqa: E402
+from model.rules import DIR_MODE, TOP, size  # noqa: E402
 
-TOP = 2**56
 MAX64 = 2**64 - 1
 SAVED = script.PLACE      # the place of the first saved byte
-PLAIN_MODE = 16895
 A, B, C, D, E, F, G, H = range(8)      # the cells of the variables $a to $h
 KEPT = None      # in the place of a text: the line has none, and the text stays as it is
-
-
-def size(n):
-    return 512 * n + 8192
 
 
 class Script:
@@ -52,11 +47,11 @@ def create(s, n=64, known=0, in_opts=0, out_opts=0, flags=0, mapping=(0, 0, 0)):
     s("create", n, known, in_opts, out_opts, flags, *mapping)
 
 
-def mount(s, path, tag=7, root=1, largest=1000, uid=0, gid=0, mode=PLAIN_MODE):
+def mount(s, path, tag=7, root=1, largest=1000, uid=0, gid=0, mode=DIR_MODE):
     s("mount", path, tag, root, largest, uid, gid, mode)
 
 
-def mount_at(s, k, path, tag=7, root=1, largest=1000, uid=0, gid=0, mode=PLAIN_MODE):
+def mount_at(s, k, path, tag=7, root=1, largest=1000, uid=0, gid=0, mode=DIR_MODE):
     s("mountat", path, k, tag, root, largest, uid, gid, mode)
 
 
@@ -821,7 +816,7 @@ def block_line(rng):
         root = rng.choice([0, 1, 5, TOP - 1, TOP, "$b"])
         largest = rng.choice([TOP - 1] * 8 + [TOP])
         bad = rng.choice([None] * 12 + ['"m$b', '"', '"/%ff', '"/m$b/%e2%82'])
-        return "mount", (bad or path, "$b", root, largest, "$b", "$c", PLAIN_MODE)
+        return "mount", (bad or path, "$b", root, largest, "$b", "$c", DIR_MODE)
     if what < 48:
         root = rng.choice([0, 1, TOP - 1, TOP, "$c"])
         k = rng.choice(["$c"] * 9 + [0])

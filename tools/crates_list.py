@@ -1,4 +1,4 @@
-"""What crates.txt says, for the tools that read it."""
+"""The repository's root and what crates.txt says, for the tools that read it."""
 import os
 
 ROOT = os.path.dirname(os.path.dirname(os.path.abspath(__file__)))

@@ -14,9 +14,8 @@ import os
 import sys
 
 sys.dont_write_bytecode = True
-from crates_list import dependencies
+from crates_list import ROOT, dependencies
 
-ROOT = os.path.dirname(os.path.dirname(os.path.abspath(__file__)))
 FONT = "font-family='Helvetica, Arial, sans-serif'"
 WIDTH, MARGIN = 900, 16
 GROUND, INK, SOFT, LINE, THICK = "#fbfaf5", "#1d2733", "#46535f", "#5d6b79", "#8fa0b1"

@@ -1,7 +1,7 @@
 #!/usr/bin/env python3
 """Writes the vectors of crates/path_test and the answers that it must give.
 
-    python3 tools/path_vectors.py            from the repository's root
+    python3 tools/path_vectors.py
 
 crates/path_test/stdin has one byte string to a line, in hex digits. crates/path_test/stdout has the line that the
 program must write for each. The answers come from here and from Python's own strict UTF-8 decoder, never from the

@@ -1,7 +1,7 @@
 #!/usr/bin/env python3
 """Writes what crates/replay reads, from the Rust's recorded answers, which are what it must write.
 
-    python3 tools/replay_vectors.py            from the repository's root
+    python3 tools/replay_vectors.py
 
 crates/replay/stdout is the recorded list: the program must write each call with the answer that the Rust gave.
 crates/replay/stdin has its calls, one to a line, without their answers. Nothing here asks the port or the model. Each line is

@@ -1,7 +1,7 @@
 #!/usr/bin/env python3
 """Writes the script of crates/session and what the program must write for it.
 
-    python3 tools/session_vectors.py                from the repository's root: crates/session/stdin and stdout
+    python3 tools/session_vectors.py                crates/session/stdin and stdout
     python3 tools/session_vectors.py answer FILE    what a session on FILE must write, to standard output
     python3 tools/session_vectors.py lines N        N lines to time a session with, to standard output
 
@@ -18,7 +18,7 @@ sys.dont_write_bytecode = True
 from model import rules  # noqa: E402
 
 NODES = 64
-IDS_AND_MODE = 0, 0, 16895
+IDS_AND_MODE = 0, 0, rules.DIR_MODE
 EIGHT = b"""walk /a
 mount /a/b 7 1 1000
 mount a 8 1 1000
@@ -192,8 +192,9 @@ def script():
     return b"\n".join(w.lines)
 
 
-def write(path, b):
-    with open(path, "wb") as f:
+def write(name, b):
+    here = os.path.join(os.path.dirname(os.path.dirname(os.path.abspath(__file__))), "crates", "session")
+    with open(os.path.join(here, name), "wb") as f:
         f.write(b)
 
 
@@ -208,8 +209,8 @@ def main(words):
     else:
         assert answers(EIGHT) == EIGHT_ANSWERS
         data = script()
-        write("crates/session/stdin", data)
-        write("crates/session/stdout", answers(data))
+        write("stdin", data)
+        write("stdout", answers(data))
 
 
 if __name__ == "__main__":

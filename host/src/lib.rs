@@ -47,7 +47,7 @@ pub use numbers::{
 pub use options::{map_back, map_out, IdMapping, VfsOptions};
 pub use vfs::{
     storage_for, Backend, Entry, Ids, Mounted, RestoredMount, Rootfs, Route, Unmounted, Vfs,
-    DIRECTORY_MODE, MAX_NODES, MAX_SAVED,
+    DIR_MODE, MAX_NODES, MAX_SAVED,
 };
 
 /// The check of one path component: `.`, `..`, a `/` or a byte 0 is INVAL. The empty name passes.

@@ -9,7 +9,7 @@ use std::fmt;
 pub const MAX_NODES: usize = 1024;
 
 /// The mode of a directory with all permissions, which entries of the tree have.
-pub const DIRECTORY_MODE: u32 = 16895;
+pub const DIR_MODE: u32 = 16895;
 
 /// How many bytes the longest saved state has.
 pub const MAX_SAVED: usize = STATE_END + LONGEST_RECORD * (MAX_NODES - 1);
@@ -56,16 +56,9 @@ pub struct Backend {
 }
 
 impl Backend {
-    /// A backend with root number 1, every number up to [`VFS_MAX_INO`], ids 0 and [`DIRECTORY_MODE`].
+    /// A backend with root number 1, every number up to [`VFS_MAX_INO`], ids 0 and [`DIR_MODE`].
     pub const fn new(tag: Tag) -> Backend {
-        Backend {
-            tag,
-            root: BackendNumber(1),
-            max: VFS_MAX_INO,
-            uid: 0,
-            gid: 0,
-            mode: DIRECTORY_MODE,
-        }
+        Backend { tag, root: BackendNumber(1), max: VFS_MAX_INO, uid: 0, gid: 0, mode: DIR_MODE }
     }
 }
 

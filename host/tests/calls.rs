@@ -247,8 +247,7 @@ fn lookups() {
     let b = Backend { root: BackendNumber(3), uid: 5, gid: 50, mode: 0o40750, ..backend(7) };
     vfs.mount(b, "/a/b").unwrap();
     let a = NodeNumber(2);
-    let dir =
-        |n| Entry { inode: VfsInode(n), mode: DIRECTORY_MODE, uid: 1000, gid: 1000, blksize: 4096 };
+    let dir = |n| Entry { inode: VfsInode(n), mode: DIR_MODE, uid: 1000, gid: 1000, blksize: 4096 };
     assert_eq!(vfs.lookup(ROOT_ID, "a"), Ok(dir(2)));
     assert_eq!(vfs.lookup(a, "."), Ok(dir(2)));
     assert_eq!(vfs.lookup(a, ".."), Ok(dir(1)));

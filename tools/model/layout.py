@@ -47,17 +47,11 @@ def u32(b, at):
 
 
 def keeps_rule(b, length):
-    if length < 8192 or b[0:8] != MARK:
+    """The mark, a count of rows below N, a next number within its limits; and a creation with the other fields is not refused."""
+    n, count, following, known, in_opts, out_opts = struct.unpack_from("<QQQQQQ", b, 8)
+    if b[0:8] != MARK or count >= n or not 2 <= following <= rules.TOP:
         return False
-    n = u64(b, 8)
-    if not 1 <= n <= 1024 or length < 512 * n + 8192:
-        return False
-    if u64(b, 16) >= n or not 2 <= u64(b, 24) <= rules.TOP:
-        return False
-    known = u64(b, 32)
-    if u64(b, 40) & ~known or u64(b, 48) & ~known or b[80] > 63:
-        return False
-    return not rules.bad_mapping(struct.unpack_from("<III", b, 56))
+    return rules.refuses_creation(length, n, known, in_opts, out_opts, b[80], struct.unpack_from("<III", b, 56)) == rules.DONE
 
 
 def mount_in(b, cell, uid, gid, mode):

@@ -8,8 +8,8 @@ import struct
 MAX_INO = 2**56 - 1
 TOP = 2**56
 ROOT = 1
-DONE, NOENT, INVAL, TOOLONG, INODE, FULL, NOROOM, NOTFOUND, BADINDEX, BADMAP = range(10)
-SMALL, BADOPT = 12, 13
+DIR_MODE = 0o40777
+DONE, NOENT, INVAL, TOOLONG, INODE, FULL, NOROOM, NOTFOUND, BADINDEX, BADMAP, BADSAVE, NOTFRESH, SMALL, BADOPT = range(14)
 
 
 class Mount:
@@ -134,8 +134,13 @@ def back(m, i):
 
 # ---- creation and settings
 
+def size(n):
+    """The bytes that an instance of capacity n takes."""
+    return 512 * n + 8192
+
+
 def refuses_creation(length, n, known, in_opts, out_opts, flags, mapping):
-    if not 1 <= n <= 1024 or length < 512 * n + 8192:
+    if not 1 <= n <= 1024 or length < size(n):
         return SMALL
     if in_opts & ~known or out_opts & ~known or flags > 63:
         return BADOPT
@@ -199,7 +204,7 @@ def full(index, number):
 
 def pseudo_entry(i, x):
     nobody = outward(i.mapping, 0)
-    return [full(0, x), 0o40777, nobody, nobody, 4096]
+    return [full(0, x), DIR_MODE, nobody, nobody, 4096]
 
 
 def record(number, offset, name):

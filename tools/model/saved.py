@@ -3,9 +3,8 @@ import struct
 
 from model import rules
 
-BADSAVE, NOTFRESH = 10, 11
-TAIL = 56
-LONGEST = 279335
+TRAILER = 24
+TAIL = 32 + TRAILER      # the options and the trailer
 
 
 def encode(nodes, options, following, counter):
@@ -40,9 +39,9 @@ def faults(b):
     """The letters of R129 that hold of the bytes; of (g) to (k) only where the records fill their place."""
     if len(b) < TAIL:
         return "a"
-    options, trailer = b[-56:-24], b[-24:]
+    options, trailer = b[-TAIL:-TRAILER], b[-TRAILER:]
     offset, count, following = struct.unpack_from("<IIQ", trailer)
-    nodes, left = records(b[:-56])
+    nodes, left = records(b[:-TAIL])
     found = {
         "b": offset != len(b) - TAIL,
         "c": left != 0 or count != len(nodes),
@@ -65,13 +64,13 @@ def faults(b):
 def refuses(i, b):
     """The first refusal of a restore, or done."""
     if i.nodes or i.root_mount:
-        return NOTFRESH
+        return rules.NOTFRESH
     if faults(b):
-        return BADSAVE
+        return rules.BADSAVE
     in_opts, out_opts = struct.unpack_from("<QQ", b, len(b) - TAIL)
     if in_opts & ~i.known or out_opts & ~i.known:
         return rules.BADOPT
-    count = struct.unpack_from("<I", b, len(b) - 20)[0]
+    count = struct.unpack_from("<4xI", b, len(b) - TRAILER)[0]
     return rules.NOROOM if count + 1 > i.capacity else rules.DONE
 
 
@@ -79,10 +78,10 @@ def restore(i, b):
     code = refuses(i, b)
     if code:
         return code
-    i.nodes = [rules.Node(*node) for node in records(b[:-56])[0]]
+    i.nodes = [rules.Node(*node) for node in records(b[:-TAIL])[0]]
     i.forget()
     i.in_opts, i.out_opts, *own, i.flags = struct.unpack_from("<QQIIIB", b, len(b) - TAIL)
     i.own = tuple(own)
-    i.next, i.counter = struct.unpack_from("<QB", b, len(b) - 16)
+    i.next, i.counter = struct.unpack_from("<8xQB", b, len(b) - TRAILER)
     i.initialized = i.in_opts != 0
     return rules.DONE

@@ -215,7 +215,7 @@ class Run:
         elif verb not in NUMBERS:
             code, values = UNKNOWN, []
         elif verb == "laid":
-            code, values = 0, [int(i is not None)]
+            code, values = rules.DONE, [int(i is not None)]
         elif verb == "list":
             code, values = self.list(i, *numbers)
         elif verb == "save":
@@ -243,7 +243,7 @@ class Run:
         self.calls += 1
 
     def mark(self, verb, code, i, before):
-        if code == 0 and verb in WRITES:
+        if code == rules.DONE and verb in WRITES:
             return "."
         if i is None or before == (i.counter, len(i.nodes)):
             return "="
@@ -267,4 +267,4 @@ class Run:
         if fits:
             self.saved[:len(b)] = b
         self.variables[v % 8] = len(b) if fits else 0
-        return 0 if fits else rules.SMALL, [self.variables[v % 8], zlib.adler32(self.saved[:room + BEHIND])]
+        return rules.DONE if fits else rules.SMALL, [self.variables[v % 8], zlib.adler32(self.saved[:room + BEHIND])]

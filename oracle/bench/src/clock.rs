@@ -4,7 +4,7 @@ use std::time::{Duration, Instant};
 
 /// How long a batch is to take at least, and how many batches each side makes.
 const BATCH: Duration = Duration::from_micros(1500);
-const ROUNDS: usize = 41;
+pub const ROUNDS: usize = 41;
 
 /// A call that takes longer than this is a long one.
 const LONG: Duration = Duration::from_micros(50);

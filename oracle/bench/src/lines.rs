@@ -10,7 +10,7 @@ use crate::house::State;
 use crate::pair::{alike, backend, c_string, chain_path, light, name, site_name, Pair};
 use crate::port_side::exports::*;
 use crate::port_side::PortSide;
-use crate::side::{Call, Side};
+use crate::side::{Call, Side, SMALL};
 
 /// The panel of the plot that a line is in, and its number of nodes there.
 type Plot = Option<(&'static str, usize)>;
@@ -30,9 +30,6 @@ pub struct Table<'a> {
     pub tell: &'a mut dyn FnMut(&Line),
     pub only: Option<String>,
 }
-
-/// The number of a refusal by the layout rule (R15).
-const SMALL: u32 = 12;
 
 const SIZES: [usize; 3] = [10, 100, 1000];
 
@@ -251,11 +248,7 @@ impl<'a> Table<'a> {
         assert_eq!(answer, PortSide::allocate(slots, counter, 7));
         assert_eq!(answer.1, visited);
         pair.rust.set_slots(slots, counter);
-        let mut t = Box::new(FsIndexes { used: [0; 256], tags: [0; 256], next_super: counter });
-        for (k, slot) in slots.iter().enumerate() {
-            t.used[k] = slot.is_some() as u8;
-            t.tags[k] = slot.unwrap_or(0);
-        }
+        let mut t = Box::new(PortSide::indexes(slots, counter));
         let vfs = &pair.rust.vfs;
         self.line(
             title,
@@ -392,7 +385,7 @@ impl<'a> Table<'a> {
             plain(|| opaque(vfs).initialized()),
             plain(|| unsafe { galdovar_initialized(opaque(at), opaque(len)) }),
         );
-        let of = |bytes: &[u8]| unsafe { galdovar_initialized(bytes.as_ptr(), bytes.len()) }.code;
+        let of = |bytes: &[u8]| unsafe { galdovar_initialized(bytes.as_ptr(), bytes.len()) }.code as u64;
         let short = vec![0; 8191];
         let mut unmarked = pair.port.bytes.clone();
         unmarked[0] ^= 1;

@@ -34,7 +34,10 @@ fn print(line: &Line) {
 fn main() {
     let arguments: Vec<String> = std::env::args().skip(1).collect();
     println!("{}, {}, {}", env!("BENCH_COMPILER"), std::env::consts::ARCH, std::env::consts::OS);
-    println!("Nanoseconds of one call, the lowest of 41 batches of each side by turns. No buffer is cleared before a timed call.");
+    println!(
+        "Nanoseconds of one call, the lowest of {} batches of each side by turns. No buffer is cleared before a timed call.",
+        clock::ROUNDS
+    );
     println!();
     println!("| line | Rust | port | ratio | goal |");
     println!("|---|---|---|---|---|");

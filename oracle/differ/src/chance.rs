@@ -3,9 +3,7 @@
 
 use crate::house::State;
 use crate::random::Random;
-use crate::side::{Backend, Call, Creation, Node, Options, Tables};
-
-pub const MAX_INO: u64 = (1 << 56) - 1;
+use crate::side::{Backend, Call, Creation, Node, Options, Tables, DIR_MODE, MAX_INO};
 
 const NAMES: [&[u8]; 14] = [
     b"a",
@@ -217,7 +215,7 @@ impl Chance {
             },
             uid: self.id(t.options.mapping),
             gid: self.id(t.options.mapping),
-            mode: if self.random.one_in(2) { 16895 } else { self.random.next() as u32 },
+            mode: if self.random.one_in(2) { DIR_MODE } else { self.random.next() as u32 },
         }
     }
 

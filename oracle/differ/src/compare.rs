@@ -1,14 +1,14 @@
 //! Both sides on the same calls: every answer is held against the other's, and after every call the whole tables.
 
 use crate::chance::Chance;
-use crate::directed;
+use crate::directed::{self, node};
 use crate::house::State;
 use crate::port_side::PortSide;
 use crate::random::Random;
 use crate::record::{changes, learn, make};
 use crate::rust_side::RustSide;
-use crate::side::{Answer, Call, Creation, Node, Options, Side, Tables};
-use crate::text::line;
+use crate::side::{Answer, Call, Creation, Options, Side, Tables, BADSAVE};
+use crate::text::{call_text, line};
 
 pub struct Compare<P> {
     rust: RustSide,
@@ -35,7 +35,7 @@ impl<P: Side> Compare<P> {
         }
         println!("different {} at the last of these calls:", what);
         for call in &self.trail {
-            println!("  {}", crate::text::call_text(call));
+            println!("  {}", call_text(call));
         }
         println!("  the Rust: {}\n  the port: {}", rust, port);
     }
@@ -143,19 +143,18 @@ impl<P: Side> Compare<P> {
     /// instance.
     pub fn paths(&mut self, longest: u32) {
         for len in 0..=longest {
-            let tree = directed::small_tree();
-            for call in &tree {
+            let count = 4_u64.pow(len);
+            let path = |k: u64| (0..len).map(|at| b"/.ab"[(k >> (2 * at) & 3) as usize]).collect::<Vec<u8>>();
+            for call in &directed::small_tree() {
                 self.call(call);
             }
-            for k in 0..4_u64.pow(len) {
-                let path: Vec<u8> = (0..len).map(|at| b"/.ab"[(k >> (2 * at) & 3) as usize]).collect();
-                self.call(&Call::Walk(path.clone()));
-                self.call(&Call::Rootfs(path));
+            for k in 0..count {
+                self.call(&Call::Walk(path(k)));
+                self.call(&Call::Rootfs(path(k)));
             }
-            for k in 0..4_u64.pow(len) {
-                let path: Vec<u8> = (0..len).map(|at| b"/.ab"[(k >> (2 * at) & 3) as usize]).collect();
+            for k in 0..count {
                 self.call(&directed::new(16, (0, 0, 0)));
-                self.call(&directed::mount(&path, 1));
+                self.call(&directed::mount(&path(k), 1));
             }
         }
     }
@@ -176,7 +175,8 @@ impl<P: Side> Compare<P> {
         }
     }
 
-    /// Every two bytes behind a slash; every first byte with next bytes around each limit, up to five.
+    /// Every two bytes behind a slash; every first byte with up to three next bytes around each limit. The longest, without
+    /// byte 0, are looked up too.
     pub fn utf8(&mut self) {
         let edges = [0x00, 0x2f, 0x61, 0x7f, 0x80, 0x8f, 0x90, 0x9f, 0xa0, 0xbf, 0xc0, 0xc2, 0xe0, 0xf0, 0xff];
         self.call(&directed::new(16, (0, 0, 0)));
@@ -200,7 +200,6 @@ impl<P: Side> Compare<P> {
     /// Every change of one byte of some saved states, restored. Where one of R129 (g) to (k) holds and the port says
     /// BADSAVE, the Rust may accept, or may refuse the options first: that is explained. In all else the two must agree.
     pub fn changed_states(&mut self) {
-        let node = |number, parent, name: &[u8]| Node { number, parent, name: name.to_vec() };
         let options = Options { in_opts: 5, out_opts: 9, mapping: (1, 2, 3), flags: 9 };
         let states = [
             State { nodes: vec![], options, next: 2, counter: 7 },
@@ -233,7 +232,7 @@ impl<P: Side> Compare<P> {
         self.follow(call);
         let rust = self.rust.perform(call);
         let port = self.port.perform(call);
-        if faulty && port.code() == 10 && rust.code() != 10 {
+        if faulty && port.code() == BADSAVE && rust.code() != BADSAVE {
             self.explained += 1;
         } else if rust != port {
             self.differs("answer", line(call, &rust), line(call, &port));

@@ -1,16 +1,15 @@
 //! Calls chosen one by one: the rules' own examples, the edges, and small inputs in full. Each list begins with a new
 //! instance and stays within the limits in which the two sides must agree.
 
-use crate::chance::MAX_INO;
 use crate::house::State;
-use crate::side::{Backend, Call, Creation, Node, Options};
+use crate::side::{Backend, Call, Creation, Node, Options, DIR_MODE, MAX_INO};
 
 pub fn new(capacity: u64, mapping: (u32, u32, u32)) -> Call {
     Call::New(Creation { capacity, known: u64::MAX, in_opts: 0, out_opts: 0, flags: 0, mapping })
 }
 
 fn backend(tag: u32) -> Backend {
-    Backend { tag, root: 1, max: 1000, uid: 0, gid: 0, mode: 16895 }
+    Backend { tag, root: 1, max: 1000, uid: 0, gid: 0, mode: DIR_MODE }
 }
 
 pub fn mount(path: &[u8], tag: u32) -> Call {

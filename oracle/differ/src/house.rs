@@ -1,7 +1,11 @@
 //! Saved state in the layout of R119 to R123 of docs/RULES.md, and in the layout of the shims `versionize` and
 //! `dbs-snapshot`, which the Rust writes here.
 
-use crate::side::{Node, Options};
+use crate::side::{Node, Options, MAX_INO};
+
+/// The bytes of the trailer, and those of the options and the trailer together (R121, R123).
+const TRAILER: usize = 24;
+pub const TAIL: usize = 32 + TRAILER;
 
 #[derive(Clone, Debug, PartialEq, Eq)]
 pub struct State {
@@ -57,15 +61,15 @@ impl State {
     /// The state that the bytes spell, where their frame holds: lengths, offset, count, version, zeros, flags, and names
     /// that a Rust string can hold. What the numbers and names mean is not judged.
     pub fn from_house(bytes: &[u8]) -> Option<State> {
-        if bytes.len() < 56 {
+        if bytes.len() < TAIL {
             return None;
         }
-        let mut r = Reader(&bytes[bytes.len() - 24..]);
+        let mut r = Reader(&bytes[bytes.len() - TRAILER..]);
         let offset = r.number(4)? as usize;
         let count = r.number(4)?;
         let next = r.number(8)?;
         let counter = r.number(1)? as u8;
-        if offset != bytes.len() - 56 || r.number(7)? != 1 {
+        if offset != bytes.len() - TAIL || r.number(7)? != 1 {
             return None;
         }
         let mut r = Reader(&bytes[..offset]);
@@ -97,7 +101,7 @@ impl State {
         let rising = (1..self.nodes.len()).all(|k| numbers(k - 1) < numbers(k));
         let from_two = self.nodes.first().map_or(true, |n| n.number >= 2);
         let above = self.nodes.iter().all(|n| n.number < self.next);
-        let next = above && self.next >= 2 && self.next <= 1 << 56;
+        let next = above && self.next >= 2 && self.next <= MAX_INO + 1;
         let parents = self
             .nodes
             .iter()

@@ -2,7 +2,8 @@
 //! docs/LAYOUT.md lays them out. Behind the bytes that an instance takes, and in lent output, stands a pattern that no
 //! call may touch.
 
-use crate::side::{Answer, Backend, Creation, Mount, Node, Options, Side, Tables};
+use crate::house::TAIL;
+use crate::side::{Answer, Backend, Creation, Mount, Node, Options, Side, Tables, MAX_INO};
 
 /// The declarations that the crate for a Rust host has, in its own format. `oracle/run` copies them to where this path leads
 /// from the build.
@@ -16,15 +17,24 @@ const PATTERN: u8 = 0xa5;
 /// Bytes of the pattern behind an instance.
 const BEHIND: usize = 64;
 
-/// The bytes that a saved record takes at most, and those of a state besides its records (R120 to R124).
+/// Where the counter stands, and where the occupancy and the tags of the slots begin (docs/LAYOUT.md).
+pub const COUNTER: usize = 81;
+const SLOTS: usize = 256;
+const TAGS: usize = 512;
+
+/// The bytes that a saved record takes at most (R120).
 const RECORD: usize = 18 + 255;
-const TAIL: usize = 56;
 
 pub struct PortSide {
     /// The bytes of the instance, and the pattern behind them.
     pub bytes: Vec<u8>,
     /// The mapping that it was made with.
     mapping: (u32, u32, u32),
+}
+
+/// The bytes that an instance takes (R20).
+fn size(capacity: usize) -> usize {
+    512 * capacity + 8192
 }
 
 fn number(bytes: &[u8], at: usize, width: usize) -> u64 {
@@ -47,15 +57,19 @@ impl PortSide {
         (self.bytes.as_mut_ptr(), self.bytes.len())
     }
 
-    /// Index 0 to 255 or none, the count, and the counter after, of one step of the lent allocator.
-    pub fn allocate(slots: &[Option<u32>], counter: u8, tag: u32) -> (Option<u8>, u64, u8) {
+    /// An allocator to be lent, with those tags in its slots.
+    pub fn indexes(slots: &[Option<u32>], counter: u8) -> exports::FsIndexes {
         let mut t = exports::FsIndexes { used: [0; 256], tags: [0; 256], next_super: counter };
         for (k, slot) in slots.iter().enumerate() {
-            if let Some(tag) = slot {
-                t.used[k] = 1;
-                t.tags[k] = *tag;
-            }
+            t.used[k] = slot.is_some() as u8;
+            t.tags[k] = slot.unwrap_or(0);
         }
+        t
+    }
+
+    /// The index found or none, the count, and the counter after, of one step of the lent allocator.
+    pub fn allocate(slots: &[Option<u32>], counter: u8, tag: u32) -> (Option<u8>, u64, u8) {
+        let mut t = PortSide::indexes(slots, counter);
         let before = (t.used, t.tags);
         // SAFETY: the struct is laid out as the call declares it, and is lent for the call alone.
         let step = unsafe { exports::galdovar_allocate_in(&mut t, tag) };
@@ -67,16 +81,17 @@ impl PortSide {
         (found, step.count as u64, t.next_super)
     }
 
-    fn node(&self, i: usize, count: usize) -> Node {
-        let low = |n: u64| n & ((1 << 56) - 1);
+    /// The node in a row.
+    fn node(&self, i: usize, capacity: usize) -> Node {
         let b = &self.bytes;
-        let len = b[8192 + 24 * count + 8 * i] as usize;
+        let low = |at: usize| number(b, at, 8) & MAX_INO;
+        let len = b[8192 + 24 * capacity + 8 * i] as usize;
         let head = len.saturating_sub(7);
-        let at = 8192 + 44 * count + 248 * i;
-        let tail = 8192 + 24 * count + 8 * i + 1;
+        let at = 8192 + 44 * capacity + 248 * i;
+        let tail = 8192 + 24 * capacity + 8 * i + 1;
         let mut name = b[at..at + head].to_vec();
         name.extend_from_slice(&b[tail..tail + len - head]);
-        Node { number: low(number(b, 8192 + 8 * i, 8)), parent: low(number(b, 8192 + 8 * count + 8 * i, 8)), name }
+        Node { number: low(8192 + 8 * i), parent: low(8192 + 8 * capacity + 8 * i), name }
     }
 
     /// The mapping in force, which stands at byte 56, or that of the options, at 68.
@@ -99,7 +114,7 @@ impl PortSide {
             index => Some(Mount {
                 node,
                 index: index as u8,
-                root: full & ((1 << 56) - 1),
+                root: full & MAX_INO,
                 uid: mapped(number(b, uid, 4) as u32),
                 gid: mapped(number(b, gid, 4) as u32),
                 mode: number(b, mode, 4) as u32,
@@ -121,13 +136,19 @@ impl PortSide {
         }
         mounts
     }
+
+    /// No call: puts a tag into a slot, or empties it.
+    pub fn set_slot(&mut self, index: u8, tag: Option<u32>) {
+        let at = TAGS + 4 * index as usize;
+        self.bytes[SLOTS + index as usize] = tag.is_some() as u8;
+        self.bytes[at..at + 4].copy_from_slice(&tag.unwrap_or(0).to_le_bytes());
+    }
 }
 
 impl Side for PortSide {
     fn create(&mut self, c: &Creation) -> Answer {
-        let len = 512 * c.capacity as usize + 8192;
         self.bytes.clear();
-        self.bytes.resize(len + BEHIND, PATTERN);
+        self.bytes.resize(size(c.capacity as usize) + BEHIND, PATTERN);
         let (at, len) = self.lent();
         self.mapping = c.mapping;
         let (internal, external, range) = c.mapping;
@@ -279,7 +300,7 @@ impl Side for PortSide {
     fn tables(&self) -> Tables {
         let b = &self.bytes;
         let capacity = number(b, 8, 8) as usize;
-        assert!(b[512 * capacity + 8192..].iter().all(|b| *b == PATTERN), "bytes behind the instance are changed");
+        assert!(b[size(capacity)..].iter().all(|b| *b == PATTERN), "bytes behind the instance are changed");
         let count = number(b, 16, 8) as usize;
         let nodes: Vec<Node> = (0..count).map(|i| self.node(i, capacity)).collect();
         let children = std::iter::once(1)
@@ -291,9 +312,9 @@ impl Side for PortSide {
             nodes,
             children,
             next: number(b, 24, 8),
-            counter: b[81],
+            counter: b[COUNTER],
             slots: (0..256)
-                .map(|k| if b[256 + k] == 0 { None } else { Some(number(b, 512 + 4 * k, 4) as u32) })
+                .map(|k| if b[SLOTS + k] == 0 { None } else { Some(number(b, TAGS + 4 * k, 4) as u32) })
                 .collect(),
             mounts,
             options: Options {
@@ -309,11 +330,9 @@ impl Side for PortSide {
     }
 
     fn set_slots(&mut self, slots: &[Option<u32>], counter: u8) {
-        self.bytes[81] = counter;
+        self.bytes[COUNTER] = counter;
         for (k, tag) in slots.iter().enumerate() {
-            let at = 512 + 4 * k;
-            self.bytes[256 + k] = tag.is_some() as u8;
-            self.bytes[at..at + 4].copy_from_slice(&tag.unwrap_or(0).to_le_bytes());
+            self.set_slot(k as u8, *tag);
         }
     }
 }

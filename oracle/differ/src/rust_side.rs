@@ -13,14 +13,7 @@ use fuse_backend_rs::probe::RoutedTo;
 
 use crate::house::{tree_from_shim, State};
 use crate::side::{maybe, Answer, Backend, Creation, Mount, Options, Side, Tables};
-
-const NOENT: u64 = 1;
-const INVAL: u64 = 2;
-const INODE: u64 = 4;
-const FULL: u64 = 5;
-const NOTFOUND: u64 = 7;
-const BADSAVE: u64 = 10;
-const BADOPT: u64 = 13;
+use crate::side::{BADOPT, BADSAVE, FULL, INODE, INVAL, NOENT, NOTFOUND};
 
 /// What became of backends during a call: the tags destroyed, and the tags of those that nobody holds any more.
 #[derive(Default)]

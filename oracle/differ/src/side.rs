@@ -2,6 +2,23 @@
 //! An answer begins with the refusal number of docs/RULES.md, R15; the fields are those of R16 and in the order given
 //! at each method.
 
+/// The refusal numbers of R15 that are named in these programs; `SMALL` by `bench` alone.
+pub const NOENT: u64 = 1;
+pub const INVAL: u64 = 2;
+pub const INODE: u64 = 4;
+pub const FULL: u64 = 5;
+pub const NOTFOUND: u64 = 7;
+pub const BADSAVE: u64 = 10;
+#[allow(dead_code)]
+pub const SMALL: u64 = 12;
+pub const BADOPT: u64 = 13;
+
+/// The largest number of a node or of a backend's file (R5).
+pub const MAX_INO: u64 = (1 << 56) - 1;
+
+/// The mode of a directory with all permissions (R13).
+pub const DIR_MODE: u32 = 16895;
+
 /// The known option bits, the options and the node capacity of a new instance (R26, R27).
 #[derive(Clone, Debug)]
 pub struct Creation {

@@ -3,8 +3,8 @@
 //! random calls.
 
 use crate::compare::Compare;
-use crate::port_side::PortSide;
-use crate::side::{Answer, Backend, Creation, Side, Tables};
+use crate::port_side::{PortSide, COUNTER};
+use crate::side::{Answer, Backend, Creation, Side, Tables, FULL, INODE, INVAL};
 
 #[derive(Clone, Copy, PartialEq)]
 pub enum Slip {
@@ -33,11 +33,6 @@ const SLIPS: [(Slip, &str); 10] = [
     (Slip::NoentBeforeSize, "a listing tests NOENT before size 0"),
 ];
 
-/// Where the counter and the occupancy of the slots stand (docs/LAYOUT.md).
-const COUNTER: usize = 81;
-const SLOTS: usize = 256;
-const TAGS: usize = 512;
-
 pub struct Slipped {
     port: PortSide,
     slip: Slip,
@@ -63,12 +58,6 @@ fn folded(path: &[u8]) -> Vec<u8> {
 }
 
 impl Slipped {
-    fn set(&mut self, index: u8, tag: Option<u32>) {
-        let at = TAGS + 4 * index as usize;
-        self.port.bytes[SLOTS + index as usize] = tag.is_some() as u8;
-        self.port.bytes[at..at + 4].copy_from_slice(&tag.unwrap_or(0).to_le_bytes());
-    }
-
     /// A mount that frees the index of the old mount first, and is right in all else.
     fn mount_freed(&mut self, path: &[u8], b: Backend) -> Answer {
         let walked = self.port.path_walk(path);
@@ -79,10 +68,10 @@ impl Slipped {
             None => return self.port.mount(path, b),
         };
         let held = tables.slots[index as usize];
-        self.set(index, None);
+        self.port.set_slot(index, None);
         let mut answer = self.port.mount(path, b);
         if answer.code() != 0 {
-            self.set(index, held);
+            self.port.set_slot(index, held);
         } else if let Some(tag) = held {
             answer.numbers[3] = 1;
             answer.numbers[4] = tag as u64;
@@ -101,9 +90,9 @@ impl Side for Slipped {
         self.mounts += 1;
         let before = self.port.bytes[COUNTER];
         match self.slip {
-            Slip::AllFull => return Answer::of(&[5, 0, 257, 0, 0]),
+            Slip::AllFull => return Answer::of(&[FULL, 0, 257, 0, 0]),
             Slip::AlwaysOne => {
-                self.set(1, None);
+                self.port.set_slot(1, None);
                 self.port.bytes[COUNTER] = 1;
             }
             Slip::RestartAtOne => self.port.bytes[COUNTER] = 1,
@@ -115,7 +104,7 @@ impl Side for Slipped {
             Slip::OldFreedFirst => self.mount_freed(path, b),
             _ => self.port.mount(path, b),
         };
-        let refused = answer.code() == 2 || answer.code() == 4;
+        let refused = answer.code() == INVAL || answer.code() == INODE;
         match self.slip {
             Slip::IdleCounter => self.port.bytes[COUNTER] = before,
             Slip::CounterPutBack if refused => self.port.bytes[COUNTER] = before,
@@ -126,11 +115,8 @@ impl Side for Slipped {
     }
 
     fn readdir(&mut self, node: u64, size: u32, offset: u64, room: usize) -> Answer {
-        let answer = self.port.readdir(node, size, offset, room);
-        if self.slip == Slip::NoentBeforeSize && size == 0 {
-            return self.port.readdir(node, 1, offset, room);
-        }
-        answer
+        let size = if self.slip == Slip::NoentBeforeSize { size.max(1) } else { size };
+        self.port.readdir(node, size, offset, room)
     }
 
     fn set_remove_pseudo_root(&mut self) -> Answer {

@@ -2,11 +2,10 @@
 
 use std::panic::{catch_unwind, AssertUnwindSafe};
 
-use crate::chance::MAX_INO;
 use crate::directed::{mount, new, node, restore_mount, walk};
 use crate::house::State;
 use crate::rust_side::RustSide;
-use crate::side::{Call, Creation, Node, Options, Side};
+use crate::side::{Call, Creation, Node, Options, Side, MAX_INO};
 use crate::text::{call_text, line};
 
 fn restore(nodes: Vec<Node>, next: u64) -> Call {

@@ -1,7 +1,7 @@
 //! Stands for the crate's `src/lib.rs`: the modules that the two files need, and no transport, no passthrough, no
 //! overlay. The macros of `log` are in scope as there.
 
-#![allow(unexpected_cfgs, unused_imports, dead_code, unstable_name_collisions, unused_macros)]
+#![allow(unused_imports, dead_code, unstable_name_collisions)]
 
 #[macro_use]
 extern crate log;

@@ -7,7 +7,6 @@ use std::io::{Read, Write};
 
 #[derive(Debug)]
 pub enum VersionizeError {
-    Io(i32),
     Deserialize(String),
     Serialize(String),
 }
@@ -40,8 +39,6 @@ pub trait Versionize {
     fn deserialize<R: Read>(from: &mut R, map: &VersionMap, version: u16) -> VersionizeResult<Self>
     where
         Self: Sized;
-
-    fn version() -> u16;
 
     fn type_id() -> TypeId
     where
@@ -80,10 +77,6 @@ macro_rules! number {
                 from.read_exact(&mut bytes).map_err(too_few)?;
                 Ok(<$t>::from_le_bytes(bytes))
             }
-
-            fn version() -> u16 {
-                1
-            }
         }
     };
 }
@@ -100,10 +93,6 @@ impl Versionize for bool {
     fn deserialize<R: Read>(from: &mut R, map: &VersionMap, version: u16) -> VersionizeResult<bool> {
         Ok(u8::deserialize(from, map, version)? != 0)
     }
-
-    fn version() -> u16 {
-        1
-    }
 }
 
 impl Versionize for String {
@@ -115,10 +104,6 @@ impl Versionize for String {
     fn deserialize<R: Read>(from: &mut R, map: &VersionMap, version: u16) -> VersionizeResult<String> {
         let len = u64::deserialize(from, map, version)?;
         String::from_utf8(take(from, len)?).map_err(|e| VersionizeError::Deserialize(e.to_string()))
-    }
-
-    fn version() -> u16 {
-        1
     }
 }
 
@@ -138,9 +123,5 @@ impl<T: Versionize> Versionize for Vec<T> {
             items.push(T::deserialize(from, map, version)?);
         }
         Ok(items)
-    }
-
-    fn version() -> u16 {
-        1
     }
 }

@@ -73,9 +73,6 @@ pub fn derive(input: TokenStream) -> TokenStream {
             fn deserialize<R: ::std::io::Read>(from: &mut R, map: &::versionize::VersionMap, version: u16) -> ::versionize::VersionizeResult<Self> {{
                 Ok({} {{ {} }})
             }}
-            fn version() -> u16 {{
-                1
-            }}
         }}",
         name, writes, name, reads
     )

@@ -22,18 +22,14 @@ impl Vfs {
         self.superblocks.load()[fs_idx as usize].clone()
     }
 
-    pub fn probe_mount(&self, node: u64) -> Option<MountProbe> {
-        self.mountpoints.load().get(&node).map(|m| MountProbe {
-            node,
+    pub fn probe_mounts(&self) -> Vec<MountProbe> {
+        let probe = |(node, m): (&u64, &Arc<MountPointData>)| MountProbe {
+            node: *node,
             fs_idx: m.fs_idx,
             ino: m.ino,
             root_entry: m.root_entry,
-        })
-    }
-
-    pub fn probe_mounts(&self) -> Vec<MountProbe> {
-        let nodes: Vec<u64> = self.mountpoints.load().keys().cloned().collect();
-        nodes.iter().filter_map(|n| self.probe_mount(*n)).collect()
+        };
+        self.mountpoints.load().iter().map(probe).collect()
     }
 
     pub fn probe_removes(&self) -> bool {
