@@ -21,7 +21,7 @@ use Rattle.rules.proofs.Allocation.{exact}
 use Rattle.rules.proofs.Laps.{every-allocator, last-append}
 use Rattle.rules.proofs.Turn.{mounts-allocate}
 use Rattle.rules.proofs.Trace.{searches, steps-going}
-use Rattle.rules.proofs.Given.{not-given, ungiven-slot, standing-slot}
+use Rattle.rules.proofs.Given.{ungiven-slot, standing-slot}
 
 -- ---- lists of indexes
 
@@ -44,7 +44,7 @@ ungiven : (cs : List Call) (i : Instance) (k : ℕ) → (Has k (handedOut (steps
 unfolding stepsOf handedOut namedIn Ungiven
 ungiven [] i k h n = tt
 ungiven (c ∷ cs) i k h n = (
-  not-given k c (rule i c) (λ e. h (has-first (rule i c .found) k _ e)) (λ e. n (has-first (named c) k _ e)),
+  λ g. ⊎-elim (λ e. h (has-first (rule i c .found) k _ e)) (λ e. n (has-first (named c) k _ e)) (g .1),
   ungiven cs (rule i c .after) k (λ w. h (has-later (rule i c .found) k _ w)) (λ w. n (has-later (named c) k _ w)),
 )
 

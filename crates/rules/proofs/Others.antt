@@ -126,7 +126,7 @@ mount-as i r (some k) y =
       (
         same-mount w,
         elim (ℕ-discrete (ended i (r .path)) y) [
-          | yes e ↦ by-mount r refl (sym e)
+          | yes e ↦ by-mount r refl refl (sym e)
           | no n ↦ same-mount (placed-same k r (ended i (r .path)) (walkedTo (r .path) (stepped i)) y n ∙ w)
         ],
       ),
@@ -141,7 +141,7 @@ restored-as i k r y =
       (
         same-mount w,
         elim (ℕ-discrete (ended i (r .path)) y) [
-          | yes e ↦ by-restored k r refl (sym e)
+          | yes e ↦ by-restored k r refl refl (sym e)
           | no n ↦ same-mount (placed-same k r (ended i (r .path)) (walkedTo (r .path) i) y n ∙ w)
         ],
       ),
@@ -150,7 +150,7 @@ restored-as i k r y =
 unmounted : (i : Instance) (path : List ℕ) (x : ℕ) (m : Mount) → reached i path ≡ some x → (y : ℕ) → MountAfter i (umount path) (unmounts i x m) y
 unfolding unmounts
 unmounted i path x m q y =
-    elim (ℕ-discrete x y) [ yes e ↦ by-unmount path refl (q ∙ ap {B = Option ℕ} some e) | no n ↦ same-mount (taken-same x y n i) ]
+    elim (ℕ-discrete x y) [ yes e ↦ by-unmount path refl refl (q ∙ ap {B = Option ℕ} some e) | no n ↦ same-mount (taken-same x y n i) ]
 
 bare-nodes : (es : List Entry) (y : ℕ) → on (nodesFrom es) y ≡ none
 unfolding nodesFrom nodeIn

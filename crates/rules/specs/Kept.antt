@@ -1,12 +1,10 @@
 -- What becomes of a number that a session keeps: it leads into its own mount or nowhere until its index is handed out again.
 use Prim.Native.Nat.{ℕ, _<_}
-use mathlib.Core.Bool.{Bool, false, _&&_, _||_}
 use mathlib.Core.Logic.{_⊎_}
 use mathlib.Core.List.{List, [], _∷_}
 use mathlib.Core.Option.{Option, none, some}
 use mathlib.Core.Path.{_≡_}
 use lib.ListN.{length}
-use lib.Dec.{eqb}
 use Rattle.rules.specs.Numbers.{indexOf, numberOf, NOENT}
 use Rattle.rules.specs.Instance.{Instance, counterOf, emptySlot, slotOf}
 use Rattle.rules.specs.Outcome.{toBackend, Outcome, refused, says}
@@ -36,7 +34,7 @@ named initialized = none
 named (save buffer) = none
 named (restore b) = none
 
--- an index before others, if there is one
+-- a number before others, if there is one
 abbrev pub before : Option ℕ → List ℕ → List ℕ
 before none ks = ks
 before (some k) ks = k ∷ ks
@@ -51,19 +49,14 @@ unfoldable pub handedOut : List Step → List ℕ
 handedOut [] = []
 handedOut (s ∷ ss) = before (s .found) (handedOut ss)
 
--- it is there, and it is k
-abbrev pub isIt : ℕ → Option ℕ → Bool
-isIt k none = false
-isIt k (some j) = eqb j k
-
--- the call is done and gives k away: a mount hands it out, or a restored mount names it
-abbrev pub gives : ℕ → Call → Outcome → Bool
-gives k c o = eqb (o .code) 0 && (isIt k (o .found) || isIt k (named c))
+-- the call is done and gives k away: a mount hands it out, or a restored mount names it (R76, R85, R93)
+abbrev pub Gives : ℕ → Call → Outcome → Type 0
+Gives k c o = (o .code ≡ 0) × ((o .found ≡ some k) ⊎ (named c ≡ some k))
 
 -- no call gives k away, each on what the one before left
 unfoldable pub Ungiven : ℕ → Instance → List Call → Type 0
 Ungiven k i [] = Unit {0}
-Ungiven k i (c ∷ cs) = (gives k c (rule i c) ≡ false) × Ungiven k (rule i c .after) cs
+Ungiven k i (c ∷ cs) = (Gives k c (rule i c) → ⊥) × Ungiven k (rule i c .after) cs
 
 -- ---- mounts that calls take off
 
@@ -89,14 +82,14 @@ abbrev pub indexIn : Option Mount → Option ℕ
 indexIn none = none
 indexIn (some m) = some (m .index)
 
--- the call is done and ends the mount of k: it takes a mount of that index off, or is a restored mount that names it
-abbrev pub ends : ℕ → Instance → Call → Outcome → Bool
-ends k i c o = eqb (o .code) 0 && (isIt k (indexIn (oldMount i c)) || isIt k (named c))
+-- the call is done and ends the mount of k: it takes a mount of that index off, or is a restored mount that names it (R76, R93, R98)
+abbrev pub Ends : ℕ → Instance → Call → Outcome → Type 0
+Ends k i c o = (o .code ≡ 0) × ((indexIn (oldMount i c) ≡ some k) ⊎ (named c ≡ some k))
 
 -- no call ends the mount of k, each on what the one before left
 unfoldable pub Standing : ℕ → Instance → List Call → Type 0
 Standing k i [] = Unit {0}
-Standing k i (c ∷ cs) = (ends k i c (rule i c) ≡ false) × Standing k (rule i c .after) cs
+Standing k i (c ∷ cs) = (Ends k i c (rule i c) → ⊥) × Standing k (rule i c .after) cs
 
 -- ---- what changes a slot
 
