@@ -15,12 +15,12 @@ use Rattle.rules.specs.Mount.{Request, allocation}
 use Rattle.rules.specs.Lookup.{routeTag, routeRule}
 use Rattle.rules.specs.Calls.{Call, mount, route, rule}
 use Rattle.rules.specs.Laps.{Step, Going, total, lastFound, Has}
-use Rattle.rules.specs.Trace.{Unrestored, afterAll, stepOf, stepsOf}
+use Rattle.rules.specs.Trace.{Unrestored, afterAll, stepsOf}
 use Rattle.rules.specs.Kept.{named, before, namedIn, handedOut, Ungiven, LeadsTo, MountedAt, EveryNew, EveryStanding, EveryOwn, EveryKept, EveryJudged}
 use Rattle.rules.proofs.Allocation.{exact}
-use Rattle.rules.proofs.Laps.{every-allocator, last-append}
+use Rattle.rules.proofs.Laps.{last-append}
 use Rattle.rules.proofs.Turn.{mounts-allocate}
-use Rattle.rules.proofs.Trace.{searches, steps-going}
+use Rattle.rules.proofs.Trace.{searches, steps-going, low-after, laps-from}
 use Rattle.rules.proofs.Given.{ungiven-slot, standing-slot}
 
 -- ---- lists of indexes
@@ -159,13 +159,11 @@ up-to (s ∷ ss) c k l (inr (a, g)) h =
 
 not-sooner : (i : Instance) (r : Request) (k : ℕ) → MountedAt i r k → (cs : List Call) → Unrestored (rule i (mount r) .after) cs
     → Has k (handedOut (stepsOf (rule i (mount r) .after) cs)) → 256 ≤ total (stepsOf (rule i (mount r) .after) cs)
-unfolding allocation allocate
 not-sooner i r k m cs u h =
     let a = rule i (mount r) .after in
-    let s = searches i (mount r) k (m .found) in
-    let low : counterOf a < 256 = omega (arith, s .1) in
+    let low = low-after i (mount r) k (m .found) in
     let w = up-to (stepsOf a cs) (counterOf a) k low (steps-going cs a low u) h in
-    let lap = every-allocator (counterOf i) (m .counter) (stepOf i (mount r)) k (s .0) (m .found) (w .steps) (subst (λ n. Going n (w .steps)) (s .1) (w .going)) (w .last) in
+    let lap = laps-from i (m .counter) (mount r) k (m .found) (w .steps) (w .going) (w .last) in
     omega (arith, w .few, lap .positive, lap .whole)
 
 -- the theorem: within a lap

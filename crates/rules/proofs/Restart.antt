@@ -4,19 +4,17 @@ use mathlib.Core.List.{List, [], _∷_}
 use Prim.Native.Nat.{ℕ, _+_, _%_, _<_}
 use native.Mathlib.Omega.{arith}
 use Rattle.rules.specs.Instance.{Instance, counterOf}
-use Rattle.rules.specs.Mount.{allocation}
 use Rattle.rules.specs.Outcome.{Outcome}
-use Rattle.rules.specs.Round.{allocate}
 use Rattle.rules.specs.Saved.{State, encode, stateOf}
 use Rattle.rules.specs.Restore.{saved, restoredTo, restoreRule}
 use Rattle.rules.specs.Calls.{rule}
 use Rattle.rules.specs.Driven.{Driven}
 use Rattle.rules.specs.Laps.{Going, total}
-use Rattle.rules.specs.Trace.{afterAll, stepOf, stepsOf}
+use Rattle.rules.specs.Trace.{afterAll, stepsOf}
 use Rattle.rules.specs.Restart.{Life, left, stepsIn, Carried, Restarted, Restarts, EveryRestart, EverySavedRestart}
 use Rattle.rules.proofs.Rows.{each-of}
-use Rattle.rules.proofs.Laps.{every-allocator, going-append}
-use Rattle.rules.proofs.Trace.{searches, steps-going, all-moved}
+use Rattle.rules.proofs.Laps.{going-append}
+use Rattle.rules.proofs.Trace.{steps-going, all-moved, low-after, laps-from}
 use Rattle.rules.proofs.Encoded.{state-read}
 use Rattle.rules.proofs.Driven.{facts}
 use Rattle.rules.proofs.Restored.{saved-fits}
@@ -34,11 +32,7 @@ lives-going (l ∷ ls) i h (e, (u, c)) =
 
 -- the theorem: the counter carried over
 pub laps-over : EveryRestart
-unfolding allocation allocate
-laps-over i h c k first ls u last =
-    let s = searches i c k first in
-    let going = lives-going ls (rule i c .after) (omega (arith, s .1)) u in
-    every-allocator (counterOf i) h (stepOf i c) k (s .0) first (stepsIn ls) (subst (λ (n : ℕ). Going n (stepsIn ls)) (s .1) going) last
+laps-over i h c k first ls u = laps-from i h c k first (stepsIn ls) (lives-going ls (rule i c .after) (low-after i c k first) u)
 
 -- ---- a save and a restore
 
