@@ -6,10 +6,10 @@ use mathlib.Core.List.{List, [], _∷_}
 use Prim.Native.Nat.{ℕ, _+_, _≤_, _<_}
 use native.Mathlib.Omega.{arith}
 use lib.Dec.{eqb}
-use borrow.Author.Tests.{eqb-true, eq-eqb, not-true, ltb-true, lt-ltb}
-use Rattle.rules.specs.Numbers.{rootNumber}
+use borrow.Author.Tests.{eqb-true, eq-eqb, not-true, leb-true, ltb-true, lt-ltb}
+use Rattle.rules.specs.Numbers.{rootNumber, topNumber}
 use Rattle.rules.specs.Bytes.{same}
-use Rattle.rules.specs.Saved.{Entry, lastNumber, present, used, goodName, goodNode, goodNodes}
+use Rattle.rules.specs.Saved.{Entry, State, lastNumber, present, used, goodName, goodNode, goodNodes, valid}
 use Rattle.rules.specs.Driven.{Rises, Below, Named, Unique, Shape}
 use Rattle.rules.proofs.Tests.{and-both, or-neither, pass, passed}
 use Rattle.rules.proofs.Shape.{beside, beside-sym, rises-end}
@@ -97,11 +97,19 @@ module _ (next : ℕ) where
         unique = (unused-later e es (e ∷ before) (among-first e before) (t .1), r .unique);
       }
 
-pub good-shape : (next : ℕ) (es : List Entry) → 2 ≤ next → goodNodes next [] es ≡ true → Shape es next
+good-shape : (next : ℕ) (es : List Entry) → 2 ≤ next → goodNodes next [] es ≡ true → Shape es next
 unfolding lastNumber
 good-shape next es l h =
     let r = good-rest next es [] (falling-nil next) h (omega arith) in
     record { rises = r .rises; below = r .below; named = r .named; unique = r .unique }
+
+-- what a valid state is, all but the parents
+pub valid-shape : (s : State) → valid s ≡ true → (2 ≤ s .next) × (s .next ≤ topNumber) × Shape (s .nodes) (s .next)
+unfolding valid
+valid-shape s v =
+    let t = passed _ v in
+    let low = leb-true 2 (s .next) (t .0) in
+    (low, leb-true (s .next) topNumber (t .1 .0), good-shape (s .next) (s .nodes) low (t .1 .1 .0))
 
 -- ---- the parents of those left are before, or among those left
 

@@ -10,18 +10,17 @@ use lib.Dec.{eqb}
 use borrow.Author.Tests.{eqb-true, ne-eqb}
 use Rattle.rules.specs.Numbers.{rootNumber}
 use Rattle.rules.specs.Path.{Part, name, parent, components}
-use Rattle.rules.specs.Tree.{Mount, Node, Made, bare, nodeIn, childIn, orMake, step, makes, atRoot, withMount, mountAt, without, isNone}
+use Rattle.rules.specs.Tree.{Mount, Node, Made, bare, nodeIn, childIn, orMake, step, makes, atRoot, withMount, mountAt, without}
 use Rattle.rules.specs.Instance.{Tree, Instance, mountIn, mountOf, setMount, grown, cut}
 use Rattle.rules.specs.Outcome.{Outcome, nothing, says}
 use Rattle.rules.specs.Mount.{Request, planned, mountOn, placed, allocation, walkedTo, stepped, ended, mountAs, restoreAs}
 use Rattle.rules.specs.Unmount.{reached, taken, unmounts}
 use Rattle.rules.specs.Saved.{Entry, stateOf}
-use Rattle.rules.specs.Restore.{nodesFrom, noNodes, fresh, restoredTo}
+use Rattle.rules.specs.Restore.{nodesFrom, fresh, restoredTo}
 use Rattle.rules.specs.Calls.{mount, restore-mount, umount, restore}
 use Rattle.rules.specs.Stays.{MountAfter, same-mount, by-mount, by-restored, by-unmount, EveryMountOn}
-use Rattle.rules.proofs.Tests.{and-both}
 use Rattle.rules.proofs.Rows.{each-of, either}
-use Rattle.rules.proofs.Driven.{no-nodes, no-root}
+use Rattle.rules.proofs.Driven.{fresh-bare}
 use Rattle.rules.proofs.Ways.{every-call}
 
 -- the mount on the first node of a number, or none
@@ -162,10 +161,10 @@ bare-nodes (e ∷ es) y = go (eqb (e .number) y) (bare-nodes es y)
     go false k = k
 
 restored : (i : Instance) (b : List ℕ) → fresh i ≡ true → (y : ℕ) → MountAfter i (restore b) (says nothing (restoredTo (stateOf b) i)) y
-unfolding restoredTo fresh mountOf nodeIn
+unfolding restoredTo mountOf nodeIn
 restored i b a y =
-    let f = and-both (noNodes (i .tree .nodes)) (isNone (i .tree .root)) a in
-    same-mount (rw (no-nodes (i .tree .nodes) (f .0), no-root (i .tree .root) (f .1)) (of-nodes none y _ _ (bare-nodes (stateOf b .nodes) y)))
+    let f = fresh-bare i a in
+    same-mount (rw (f .0, f .1) (of-nodes none y _ _ (bare-nodes (stateOf b .nodes) y)))
 
 -- the theorem
 pub every-mount-on : EveryMountOn

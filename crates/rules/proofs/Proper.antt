@@ -24,7 +24,7 @@ use Rattle.rules.proofs.Sequences.{every-text}
 use Rattle.rules.proofs.Rows.{first-of}
 use Rattle.rules.proofs.RoundTrip.{there-and-back, no-other}
 use Rattle.rules.proofs.Shape.{beside, rises-end}
-use Rattle.rules.proofs.Good.{In, Parents, good-is, good-shape, shape-good}
+use Rattle.rules.proofs.Good.{In, Parents, good-is, valid-shape, shape-good}
 use Rattle.rules.proofs.Driven.{facts}
 
 -- ---- names
@@ -187,10 +187,10 @@ parents-from all (d ∷ es) f = (⊎-elim (λ (q : d .above ≡ 1). inl (eq-eqb 
 valid-proper : (s : State) → valid s ≡ true → Proper s
 unfolding valid present
 valid-proper s v =
-    let t = passed _ v in
-    let good = t .1 .1 .0 in
+    let h = valid-shape s v in
+    let good = passed _ v .1 .1 .0 in
     record {
-      tidy = shape-tidy s (leb-true (s .next) topNumber (t .1 .0)) (good-shape (s .next) (s .nodes) (leb-true 2 (s .next) (t .0)) good);
+      tidy = shape-tidy s (h .1) (h .2);
       parents = λ k e a. ⊎-elim (λ p. inl (eqb-true (e .above) rootNumber p)) (λ w. inr w) (parents-at (s .next) (s .nodes) [] good k e a);
     }
 

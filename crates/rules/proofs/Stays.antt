@@ -7,20 +7,19 @@ use Prim.Native.Nat.{ℕ, _+_, _≤_, _<_}
 use native.Mathlib.Omega.{arith}
 use lib.Dec.{eqb}
 use Rattle.rules.specs.Numbers.{rootNumber}
-use Rattle.rules.specs.Tree.{Mount, Node, isNone}
+use Rattle.rules.specs.Tree.{Mount, Node}
 use Rattle.rules.specs.Instance.{Tree, Instance, setMount}
 use Rattle.rules.specs.Outcome.{nothing, Outcome, refused, says}
 use Rattle.rules.specs.Mount.{Request, placed, allocation, stepped, walkedTo, ended, mountAs, restoreAs}
 use Rattle.rules.specs.Unmount.{taken, unmounts}
 use Rattle.rules.specs.Saved.{Entry, stateOf}
-use Rattle.rules.specs.Restore.{entriesFor, nodesFrom, noNodes, fresh, restoredTo}
+use Rattle.rules.specs.Restore.{entriesFor, nodesFrom, fresh, restoredTo}
 use Rattle.rules.specs.Calls.{Call, mount, restore-mount, umount, restore}
 use Rattle.rules.specs.Driven.{Rises}
 use Rattle.rules.specs.Stays.{mountsIn, mountsOf, NoMounting, Stays, EveryStays, Absent, Distinct, NumbersOnce}
-use Rattle.rules.proofs.Tests.{and-both}
 use Rattle.rules.proofs.Rows.{each-of, either}
 use Rattle.rules.proofs.Ways.{every-call}
-use Rattle.rules.proofs.Driven.{facts, no-nodes, no-root}
+use Rattle.rules.proofs.Driven.{facts, fresh-bare}
 
 -- ---- what a mounting call keeps
 
@@ -95,13 +94,13 @@ no-mounts [] = refl
 no-mounts (e ∷ es) = no-mounts es
 
 restored : (i : Instance) (b : List ℕ) → fresh i ≡ true → Stays i (restore b) (says nothing (restoredTo (stateOf b) i))
-unfolding restoredTo fresh mountsIn
+unfolding restoredTo mountsIn
 restored i b a =
-    let f = and-both (noNodes (i .tree .nodes)) (isNone (i .tree .root)) a in
+    let f = fresh-bare i a in
     record {
       fixed = refl;
       removal = λ g. g;
-      mounts = λ n. no-mounts (stateOf b .nodes) ∙ sym (rw (no-nodes (i .tree .nodes) (f .0), no-root (i .tree .root) (f .1)));
+      mounts = λ n. no-mounts (stateOf b .nodes) ∙ sym (rw (f .0, f .1));
       slots = λ n. refl;
       next = λ n. absurd (n b refl);
     }
