@@ -158,16 +158,20 @@ gone-is-bad-save i j d n fr =
 
 -- ---- what was restored is saved again
 
-resaved : (j : Instance) (b : List ℕ) → Bytes b → accepted b ≡ true → encode (saved (restoredTo (stateOf b) j)) ≡ b
-unfolding saved restoredTo
-resaved j b h a =
-    let s = stateOf b in
-    let e : entriesFor (nodesFrom (s .nodes)) ≡ s .nodes = entries-from (s .nodes) in
-    ap encode (λ t. record { nodes = e t; options = s .options; next = s .next; counter = s .counter }) ∙ sym (no-other b h a .bytes)
+-- a done restore: the bytes are accepted, and the instance becomes what their state says
+pub restore-done : (j : Instance) (b : List ℕ) → restoreRule j b .code ≡ 0 → (accepted b ≡ true) × (restoreRule j b .after ≡ restoredTo (stateOf b) j)
+unfolding restoreRule
+restore-done j b =
+    first-of (λ (o : Outcome). o .code ≡ 0 → (accepted b ≡ true) × (o .after ≡ restoredTo (stateOf b) j)) _ _
+    (λ a e. absurd (omega arith), λ a. (λ c e. absurd (omega arith), λ c. (λ d e. absurd (omega arith), λ d. (λ g e. absurd (omega arith), λ g e. (not-false _ c, refl)))))
 
 -- the theorem: no other bytes are accepted for it
 pub restore-then-save : RestoreThenSave
-unfolding restoreRule
-restore-then-save j b h =
-    first-of (λ (o : Outcome). o .code ≡ 0 → encode (saved (o .after)) ≡ b) _ _
-    (λ a e. absurd (omega arith), λ a. (λ c e. absurd (omega arith), λ c. (λ d e. absurd (omega arith), λ d. (λ g e. absurd (omega arith), λ g e. resaved j b h (not-false _ c)))))
+unfolding saved restoredTo
+restore-then-save j b h e =
+    let d = restore-done j b e in
+    let s = stateOf b in
+    let ns : entriesFor (nodesFrom (s .nodes)) ≡ s .nodes = entries-from (s .nodes) in
+    ap (λ (i : Instance). encode (saved i)) (d .1)
+    ∙ ap encode (λ t. record { nodes = ns t; options = s .options; next = s .next; counter = s .counter })
+    ∙ sym (no-other b h (d .0) .bytes)
