@@ -13,7 +13,7 @@ use Rattle.rules.specs.Numbers.{rootNumber, topNumber}
 use Rattle.rules.specs.Bytes.{Bytes}
 use Rattle.rules.specs.Tree.{Node, isNone, nodeIn, isKnown}
 use Rattle.rules.specs.Instance.{Instance}
-use Rattle.rules.specs.Outcome.{Outcome}
+use Rattle.rules.specs.Outcome.{Outcome, firstOf}
 use Rattle.rules.specs.Create.{unknown}
 use Rattle.rules.specs.Saved.{Entry, present, goodName, valid, encode, accepted, stateOf}
 use Rattle.rules.specs.Restore.{entriesFor, nodesFrom, saved, restoredTo, restoreRule}
@@ -127,7 +127,7 @@ no-longer i d =
 
 -- the theorem: what was saved comes back
 pub save-then-restore : SaveThenRestore
-unfolding restoreRule restoredTo saved
+unfolding restoreRule firstOf restoredTo saved
 save-then-restore i j d p fr mask room =
     let f = facts i d in
     let both = there-and-back (saved i) (saved-fits i f) (saved-valid i f p) in
@@ -136,19 +136,7 @@ save-then-restore i j d p fr mask room =
     let bits : unknown (j .fixed .known) (stateOf (encode (saved i)) .options) ≡ false = rw (back, mask) (f .within) in
     let size : ltb (j .fixed .capacity) (1 + length (stateOf (encode (saved i)) .nodes)) ≡ false =
     rw back (le-ltb (j .fixed .capacity) (1 + length (entriesFor (i .tree .nodes))) (omega (arith, entries-length (i .tree .nodes), room))) in
-    first-of (GivesBack i) _ _ (
-      λ a. absurd (true≢false (sym a ∙ rw fr)),
-      λ a. (
-        λ b. absurd (true≢false (sym b ∙ rw ok)),
-        λ b. (
-          λ c. absurd (true≢false (sym c ∙ bits)),
-          λ c. (
-            λ e. absurd (true≢false (sym e ∙ size)),
-            λ e. rw back (record { done = refl; tree = refl; counter = refl; options = refl }),
-          ),
-        ),
-      ),
-    )
+    rw (fr, ok, bits, size, back) (record { done = refl; tree = refl; counter = refl; options = refl })
 
 -- the theorem: where a parent is gone it is BADSAVE
 pub gone-is-bad-save : GoneIsBadSave
