@@ -1,16 +1,14 @@
 -- The mounts of other nodes stay, over every call. Assumes nothing.
 use mathlib.Core.Path.{_≡_, refl, sym, ap, _∙_}
 use mathlib.Core.Bool.{Bool, true, false, cond, not, _&&_}
-use mathlib.Core.List.{List, [], _∷_, _++_, append-assoc, append-nil}
+use mathlib.Core.List.{List, [], _∷_, _++_}
 use mathlib.Core.Option.{Option, none, some}
-use Prim.Native.Nat.{ℕ, _+_}
+use Prim.Native.Nat.{ℕ}
 use native.Mathlib.Decide.{ℕ-discrete}
-use lib.ListN.{length}
 use lib.Dec.{eqb}
 use borrow.Author.Tests.{eqb-true, ne-eqb}
 use Rattle.rules.specs.Numbers.{rootNumber}
-use Rattle.rules.specs.Path.{Part, name, parent, components}
-use Rattle.rules.specs.Tree.{Mount, Node, Made, bare, nodeIn, childIn, orMake, step, makes, atRoot, withMount, mountAt, without}
+use Rattle.rules.specs.Tree.{Mount, Node, bare, nodeIn, withMount, mountAt, without}
 use Rattle.rules.specs.Instance.{Tree, Instance, mountIn, mountOf, setMount, grown, cut}
 use Rattle.rules.specs.Outcome.{Outcome, nothing, says}
 use Rattle.rules.specs.Mount.{Request, planned, mountOn, placed, allocation, walkedTo, stepped, ended, mountAs, restoreAs}
@@ -21,6 +19,7 @@ use Rattle.rules.specs.Calls.{mount, restore-mount, umount, restore}
 use Rattle.rules.specs.Stays.{MountAfter, same-mount, by-mount, by-restored, by-unmount, EveryMountOn}
 use Rattle.rules.proofs.Rows.{each-of, either}
 use Rattle.rules.proofs.Driven.{fresh-bare}
+use Rattle.rules.proofs.Walk.{planned-all}
 use Rattle.rules.proofs.Ways.{every-call}
 
 -- the mount on the first node of a number, or none
@@ -66,18 +65,6 @@ on-more [] n y e = go (eqb (n .number) y)
     go false = refl
 on-more (m ∷ ns) n y e = behind-first (eqb (m .number) y) m _ _ (on-more ns n y e)
 
-on-made : (live : List Node) (next y : ℕ) (ps : List Part) (m : Made) → on (live ++ makes live next m ps .nodes) y ≡ on (live ++ m .nodes) y
-unfolding makes step
-on-made live next y [] m = refl
-on-made live next y (parent at ∷ ps) m = on-made live next y ps _
-on-made live next y (name at p ∷ ps) m = on-made live next y ps _ ∙ made (childIn (live ++ m .nodes) (m .here) p)
-  where
-    made : (z : Option ℕ) → on (live ++ orMake next m p z .nodes) y ≡ on (live ++ m .nodes) y
-    made none =
-        let n = bare (next + length (m .nodes)) (m .here) p in
-        sym (ap (λ (ns : List Node). on ns y) (append-assoc live (m .nodes) (n ∷ []))) ∙ on-more (live ++ m .nodes) n y refl
-    made (some z) = refl
-
 -- ---- trees
 
 -- by the mounts on the nodes
@@ -85,8 +72,8 @@ of-nodes : (r : Option Mount) (y : ℕ) (p q : Option Mount) → p ≡ q → con
 of-nodes r y p q e = rw e
 
 grown-same : (t : Tree) (path : List ℕ) (y : ℕ) → mountOf (grown (planned t path .nodes) t) y ≡ mountOf t y
-unfolding mountOf planned
-grown-same t path y = of-nodes (t .root) y _ _ (on-made (t .nodes) (t .next) y (components 0 path) atRoot ∙ ap (λ (ns : List Node). on ns y) (append-nil (t .nodes)))
+unfolding mountOf
+grown-same t path y = of-nodes (t .root) y _ _ (planned-all (λ (ns : List Node). on ns y ≡ on (t .nodes) y) t (λ ns n l m e. on-more ns n y m ∙ e) path refl)
 
 module _ (x y : ℕ) (apart : x ≡ y → ⊥) where
   set-same : (t : Tree) (m : Option Mount) → mountOf (setMount t x m) y ≡ mountOf t y

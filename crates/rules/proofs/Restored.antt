@@ -10,7 +10,6 @@ use lib.ListN.{length}
 use lib.Dec.{eqb, ltb}
 use borrow.Author.Tests.{eqb-true, eq-eqb, leb-true, le-leb, le-ltb, not-true, not-false}
 use Rattle.rules.specs.Numbers.{rootNumber, topNumber}
-use Rattle.rules.specs.Bytes.{Bytes}
 use Rattle.rules.specs.Tree.{Node, isNone, nodeIn, isKnown}
 use Rattle.rules.specs.Instance.{Instance}
 use Rattle.rules.specs.Outcome.{Outcome, firstOf}
@@ -19,7 +18,7 @@ use Rattle.rules.specs.Saved.{Entry, present, goodName, valid, encode, a
 use Rattle.rules.specs.Restore.{entriesFor, nodesFrom, saved, restoredTo, restoreRule}
 use Rattle.rules.specs.RoundTrip.{EntriesFit, Fits, NamesTo}
 use Rattle.rules.specs.Driven.{Rises, Below, Named, Facts, Present}
-use Rattle.rules.specs.Restored.{GivesBack, SaveThenRestore, GoneIsBadSave, RestoreThenSave, NoLonger}
+use Rattle.rules.specs.Restored.{SaveThenRestore, GoneIsBadSave, RestoreThenSave, NoLonger}
 use Rattle.rules.proofs.Tests.{known, pass, passed}
 use Rattle.rules.proofs.Rows.{first-of}
 use Rattle.rules.proofs.Encoded.{state-read}

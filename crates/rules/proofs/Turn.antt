@@ -9,7 +9,7 @@ use lib.ListN.{length}
 use lib.Seq.{getD-set-same}
 use borrow.Author.Tests.{le-ltb}
 use Rattle.rules.specs.Numbers.{maxIno}
-use Rattle.rules.specs.Round.{after, goingRound, untilTwice, visited, allocate}
+use Rattle.rules.specs.Round.{goingRound, untilTwice, visited, allocate}
 use Rattle.rules.specs.Tree.{Mount}
 use Rattle.rules.specs.Instance.{Instance, counterOf, emptySlot, heldBy, tagOf, mountOf}
 use Rattle.rules.specs.Outcome.{Answer, Outcome, refused, firstOf}

@@ -11,9 +11,8 @@ use lib.Dec.{ltb}
 use borrow.Author.Tests.{not-true, not-false}
 use Rattle.rules.specs.Numbers.{maxIno, INODE}
 use Rattle.rules.specs.Path.{rooted}
-use Rattle.rules.specs.Round.{visited}
 use Rattle.rules.specs.Tree.{Mount}
-use Rattle.rules.specs.Outcome.{Outcome, count}
+use Rattle.rules.specs.Outcome.{Outcome}
 use Rattle.rules.specs.Mount.{Request, noRoom, allocation, mountAs, mountRule, restoreAs, restoreMountRule}
 use Rattle.rules.specs.Unmount.{badPath, reached, mountUnder, unmounts, unmountAt, unmountRule}
 use Rattle.rules.proofs.Tests.{known, and-both, and-rest}
