@@ -9,7 +9,7 @@ use native.Mathlib.Omega.{arith}
 use borrow.Author.Tests.{ne-eqb}
 use Rattle.rules.specs.Numbers.{indexOf, numberOf, NOENT}
 use Rattle.rules.specs.Round.{allocate}
-use Rattle.rules.specs.Instance.{Slot, Instance, counterOf, emptySlot, slotOf, tagInSlot, tagOf, heldIn}
+use Rattle.rules.specs.Instance.{Slot, Instance, counterOf, emptySlot, slotOf, tagInSlot, tagOf}
 use Rattle.rules.specs.Outcome.{refused, says, toBackend}
 use Rattle.rules.specs.Mount.{Request, allocation}
 use Rattle.rules.specs.Lookup.{routeTag, routeRule}
@@ -17,7 +17,7 @@ use Rattle.rules.specs.Calls.{Call, mount, route, rule}
 use Rattle.rules.specs.Laps.{Step, Going, total, lastFound, Has}
 use Rattle.rules.specs.Trace.{Unrestored, afterAll, stepsOf}
 use Rattle.rules.specs.Kept.{named, before, namedIn, handedOut, Ungiven, LeadsTo, MountedAt, EveryNew, EveryStanding, EveryOwn, EveryKept, EveryJudged}
-use Rattle.rules.proofs.Allocation.{exact}
+use Rattle.rules.proofs.Allocation.{found-bounds}
 use Rattle.rules.proofs.Laps.{last-append}
 use Rattle.rules.proofs.Turn.{mounts-allocate}
 use Rattle.rules.proofs.Trace.{searches, steps-going, low-after, laps-from}
@@ -70,11 +70,10 @@ leads i x t p = ⊎-elim (λ a. inr (leads-on i x t p a)) (λ a. inl (leads-off 
 mounted-tag : (i : Instance) (r : Request) (k : ℕ) → MountedAt i r k → (0 < k) × (tagOf (rule i (mount r) .after) k ≡ some (r .tag))
 unfolding rule allocation
 mounted-tag i r k m =
-    let s = searches i (mount r) k (m .found) .0 in
-    let first = exact (heldIn i) (counterOf i) (m .counter) .handed-out k .0 (sym (s .1) ∙ m .found) in
+    let b = found-bounds i (m .counter) k (sym (searches i (mount r) k (m .found) .0 .1) ∙ m .found) in
     let a = mounts-allocate i r .answers (m .done) in
     let same : a .0 ≡ k = let e = sym (a .1 .found) ∙ m .found in cc in
-    (first .1 .least, subst (λ (j : ℕ). tagOf (rule i (mount r) .after) j ≡ some (r .tag)) same (a .1 .holds (omega (arith, m .slots, first .1 .most))))
+    (b .0, subst (λ (j : ℕ). tagOf (rule i (mount r) .after) j ≡ some (r .tag)) same (a .1 .holds (omega (arith, m .slots, b .1))))
 
 pub least-index : (i : Instance) (r : Request) (k : ℕ) → MountedAt i r k → 0 < k
 least-index i r k m = mounted-tag i r k m .0

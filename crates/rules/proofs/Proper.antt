@@ -18,7 +18,7 @@ use Rattle.rules.specs.Saved.{Entry, State, present, used, goodName, goo
 use Rattle.rules.specs.Restore.{saved, fresh, restoreRule}
 use Rattle.rules.specs.Driven.{Rises, Below, Named, Unique, Shape}
 use Rattle.rules.specs.Proper.{At, Name, Tidy, Earlier, Proper, EveryValid, EveryAccepted, EveryBadSave, EveryTidy}
-use Rattle.rules.proofs.Tests.{known, and-both, or-neither, pass, passed}
+use Rattle.rules.proofs.Tests.{untrue, and-both, or-neither, pass, passed}
 use Rattle.rules.proofs.Same.{same-refl, ne-same, same-false}
 use Rattle.rules.proofs.Sequences.{every-text}
 use Rattle.rules.proofs.Rows.{first-of}
@@ -268,5 +268,5 @@ every-bad-save i b f h = (
   λ e s w. no-bad-save i b (every-accepted b h .1 (s, w)) e,
   λ n.
       ap (λ (o : Outcome). o .code)
-      (is-bad-save i b f (⊎-elim (λ (a : accepted b ≡ true). let w = every-accepted b h .0 a in absurd (n (w .0) (w .1))) (λ a. a) (known (accepted b)))),
+      (is-bad-save i b f (untrue (accepted b) (λ a. let w = every-accepted b h .0 a in n (w .0) (w .1)))),
 )

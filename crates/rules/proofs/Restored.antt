@@ -19,7 +19,7 @@ use Rattle.rules.specs.Restore.{entriesFor, nodesFrom, saved, restoredTo
 use Rattle.rules.specs.RoundTrip.{EntriesFit, Fits, NamesTo}
 use Rattle.rules.specs.Driven.{Rises, Below, Named, Facts, Present}
 use Rattle.rules.specs.Restored.{SaveThenRestore, GoneIsBadSave, RestoreThenSave, NoLonger}
-use Rattle.rules.proofs.Tests.{known, pass, passed}
+use Rattle.rules.proofs.Tests.{untrue, pass, passed}
 use Rattle.rules.proofs.Rows.{first-of}
 use Rattle.rules.proofs.Encoded.{state-read}
 use Rattle.rules.proofs.Accepted.{clauses}
@@ -141,7 +141,7 @@ save-then-restore i j d p fr mask room =
 pub gone-is-bad-save : GoneIsBadSave
 gone-is-bad-save i j d n fr =
     let b = encode (saved i) in
-    is-bad-save j b fr (⊎-elim (λ (a : accepted b ≡ true). absurd (n (accepted-present i (facts i d) a))) (λ a. a) (known (accepted b)))
+    is-bad-save j b fr (untrue (accepted b) (λ a. n (accepted-present i (facts i d) a)))
 
 -- ---- what was restored is saved again
 
