@@ -18,7 +18,7 @@ use Rattle.rules.specs.Laps.{Step, Going, total, lastFound, Has}
 use Rattle.rules.specs.Trace.{Unrestored, afterAll, stepsOf}
 use Rattle.rules.specs.Kept.{named, before, namedIn, handedOut, Ungiven, LeadsTo, MountedAt, EveryNew, EveryStanding, EveryOwn, EveryKept, EveryJudged}
 use Rattle.rules.proofs.Allocation.{found-bounds}
-use Rattle.rules.proofs.Laps.{last-append}
+use Rattle.rules.proofs.Laps.{last-of}
 use Rattle.rules.proofs.Turn.{mounts-allocate}
 use Rattle.rules.proofs.Trace.{searches, steps-going, low-after, laps-from}
 use Rattle.rules.proofs.Given.{ungiven-slot, standing-slot}
@@ -145,7 +145,7 @@ module _ (s : Step) (ss : List Step) (c k : ℕ) where
   -- a later one does
   one-more : (d : ℕ) (u : UpTo d k ss) → Going c (s ∷ u .steps) → UpTo c k (s ∷ ss)
   unfolding total lastFound
-  one-more d u g = record { steps = s ∷ u .steps; going = g; last = last-append [] (u .steps) (s .found) k (u .last); few = omega (arith, u .few) }
+  one-more d u g = record { steps = s ∷ u .steps; going = g; last = last-of (u .steps) (s .found) k (u .last); few = omega (arith, u .few) }
 
 up-to : (ss : List Step) (c k : ℕ) → c < 256 → Going c ss → Has k (handedOut ss) → UpTo c k ss
 unfolding Going handedOut allocate
