@@ -72,39 +72,39 @@ module _ (x : ℕ) where
 
   -- ---- calls
 
-  abbrev Keeps : Outcome → Type 0
-  Keeps o = Spent x (o .after .tree)
+  abbrev LeavesSpent : Outcome → Type 0
+  LeavesSpent o = Spent x (o .after .tree)
 
   placed-spent : (k : ℕ) (r : Request) (y : ℕ) (i : Instance) → Spent x (i .tree) → Spent x (placed k r y i .tree)
   unfolding placed
   placed-spent k r y i s = set-spent (i .tree) y (some (mountOn k r)) s
 
-  mount-as : (i : Instance) (r : Request) (k : Option ℕ) → Spent x (i .tree) → Keeps (mountAs i r k)
+  mount-as : (i : Instance) (r : Request) (k : Option ℕ) → Spent x (i .tree) → LeavesSpent (mountAs i r k)
   unfolding mountAs
   mount-as i r none s = s
   mount-as i r (some k) s =
       let w = grown-spent (i .tree) (r .path) s in
-      each-of Keeps _ _ (s, (w, placed-spent k r (ended i (r .path)) (walkedTo (r .path) (stepped i)) w))
+      each-of LeavesSpent _ _ (s, (w, placed-spent k r (ended i (r .path)) (walkedTo (r .path) (stepped i)) w))
 
-  restored-as : (i : Instance) (k : ℕ) (r : Request) → Spent x (i .tree) → Keeps (restoreAs i k r)
+  restored-as : (i : Instance) (k : ℕ) (r : Request) → Spent x (i .tree) → LeavesSpent (restoreAs i k r)
   unfolding restoreAs
   restored-as i k r s =
       let w = grown-spent (i .tree) (r .path) s in
-      each-of Keeps _ _ (s, (w, placed-spent k r (ended i (r .path)) (walkedTo (r .path) i) w))
+      each-of LeavesSpent _ _ (s, (w, placed-spent k r (ended i (r .path)) (walkedTo (r .path) i) w))
 
-  unmounted : (i : Instance) (y : ℕ) (m : Mount) → Spent x (i .tree) → Keeps (unmounts i y m)
+  unmounted : (i : Instance) (y : ℕ) (m : Mount) → Spent x (i .tree) → LeavesSpent (unmounts i y m)
   unfolding unmounts
   unmounted i y m s = taken-spent i y s
 
-  stays-spent : (i : Instance) (c : Call) → NoRestore c (rule i c) → Spent x (i .tree) → Keeps (rule i c)
-  stays-spent = every-call (λ i c o. NoRestore c o → Spent x (i .tree) → Keeps o) (record {
+  stays-spent : (i : Instance) (c : Call) → NoRestore c (rule i c) → Spent x (i .tree) → LeavesSpent (rule i c)
+  stays-spent = every-call (λ i c o. NoRestore c o → Spent x (i .tree) → LeavesSpent o) (record {
     still = λ i c o q t un s. subst (λ (j : Instance). Spent x (j .tree)) (sym (t .after)) s;
     early = λ i c code e un s. s;
     mounts = λ i r p un s. mount-as i r (allocation i .found) s;
     restores-mount = λ i k r p un s. restored-as i k r s;
     unmounted = λ i path y m q e un s. unmounted i y m s;
     sets-removal = λ i un s. s;
-    restored = λ i b ok un s. absurd (un b refl refl);
+    state-restored = λ i b ok un s. absurd (un b refl refl);
   })
 
   all-spent : (cs : List Call) (i : Instance) → Unrestored i cs → Spent x (i .tree) → Spent x (afterAll i cs .tree)

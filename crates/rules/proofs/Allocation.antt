@@ -13,7 +13,7 @@ use Rattle.rules.specs.Instance.{Instance, heldIn, counterOf}
 use Rattle.rules.specs.Mount.{allocation}
 use Rattle.rules.specs.Allocation.{FirstFree, EveryAllocation}
 use Rattle.rules.proofs.Tests.{known, le-or-lt, and-both}
-use Rattle.rules.proofs.Round.{meets, finds-none, found-free, spent, At, found-at, at-found}
+use Rattle.rules.proofs.Round.{meets, finds-none, found-free, spent, FoundAt, found-at, at-found}
 
 module _ (held : ℕ → Bool) where
   -- a free index is not 0 and not held
@@ -47,7 +47,7 @@ module _ (held : ℕ → Bool) (c : ℕ) (h : c < 256) where
   unfolding allocate untilTwice
   handed-out k e = go (found-at (freeOf held) 257 c k h e)
     where
-      go : (d : ℕ) × At (freeOf held) 257 c k d → (d : ℕ) × FirstFree held c k d
+      go : (d : ℕ) × FoundAt (freeOf held) 257 c k d → (d : ℕ) × FirstFree held c k d
       go (d, a) =
           let f = free-is held k (a .is-free) in
           let near : d < 256 =

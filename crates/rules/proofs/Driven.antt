@@ -28,7 +28,7 @@ use Rattle.rules.proofs.Walk.{path-rooted}
 use Rattle.rules.proofs.Ways.{Restorable, every-call}
 use Rattle.rules.proofs.Accepted.{clauses, fits}
 use Rattle.rules.proofs.Shape.{entries-from, entries-length}
-use Rattle.rules.proofs.Create.{large-enough, options-fit}
+use Rattle.rules.proofs.Create.{large-enough, options-known}
 use Rattle.rules.proofs.Good.{valid-shape}
 use Rattle.rules.proofs.MountFacts.{Keeps, mount-as, restored-as, unmounted}
 
@@ -104,7 +104,7 @@ call-facts = every-call (λ (i : Instance) (c : Call) (o : Outcome). Typed c →
     counter = f .counter;
     held = f .held;
   };
-  restored = λ i b ok t f. state-facts i b f (t b refl) ok;
+  state-restored = λ i b ok t f. state-facts i b f (t b refl) ok;
 })
 
 within-mask : (known bits : ℕ) → outside known bits ≡ false → bits ≤ known
@@ -126,7 +126,7 @@ module _ (bytes : ℕ) (q : Creation) (mask : q .known < 2 ^ 64) (size : tooSmal
       let n = q .capacity in
       let o = q .options in
       let a = large-enough bytes n size in
-      let d = options-fit (q .known) o known in
+      let d = options-known (q .known) o known in
       let e = or-neither (outside (q .known) (o .inOpts)) (outside (q .known) (o .outOpts)) (d .0) in
       let w = within (o .mapping) maps in
       record {

@@ -7,7 +7,7 @@ use Prim.Native.Nat.{ℕ}
 use Rattle.rules.specs.Instance.{Slot, Instance, emptySlot, counterOf, slotOf, heldIn}
 use Rattle.rules.specs.Calls.{Call, rule}
 use Rattle.rules.specs.Trace.{afterAll}
-use Rattle.rules.specs.Kept.{Ungiven, Standing, stays, emptied, handed-out, put-back}
+use Rattle.rules.specs.Kept.{Ungiven, Standing, same-slot, emptied, handed-out, by-restored}
 use Rattle.rules.proofs.Allocation.{not-held}
 use Rattle.rules.proofs.Trace.{searches}
 use Rattle.rules.proofs.Slots.{every-slot}
@@ -18,10 +18,10 @@ ungiven-slot [] i k u = inl refl
 ungiven-slot (c ∷ cs) i k u =
     let on = ungiven-slot cs (rule i c .after) k (u .1) in
     elim (every-slot i c k) [
-      | stays e ↦ ⊎-elim (λ a. inl (a ∙ e)) (λ a. inr a) on
+      | same-slot e ↦ ⊎-elim (λ a. inl (a ∙ e)) (λ a. inr a) on
       | emptied z o e ↦ inr (⊎-elim (λ a. a ∙ e) (λ a. a) on)
       | handed-out z e ↦ absurd (u .0 (z, inl e))
-      | put-back z e ↦ absurd (u .0 (z, inr e))
+      | by-restored z e ↦ absurd (u .0 (z, inr e))
     ]
 
 -- a held slot stays as long as no call ends its mount: no search finds it
@@ -30,8 +30,8 @@ unfolding Standing afterAll
 standing-slot [] i k s h = refl
 standing-slot (c ∷ cs) i k s h =
     elim (every-slot i c k) [
-      | stays e ↦ standing-slot cs (rule i c .after) k (s .1) (ap (λ (y : Slot). y .held) e ∙ h) ∙ e
+      | same-slot e ↦ standing-slot cs (rule i c .after) k (s .1) (ap (λ (y : Slot). y .held) e ∙ h) ∙ e
       | emptied z o e ↦ absurd (s .0 (z, inl o))
       | handed-out z e ↦ absurd (false≢true (sym (not-held (heldIn i) (counterOf i) k (sym (searches i c k e .0 .1) ∙ e)) ∙ h))
-      | put-back z e ↦ absurd (s .0 (z, inr e))
+      | by-restored z e ↦ absurd (s .0 (z, inr e))
     ]

@@ -137,5 +137,5 @@ leaves = every-call Leaves (record {
   restores-mount = restored-as;
   unmounted = λ i path x m q e. unmounted i (umount path) x m;
   sets-removal = λ i. done i _ _ refl;
-  restored = λ i b ok. done i _ _ refl;
+  state-restored = λ i b ok. done i _ _ refl;
 })

@@ -24,7 +24,8 @@ use Rattle.rules.proofs.Rows.{first-of, either}
 use Rattle.rules.proofs.Ways.{Passed}
 use Rattle.rules.proofs.Shape.{entries-mount, shape-less, length-less, length-mount}
 use Rattle.rules.proofs.Walk.{Walking, planned-walking}
-use Rattle.rules.proofs.Held.{Held, freed-slots, held-grown, held-placed, held-taken}
+use Rattle.rules.proofs.Slots.{freed-slots}
+use Rattle.rules.proofs.Held.{Held, held-grown, held-placed, held-taken}
 
 -- ---- the parts of an instance that a call changes
 

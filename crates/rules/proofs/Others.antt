@@ -147,9 +147,9 @@ bare-nodes (e ∷ es) y = go (eqb (e .number) y) (bare-nodes es y)
     go true k = refl
     go false k = k
 
-restored : (i : Instance) (b : List ℕ) → fresh i ≡ true → (y : ℕ) → MountAfter i (restore b) (says nothing (restoredTo (stateOf b) i)) y
+state-restored : (i : Instance) (b : List ℕ) → fresh i ≡ true → (y : ℕ) → MountAfter i (restore b) (says nothing (restoredTo (stateOf b) i)) y
 unfolding restoredTo mountOf nodeIn
-restored i b a y =
+state-restored i b a y =
     let f = fresh-bare i a in
     same-mount (rw (f .0, f .1) (of-nodes none y _ _ (bare-nodes (stateOf b .nodes) y)))
 
@@ -162,5 +162,5 @@ every-mount-on = every-call (λ i c o. (y : ℕ) → MountAfter i c o y) (record
   restores-mount = λ i k r p. restored-as i k r;
   unmounted = λ i path x m q e. unmounted i path x m q;
   sets-removal = λ i y. same-mount refl;
-  restored = λ i b ok. restored i b (ok .is-fresh);
+  state-restored = λ i b ok. state-restored i b (ok .is-fresh);
 })

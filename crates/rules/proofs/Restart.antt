@@ -10,7 +10,7 @@ use Rattle.rules.specs.Calls.{rule}
 use Rattle.rules.specs.Driven.{Driven}
 use Rattle.rules.specs.Laps.{Going, total}
 use Rattle.rules.specs.Trace.{afterAll, stepsOf}
-use Rattle.rules.specs.Restart.{Life, left, stepsIn, Carried, Restarted, Restarts, EveryRestart, EverySavedRestart}
+use Rattle.rules.specs.Restart.{Life, leftBy, stepsIn, Carried, Restarted, Restarts, EveryRestart, EverySavedRestart}
 use Rattle.rules.proofs.Laps.{going-append}
 use Rattle.rules.proofs.Trace.{steps-going, all-moved, low-after, laps-from}
 use Rattle.rules.proofs.Encoded.{state-read}
@@ -24,8 +24,8 @@ lives-going [] i h c = tt
 lives-going (l ∷ ls) i h (e, (u, c)) =
     let a = l .start in
     let n : ℕ = total (stepsOf a (l .calls)) in
-    let moved : counterOf (left l) ≡ (counterOf i + n) % 256 = omega (arith, e, all-moved (l .calls) a (omega arith) u) in
-    let on : Going ((counterOf i + n) % 256) (stepsIn ls) = subst (λ (m : ℕ). Going m (stepsIn ls)) moved (lives-going ls (left l) (omega arith) c) in
+    let moved : counterOf (leftBy l) ≡ (counterOf i + n) % 256 = omega (arith, e, all-moved (l .calls) a (omega arith) u) in
+    let on : Going ((counterOf i + n) % 256) (stepsIn ls) = subst (λ (m : ℕ). Going m (stepsIn ls)) moved (lives-going ls (leftBy l) (omega arith) c) in
     going-append (stepsOf a (l .calls)) (stepsIn ls) (counterOf i) h (subst (λ (m : ℕ). Going m (stepsOf a (l .calls))) e (steps-going (l .calls) a (omega arith) u)) on
 
 -- the theorem: the counter carried over
@@ -44,7 +44,7 @@ restored-counter i f j d r =
 carried : (ls : List Life) (i : Instance) → Restarts i ls → Carried i ls
 unfolding Restarts Carried
 carried [] i r = tt
-carried (l ∷ ls) i (d, ((f, r), (u, rs))) = (restored-counter i f (l .start) d r, (u, carried ls (left l) rs))
+carried (l ∷ ls) i (d, ((f, r), (u, rs))) = (restored-counter i f (l .start) d r, (u, carried ls (leftBy l) rs))
 
 -- the theorem: over saves and restores
 pub laps-over-restore : EverySavedRestart

@@ -25,23 +25,23 @@ use Rattle.rules.proofs.Encoded.{state-read}
 use Rattle.rules.proofs.Accepted.{clauses}
 use Rattle.rules.proofs.RoundTrip.{there-and-back, no-other, longest, most-bytes}
 use Rattle.rules.proofs.Shape.{entries-from, entries-length, rises-end}
-use Rattle.rules.proofs.Good.{In, Parents, shape-good}
+use Rattle.rules.proofs.Good.{HasNumber, Parents, shape-good}
 use Rattle.rules.proofs.Driven.{facts}
 use Rattle.rules.proofs.Proper.{proper-parents, every-valid, is-bad-save}
 
 -- ---- the parents
 
-node-in : (ns : List Node) (x : ℕ) → isNone (nodeIn ns x) ≡ false → In x (entriesFor ns)
-unfolding nodeIn entriesFor In
+node-in : (ns : List Node) (x : ℕ) → isNone (nodeIn ns x) ≡ false → HasNumber x (entriesFor ns)
+unfolding nodeIn entriesFor HasNumber
 node-in [] x h = absurd (true≢false h)
 node-in (n ∷ ns) x h = go (eqb (n .number) x) refl h (node-in ns x)
   where
-    go : (b : Bool) → eqb (n .number) x ≡ b → isNone (cond b (some n) (nodeIn ns x)) ≡ false → (isNone (nodeIn ns x) ≡ false → In x (entriesFor ns)) → (n .number ≡ x) ⊎ In x (entriesFor ns)
+    go : (b : Bool) → eqb (n .number) x ≡ b → isNone (cond b (some n) (nodeIn ns x)) ≡ false → (isNone (nodeIn ns x) ≡ false → HasNumber x (entriesFor ns)) → (n .number ≡ x) ⊎ HasNumber x (entriesFor ns)
     go true e f k = inl (eqb-true (n .number) x e)
     go false e f k = inr (k f)
 
-in-node : (ns : List Node) (x : ℕ) → In x (entriesFor ns) → isNone (nodeIn ns x) ≡ false
-unfolding nodeIn entriesFor In
+in-node : (ns : List Node) (x : ℕ) → HasNumber x (entriesFor ns) → isNone (nodeIn ns x) ≡ false
+unfolding nodeIn entriesFor HasNumber
 in-node [] x h = absurd h
 in-node (n ∷ ns) x (inl h) = rw (eq-eqb (n .number) x h)
 in-node (n ∷ ns) x (inr h) = go (eqb (n .number) x) (in-node ns x h)
@@ -55,7 +55,7 @@ unfolding Present Parents entriesFor isKnown present
 all-parents all [] p = tt
 all-parents all (n ∷ ns) p = (go (eqb (n .above) rootNumber) refl (p .0), all-parents all ns (p .1))
   where
-    go : (b : Bool) → eqb (n .above) rootNumber ≡ b → (b || not (isNone (nodeIn all (n .above)))) ≡ true → (eqb (n .above) rootNumber ≡ true) ⊎ In (n .above) (entriesFor all)
+    go : (b : Bool) → eqb (n .above) rootNumber ≡ b → (b || not (isNone (nodeIn all (n .above)))) ≡ true → (eqb (n .above) rootNumber ≡ true) ⊎ HasNumber (n .above) (entriesFor all)
     go true e f = inl e
     go false e f = inr (node-in all (n .above) (not-true _ f))
 

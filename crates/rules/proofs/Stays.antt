@@ -93,9 +93,9 @@ unfolding mountsIn nodesFrom
 no-mounts [] = refl
 no-mounts (e ∷ es) = no-mounts es
 
-restored : (i : Instance) (b : List ℕ) → fresh i ≡ true → Stays i (restore b) (says nothing (restoredTo (stateOf b) i))
+state-restored : (i : Instance) (b : List ℕ) → fresh i ≡ true → Stays i (restore b) (says nothing (restoredTo (stateOf b) i))
 unfolding restoredTo mountsIn
-restored i b a =
+state-restored i b a =
     let f = fresh-bare i a in
     record {
       fixed = refl;
@@ -114,7 +114,7 @@ stays = every-call Stays (record {
   restores-mount = λ i k r p. keeps-stays i (restore-mount k r) _ (λ n. n .no-restored k r refl) (restored-as i k r);
   unmounted = λ i path x m q e. keeps-stays i (umount path) _ (λ n. n .no-unmount path refl) (unmounted i x m);
   sets-removal = λ i. record { fixed = refl; removal = λ e. refl; mounts = λ n. refl; slots = λ n. refl; next = λ n. omega arith };
-  restored = λ i b ok. restored i b (ok .is-fresh);
+  state-restored = λ i b ok. state-restored i b (ok .is-fresh);
 })
 
 -- ---- numbers

@@ -107,7 +107,7 @@ module _ (P : Instance → Call → Outcome → Type 0) where
     pub restores-mount : (i : Instance) (k : ℕ) (r : Request) → Passed i r → P i (restore-mount k r) (restoreAs i k r)
     pub unmounted : (i : Instance) (path : List ℕ) (x : ℕ) (m : Mount) → reached i path ≡ some x → mountOf (i .tree) x ≡ some m → P i (umount path) (unmounts i x m)
     pub sets-removal : (i : Instance) → P i set-remove-pseudo-root (says nothing (removing i))
-    pub restored : (i : Instance) (b : List ℕ) → Restorable i b → P i (restore b) (says nothing (restoredTo (stateOf b) i))
+    pub state-restored : (i : Instance) (b : List ℕ) → Restorable i b → P i (restore b) (says nothing (restoredTo (stateOf b) i))
 
   module _ (h : Cases) (i : Instance) where
     mount-case : (r : Request) → P i (mount r) (mountRule i r)
@@ -180,7 +180,7 @@ module _ (P : Instance → Call → Outcome → Type 0) where
               λ d. refuse _ (λ f. omega arith),
               λ d. (
                 λ e. refuse _ (λ f. omega arith),
-                λ e. h .restored i b (record { is-fresh = not-false _ a; is-accepted = not-false _ c; options = d; room = e }),
+                λ e. h .state-restored i b (record { is-fresh = not-false _ a; is-accepted = not-false _ c; options = d; room = e }),
               ),
             ),
           ),

@@ -96,10 +96,10 @@ Standing k i (c ∷ cs) = (Ends k i c (rule i c) → ⊥) × Standing k (rule i 
 -- the slot of j after a call: as it was; or the call is done, and empties it by taking a mount of that index off, or hands j out, or names it in a restored mount
 -- (R56, R76, R85, R93, R98)
 pub data SlotAfter (i : Instance) (c : Call) (o : Outcome) (j : ℕ) : Type 0 where
-  stays : slotOf (o .after) j ≡ slotOf i j → SlotAfter i c o j
+  same-slot : slotOf (o .after) j ≡ slotOf i j → SlotAfter i c o j
   emptied : o .code ≡ 0 → indexIn (oldMount i c) ≡ some j → slotOf (o .after) j ≡ emptySlot → SlotAfter i c o j
   handed-out : o .code ≡ 0 → o .found ≡ some j → SlotAfter i c o j
-  put-back : o .code ≡ 0 → named c ≡ some j → SlotAfter i c o j
+  by-restored : o .code ≡ 0 → named c ≡ some j → SlotAfter i c o j
 
 -- of every call on every instance
 abbrev pub EverySlot : Type 0
