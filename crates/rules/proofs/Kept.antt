@@ -1,4 +1,4 @@
--- A kept number leads into its own mount or nowhere until its index is handed out again. Assumes nothing.
+-- A kept number leads into its own mount or nowhere until a call gives its index away, and there as long as its mount stands. Assumes nothing.
 use mathlib.Core.Path.{_≡_, refl, sym, ap, _∙_, subst}
 use mathlib.Core.Bool.{Bool, true, false, cond}
 use mathlib.Core.Logic.{_⊎_, inl, inr, ⊎-elim}

@@ -34,7 +34,7 @@ laps-over i h c k first ls u = laps-from i h c k first (stepsIn ls) (lives-going
 
 -- ---- a save and a restore
 
--- of an instance that calls have made, a done restore sets the counter that was saved
+-- a done restore of what a driven instance saved sets its counter
 restored-counter : (i f j : Instance) → Driven i → Restarted i f j → counterOf j ≡ counterOf i
 unfolding saved restoredTo
 restored-counter i f j d r =

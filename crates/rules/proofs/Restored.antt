@@ -1,4 +1,5 @@
--- A driven instance is saved as a valid state exactly if its parents are all present, and then comes back. Assumes nothing.
+-- A driven instance is saved as a valid state exactly if its parents are all present, and then comes back; what was restored is saved as it was read;
+-- and how long a state can be. Assumes nothing.
 use mathlib.Core.Path.{_≡_, refl, sym, ap, _∙_}
 use mathlib.Core.Bool.{Bool, true, false, cond, not, _||_, true≢false, or-true}
 use mathlib.Core.Logic.{_⊎_, inl, inr, ⊎-elim}

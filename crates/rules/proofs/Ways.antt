@@ -58,7 +58,7 @@ pub record Early (c : Call) (code : ℕ) : Type 0 where
   pub inval : code ≡ INVAL → ByRow2 c
   pub inode : code ≡ INODE → ByRow3 c
 
--- bytes that a restore accepts
+-- a restore that no test refuses
 pub record Restorable (i : Instance) (b : List ℕ) : Type 0 where
   pub is-fresh : fresh i ≡ true
   pub is-accepted : accepted b ≡ true

@@ -1,4 +1,4 @@
--- What becomes of a number that a session keeps: it leads into its own mount or nowhere until its index is handed out again.
+-- What becomes of a number that a caller keeps: it leads into its own mount or nowhere until a call gives its index away, and there as long as its mount stands.
 use Prim.Native.Nat.{ℕ, _<_}
 use mathlib.Core.Logic.{_⊎_}
 use mathlib.Core.List.{List, [], _∷_}
@@ -107,7 +107,7 @@ EverySlot = (i : Instance) (c : Call) (j : ℕ) → SlotAfter i c (rule i c) j
 
 -- ---- where a kept number leads
 
--- the full number x leads into the backend of the tag t, or nowhere (R105, R106)
+-- the full number x leads into the backend of the tag t, or nowhere (R106)
 abbrev pub LeadsTo : Instance → ℕ → ℕ → Type 0
 LeadsTo i x t = (rule i (route x) ≡ refused NOENT i) ⊎ (rule i (route x) ≡ says (toBackend t (indexOf x) (numberOf x)) i)
 
@@ -128,19 +128,19 @@ abbrev pub EveryStanding : Type 0
 EveryStanding = (i : Instance) (x t : ℕ) → 0 < indexOf x → rule i (route x) .answer ≡ toBackend t (indexOf x) (numberOf x)
     → (cs : List Call) → Standing (indexOf x) i cs → rule (afterAll i cs) (route x) ≡ says (toBackend t (indexOf x) (numberOf x)) (afterAll i cs)
 
--- a number of its index leads into that mount's backend or nowhere, as long as no call gives the index away (R85, R105, R106)
+-- a number of its index leads into that mount's backend or nowhere, as long as no call gives the index away (R76, R85, R93, R106)
 abbrev pub EveryOwn : Type 0
 EveryOwn = (i : Instance) (r : Request) (k : ℕ) → MountedAt i r k → (cs : List Call) → Ungiven k (rule i (mount r) .after) cs
     → (x : ℕ) → indexOf x ≡ k → LeadsTo (afterAll (rule i (mount r) .after) cs) x (r .tag)
 
--- and so as long as the counts sum to less than 256, with no state restore and no restored mount that names the index (R82, R87, R105, R106)
+-- and so as long as the counts sum to less than 256, with no done state restore and no restored mount that names the index (R82, R87, R106)
 abbrev pub EveryKept : Type 0
 EveryKept = (i : Instance) (r : Request) (k : ℕ) → MountedAt i r k → (cs : List Call) → Unrestored (rule i (mount r) .after) cs
     → (Has k (namedIn cs) → ⊥) → total (stepsOf (rule i (mount r) .after) cs) < 256
     → (x : ℕ) → indexOf x ≡ k → LeadsTo (afterAll (rule i (mount r) .after) cs) x (r .tag)
 
 -- a number that led into the backend of the tag t, and whose index no call gave away since, leads there still if it leads anywhere; on any tables, over any calls, state
--- restores among them: a gateway that marks an index anew at each call that gives it away can judge a number by the mark (R105, R106)
+-- restores among them: a gateway that marks an index anew at each call that gives it away can judge a number by the mark (R76, R85, R93, R106)
 abbrev pub EveryJudged : Type 0
 EveryJudged = (i : Instance) (x t : ℕ) → 0 < indexOf x → rule i (route x) .answer ≡ toBackend t (indexOf x) (numberOf x)
     → (cs : List Call) → Ungiven (indexOf x) i cs → rule (afterAll i cs) (route x) .code ≡ 0
