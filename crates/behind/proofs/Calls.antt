@@ -11,12 +11,12 @@ use Rattle.rules.specs.Bytes.{Bytes}
 use Rattle.rules.specs.Numbers.{maxIno}
 use Rattle.rules.specs.Path.{rooted, tooLong}
 use Rattle.rules.specs.Tree.{Mount}
-use Rattle.rules.specs.Instance.{Instance, heldIn, counterOf, mountOf}
+use Rattle.rules.specs.Instance.{Instance, mountOf}
 use Rattle.rules.specs.Mount.{Request, planned, noRoom, ended, mountOn, allocation}
 use Rattle.rules.specs.Unmount.{badPath, reached, mountUnder}
 use Rattle.rules.proofs.Fields.{length-bytesOf}
 use Rattle.rules.proofs.Tests.{or-neither}
-use Rattle.rules.proofs.Allocation.{exact}
+use Rattle.rules.proofs.Allocation.{found-bounds}
 use Rattle.tables.specs.Layout.{nextOf}
 use Rattle.tables.specs.View.{view}
 use Rattle.tables.specs.Rule.{laid}
@@ -84,8 +84,7 @@ module _ (rest : List ℕ) where
     i = view mem
 
     index-low : (k : ℕ) → allocation i .found ≡ some k → k < 256
-    unfolding allocation
-    index-low k f = let a = exact (heldIn i) (counterOf i) (counter-in mem b) .handed-out k .0 f .1 .most in omega arith
+    index-low k f = omega (arith, found-bounds i (counter-in mem b) k f .1)
 
     same-room : noRoom (view (allocMem mem)) (r .path) ≡ noRoom i (r .path)
     unfolding noRoom

@@ -1,8 +1,7 @@
 -- What each way through a state restore gives. Assumes nothing.
 use mathlib.Core.Path.{_≡_, refl, sym, ap, _∙_}
 use mathlib.Core.Bool.{Bool, true, false, not}
-use mathlib.Core.List.{List, [], _++_}
-use mathlib.Core.Option.{none}
+use mathlib.Core.List.{List, _++_}
 use Prim.Native.Nat.{ℕ, _+_, _≤_, _<_}
 use native.Mathlib.Omega.{arith}
 use lib.ListN.{length}
@@ -11,15 +10,14 @@ use borrow.Author.Tests.{not-true, not-false, ne-eqb, ltb-false}
 use Rattle.le.specs.Mem.{get}
 use Rattle.rules.specs.Bytes.{Bytes}
 use Rattle.rules.specs.Numbers.{DONE, BADSAVE, BADOPT, NOROOM, NOTFRESH}
-use Rattle.rules.specs.Tree.{Node, isNone}
+use Rattle.rules.specs.Tree.{Node}
 use Rattle.rules.specs.Instance.{Instance}
 use Rattle.rules.specs.Outcome.{nothing, Outcome, refused, says, firstOf}
 use Rattle.rules.specs.Create.{unknown}
 use Rattle.rules.specs.Saved.{State, recordsOf, stateOf, accepted}
-use Rattle.rules.specs.Restore.{nodesFrom, noNodes, fresh, restoredTo, restoreRule}
-use Rattle.rules.proofs.Tests.{and-both}
+use Rattle.rules.specs.Restore.{nodesFrom, fresh, restoredTo, restoreRule}
 use Rattle.rules.proofs.Accepted.{fits}
-use Rattle.rules.proofs.Driven.{no-nodes, no-root}
+use Rattle.rules.proofs.Driven.{fresh-bare}
 use Rattle.tables.specs.Table.{row}
 use Rattle.tables.specs.Layout.{capacityOf, countOf}
 use Rattle.tables.specs.View.{view}
@@ -38,22 +36,10 @@ use Rattle.restore_parts.proofs.Records.{count-is, next-low, next-top, all-load
 use Rattle.restore_parts.proofs.Loads.{AllLoaded, loads-all}
 use Rattle.restore_parts.proofs.StateHead.{become, view-state, state-keeps}
 
--- ---- a fresh instance
-
-module _ (mem : List ℕ) (f : fresh (view mem) ≡ true) where
-  parts : (noNodes (view mem .tree .nodes) ≡ true) × (isNone (view mem .tree .root) ≡ true)
-  unfolding fresh
-  parts = and-both (noNodes (view mem .tree .nodes)) (isNone (view mem .tree .root)) f
-
-  bare-root : view mem .tree .root ≡ none
-  bare-root = no-root (view mem .tree .root) (parts .1)
-
-  bare-nodes : view mem .tree .nodes ≡ []
-  bare-nodes = no-nodes (view mem .tree .nodes) (parts .0)
-
-  none-live : countOf mem ≡ 0
-  unfolding view
-  none-live = sym (nodes-count mem) ∙ ap (λ (ns : List Node). length ns) bare-nodes
+-- a fresh instance has no row
+none-live : (mem : List ℕ) → fresh (view mem) ≡ true → countOf mem ≡ 0
+unfolding view
+none-live mem f = sym (nodes-count mem) ∙ ap (λ (ns : List Node). length ns) (fresh-bare (view mem) f .0)
 
 -- ---- the state is there
 
@@ -77,8 +63,7 @@ module _ (mem b : List ℕ) (k : laid mem ≡ true) (f : fresh (view mem) ≡ tr
     unfolding stateMem restoredTo
     view-restored =
         let w = fits b bytes a in
-        let root = bare-root mem f in
-        let nodes = bare-nodes mem f in
+        let bare = fresh-bare (view mem) f in
         view-state (s .next) (s .counter) (s .options) m′ (w .options) (next-top b a) (w .counter) (omega (arith, all .long, laid-long mem k))
         ∙ ap (become (s .next) (s .counter) (s .options)) (all .stands 0)
         ∙ (λ t. become (s .next) (s .counter) (s .options) (record {
@@ -87,7 +72,7 @@ module _ (mem b : List ℕ) (k : laid mem ≡ true) (f : fresh (view mem) ≡ tr
           initialized = view mem .initialized;
           options = view mem .options;
           indexes = view mem .indexes;
-          tree = record { next = 0; root = root t; nodes = nodes t ++ nodesFrom (s .nodes) };
+          tree = record { next = 0; root = bare .1 t; nodes = bare .0 t ++ nodesFrom (s .nodes) };
         }))
 
     keeps-restored : laid (stateMem s mem) ≡ true

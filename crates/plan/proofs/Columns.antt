@@ -17,7 +17,7 @@ use Rattle.rules.specs.Numbers.{rootNumber}
 use Rattle.rules.specs.Tree.{Node, bare, isChild, childIn, nodeIn, aboveOf, parentIn}
 use Rattle.rules.proofs.Same.{same-length}
 use Rattle.rules.proofs.Fields.{read-slice, read-all}
-use Rattle.rules.proofs.Walk.{node-append}
+use Rattle.rules.proofs.Walk.{node-append, node-second}
 use Rattle.path.specs.Steps.{part}
 use Rattle.path.proofs.Places.{part-length}
 use Rattle.tables.specs.Table.{tab}
@@ -27,7 +27,6 @@ use Rattle.tables.specs.Answer.{placeIn}
 use Rattle.tables.proofs.Tab.{length-tab, tab-next, tab-done, tab-append}
 use Rattle.tables.proofs.Places.{place-nowhere, node-found}
 use Rattle.plan.specs.Plan.{Columns, columns, noted, plannedAt, plannedFrom}
-use Rattle.plan.proofs.Nodes.{node-second}
 
 -- ---- whether planned node j is the child of a name
 
@@ -113,7 +112,7 @@ module _ (mem path : List ℕ) (t : Columns) (count x : ℕ) (d : x ≡ rootNumb
     -- among the planned nodes alone
     up-second : parentIn all x ≡ aboveOf (nodeIn (plannedFrom path (nextOf mem) t 0 count) x)
     unfolding parentIn
-    up-second = rw (ne-eqb x 1 d, node-second x (nodesOf mem) (plannedFrom path (nextOf mem) t 0 count) (place-nowhere (nodesOf mem) x e .node))
+    up-second = rw (ne-eqb x 1 d, node-second (nodesOf mem) (plannedFrom path (nextOf mem) t 0 count) x (place-nowhere (nodesOf mem) x e .node))
 
     pub up-before : x < nextOf mem → rootNumber ≡ parentIn all x
     unfolding plannedFrom

@@ -1,14 +1,13 @@
--- Children and parents among the nodes of two lists, and the growth of a mount walk. Assumes nothing.
+-- Children among the nodes of two lists, and the growth of a mount walk. Assumes nothing.
 use mathlib.Core.Path.{_≡_, refl}
 use mathlib.Core.Bool.{Bool, true, false, cond}
 use mathlib.Core.List.{List, [], _∷_, _++_}
 use mathlib.Core.Option.{Option, none, some, Option·none-ne-some, Option·some-ne-none}
-use Prim.Native.Nat.{ℕ, _+_, _≤_}
+use Prim.Native.Nat.{ℕ, _≤_}
 use native.Mathlib.Omega.{arith}
 use lib.ListN.{length, length-append}
-use lib.Dec.{eqb}
 use Rattle.rules.specs.Path.{Part, name, parent}
-use Rattle.rules.specs.Tree.{Node, Made, isChild, childIn, nodeIn, orMake, step, makes}
+use Rattle.rules.specs.Tree.{Node, Made, isChild, childIn, orMake, step, makes}
 
 -- ---- the first that is found
 
@@ -28,16 +27,6 @@ module _ (here : ℕ) (p : List ℕ) where
   child-second (n ∷ xs) ys e = go (isChild here p n) (child-second xs ys) e
     where
       go : (t : Bool) → (childIn xs here p ≡ none → childIn (xs ++ ys) here p ≡ childIn ys here p) → cond t (some (n .number)) (childIn xs here p) ≡ none → cond t (some (n .number)) (childIn (xs ++ ys) here p) ≡ childIn ys here p
-      go true ih e = absurd (Option·some-ne-none _ e)
-      go false ih e = ih e
-
-module _ (x : ℕ) where
-  pub node-second : (xs ys : List Node) → nodeIn xs x ≡ none → nodeIn (xs ++ ys) x ≡ nodeIn ys x
-  unfolding nodeIn
-  node-second [] ys e = refl
-  node-second (m ∷ xs) ys e = go (eqb (m .number) x) (node-second xs ys) e
-    where
-      go : (t : Bool) → (nodeIn xs x ≡ none → nodeIn (xs ++ ys) x ≡ nodeIn ys x) → cond t (some m) (nodeIn xs x) ≡ none → cond t (some m) (nodeIn (xs ++ ys) x) ≡ nodeIn ys x
       go true ih e = absurd (Option·some-ne-none _ e)
       go false ih e = ih e
 

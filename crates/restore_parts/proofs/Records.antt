@@ -6,13 +6,11 @@ use Prim.Native.Nat.{ℕ, zero, suc, _+_, _^_, _≤_, _<_}
 use native.Mathlib.Nat.{add-zero, zero-add}
 use native.Mathlib.Omega.{arith}
 use lib.ListN.{length}
-use borrow.Author.Tests.{leb-true}
-use Rattle.rules.specs.Saved.{Entry, nodeAt, nodesAt, recordsOf, stateOf, valid, accepted}
-use Rattle.rules.specs.Driven.{Rises, Below, Named, Shape}
-use Rattle.rules.proofs.Tests.{passed}
+use Rattle.rules.specs.Saved.{Entry, nodeAt, nodesAt, recordsOf, stateOf, accepted}
+use Rattle.rules.specs.Driven.{Rises, Below, Named}
 use Rattle.rules.proofs.Accepted.{nodes-count, clauses}
 use Rattle.rules.proofs.Shape.{rises-end}
-use Rattle.rules.proofs.Good.{good-shape}
+use Rattle.rules.proofs.Good.{valid-shape}
 use Rattle.rules.proofs.Restored.{name-length}
 use Rattle.saved.specs.Scan.{startOf}
 use Rattle.restore_parts.specs.Parts.{Loads}
@@ -49,17 +47,14 @@ count-is b = nodes-count b (recordsOf b) 0
 
 module _ (b : List ℕ) (a : accepted b ≡ true) where
   pub next-low : 2 ≤ stateOf b .next
-  unfolding valid
-  next-low = leb-true 2 (stateOf b .next) (passed _ (clauses b a .1) .0)
+  next-low = valid-shape (stateOf b) (clauses b a .1) .0
 
   pub next-top : stateOf b .next ≤ 2 ^ 56
-  unfolding valid
-  next-top = leb-true (stateOf b .next) (2 ^ 56) (passed _ (clauses b a .1) .1 .0)
+  next-top = valid-shape (stateOf b) (clauses b a .1) .1
 
   pub all-load : AllLoad (stateOf b .nodes)
-  unfolding valid
   all-load =
-      let s : Shape (stateOf b .nodes) (stateOf b .next) = good-shape (stateOf b .next) (stateOf b .nodes) next-low (passed _ (clauses b a .1) .1 .1 .0) in
+      let s = valid-shape (stateOf b) (clauses b a .1) .2 in
       shape-loads 2 (stateOf b .next) (stateOf b .nodes) (omega arith) next-top (s .rises) (s .below) (s .named)
 
   pub record-loads : (i at : ℕ) → at ≡ startOf b i → i < recordsOf b → Loads (nodeAt b at)

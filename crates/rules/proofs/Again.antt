@@ -1,16 +1,14 @@
 -- No number of a node is given again: a new node has the next number, and that only rises. Assumes nothing.
-use mathlib.Core.Path.{_≡_, refl, sym, subst}
+use mathlib.Core.Path.{_≡_, refl, sym, _∙_, subst}
 use mathlib.Core.Bool.{Bool, true, false, cond, not, _&&_}
-use mathlib.Core.List.{List, [], _∷_, _++_, append-assoc, append-nil}
+use mathlib.Core.List.{List, [], _∷_}
 use mathlib.Core.Option.{Option, none, some, Option·none-ne-some}
-use Prim.Native.Nat.{ℕ, _+_, _<_}
+use Prim.Native.Nat.{ℕ, _<_}
 use native.Mathlib.Omega.{arith}
-use lib.ListN.{length}
 use lib.Dec.{eqb}
 use borrow.Author.Tests.{ne-eqb}
 use Rattle.rules.specs.Numbers.{rootNumber}
-use Rattle.rules.specs.Path.{Part, name, parent, components}
-use Rattle.rules.specs.Tree.{Mount, Node, Made, nodeIn, bare, childIn, orMake, step, makes, atRoot, withMount, mountAt, without}
+use Rattle.rules.specs.Tree.{Mount, Node, nodeIn, withMount, mountAt, without}
 use Rattle.rules.specs.Instance.{Tree, Instance, setMount, grown}
 use Rattle.rules.specs.Outcome.{Outcome}
 use Rattle.rules.specs.Mount.{Request, planned, mountOn, placed, allocation, walkedTo, stepped, ended, mountAs, restoreAs}
@@ -19,6 +17,7 @@ use Rattle.rules.specs.Calls.{Call, rule}
 use Rattle.rules.specs.Trace.{NoRestore, Unrestored, afterAll}
 use Rattle.rules.specs.Stays.{NeverAgain}
 use Rattle.rules.proofs.Rows.{each-of, either}
+use Rattle.rules.proofs.Walk.{node-second, planned-all}
 use Rattle.rules.proofs.Ways.{every-call}
 
 -- the number is below the next one, and no node has it
@@ -50,37 +49,14 @@ none-without (n ∷ ns) y x e = go (eqb (n .number) y) (eqb (n .number) x) refl 
     go true false q f on = f
     go false false q f on = rw q (on f)
 
-none-more : (ns : List Node) (n : Node) (x : ℕ) → (n .number ≡ x → ⊥) → nodeIn ns x ≡ none → nodeIn (ns ++ (n ∷ [])) x ≡ none
-unfolding nodeIn
-none-more [] n x d e = rw (ne-eqb (n .number) x d)
-none-more (m ∷ ns) n x d e = go (eqb (m .number) x) e (none-more ns n x d)
-  where
-    go : (b : Bool) → cond b (some m) (nodeIn ns x) ≡ none → (nodeIn ns x ≡ none → nodeIn (ns ++ (n ∷ [])) x ≡ none) → cond b (some m) (nodeIn (ns ++ (n ∷ [])) x) ≡ none
-    go true f on = absurd (Option·none-ne-some m (sym f))
-    go false f on = on f
-
--- ---- the mount walk
-
-none-made : (live : List Node) (next x : ℕ) → x < next → (ps : List Part) (m : Made) → nodeIn (live ++ m .nodes) x ≡ none → nodeIn (live ++ makes live next m ps .nodes) x ≡ none
-unfolding makes step
-none-made live next x l [] m e = e
-none-made live next x l (parent at ∷ ps) m e = none-made live next x l ps _ e
-none-made live next x l (name at p ∷ ps) m e = none-made live next x l ps _ (made (childIn (live ++ m .nodes) (m .here) p))
-  where
-    made : (y : Option ℕ) → nodeIn (live ++ orMake next m p y .nodes) x ≡ none
-    made none =
-        let n = bare (next + length (m .nodes)) (m .here) p in
-        subst (λ (ns : List Node). nodeIn ns x ≡ none) (append-assoc live (m .nodes) (n ∷ [])) (none-more (live ++ m .nodes) n x (λ q. omega arith) e)
-    made (some y) = e
-
 -- ---- trees
 
 module _ (x : ℕ) where
   grown-spent : (t : Tree) (path : List ℕ) → Spent x t → Spent x (grown (planned t path .nodes) t)
-  unfolding planned
+  unfolding nodeIn
   grown-spent t path s = record {
     low = omega (arith, s .low);
-    gone = none-made (t .nodes) (t .next) x (s .low) (components 0 path) atRoot (rw (append-nil (t .nodes)) (s .gone));
+    gone = planned-all (λ (ns : List Node). nodeIn ns x ≡ none) t (λ ns n l m e. node-second ns (n ∷ []) x e ∙ rw (ne-eqb (n .number) x (λ q. omega (arith, s .low)))) path (s .gone);
   }
 
   set-spent : (t : Tree) (y : ℕ) (m : Option Mount) → Spent x t → Spent x (setMount t y m)
@@ -96,39 +72,39 @@ module _ (x : ℕ) where
 
   -- ---- calls
 
-  abbrev Keeps : Outcome → Type 0
-  Keeps o = Spent x (o .after .tree)
+  abbrev LeavesSpent : Outcome → Type 0
+  LeavesSpent o = Spent x (o .after .tree)
 
   placed-spent : (k : ℕ) (r : Request) (y : ℕ) (i : Instance) → Spent x (i .tree) → Spent x (placed k r y i .tree)
   unfolding placed
   placed-spent k r y i s = set-spent (i .tree) y (some (mountOn k r)) s
 
-  mount-as : (i : Instance) (r : Request) (k : Option ℕ) → Spent x (i .tree) → Keeps (mountAs i r k)
+  mount-as : (i : Instance) (r : Request) (k : Option ℕ) → Spent x (i .tree) → LeavesSpent (mountAs i r k)
   unfolding mountAs
   mount-as i r none s = s
   mount-as i r (some k) s =
       let w = grown-spent (i .tree) (r .path) s in
-      each-of Keeps _ _ (s, (w, placed-spent k r (ended i (r .path)) (walkedTo (r .path) (stepped i)) w))
+      each-of LeavesSpent _ _ (s, (w, placed-spent k r (ended i (r .path)) (walkedTo (r .path) (stepped i)) w))
 
-  restored-as : (i : Instance) (k : ℕ) (r : Request) → Spent x (i .tree) → Keeps (restoreAs i k r)
+  restored-as : (i : Instance) (k : ℕ) (r : Request) → Spent x (i .tree) → LeavesSpent (restoreAs i k r)
   unfolding restoreAs
   restored-as i k r s =
       let w = grown-spent (i .tree) (r .path) s in
-      each-of Keeps _ _ (s, (w, placed-spent k r (ended i (r .path)) (walkedTo (r .path) i) w))
+      each-of LeavesSpent _ _ (s, (w, placed-spent k r (ended i (r .path)) (walkedTo (r .path) i) w))
 
-  unmounted : (i : Instance) (y : ℕ) (m : Mount) → Spent x (i .tree) → Keeps (unmounts i y m)
+  unmounted : (i : Instance) (y : ℕ) (m : Mount) → Spent x (i .tree) → LeavesSpent (unmounts i y m)
   unfolding unmounts
   unmounted i y m s = taken-spent i y s
 
-  stays-spent : (i : Instance) (c : Call) → NoRestore c (rule i c) → Spent x (i .tree) → Keeps (rule i c)
-  stays-spent = every-call (λ i c o. NoRestore c o → Spent x (i .tree) → Keeps o) (record {
+  stays-spent : (i : Instance) (c : Call) → NoRestore c (rule i c) → Spent x (i .tree) → LeavesSpent (rule i c)
+  stays-spent = every-call (λ i c o. NoRestore c o → Spent x (i .tree) → LeavesSpent o) (record {
     still = λ i c o q t un s. subst (λ (j : Instance). Spent x (j .tree)) (sym (t .after)) s;
     early = λ i c code e un s. s;
     mounts = λ i r p un s. mount-as i r (allocation i .found) s;
     restores-mount = λ i k r p un s. restored-as i k r s;
     unmounted = λ i path y m q e un s. unmounted i y m s;
     sets-removal = λ i un s. s;
-    restored = λ i b ok un s. absurd (un b refl refl);
+    state-restored = λ i b ok un s. absurd (un b refl refl);
   })
 
   all-spent : (cs : List Call) (i : Instance) → Unrestored i cs → Spent x (i .tree) → Spent x (afterAll i cs .tree)

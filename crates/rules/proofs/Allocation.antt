@@ -9,9 +9,11 @@ use native.Mathlib.Nat.{eq-zero-or-pos}
 use lib.Dec.{eqb}
 use borrow.Author.Tests.{eq-eqb, ne-eqb, eqb-false, not-true}
 use Rattle.rules.specs.Round.{untilTwice, freeOf, allocate}
+use Rattle.rules.specs.Instance.{Instance, heldIn, counterOf}
+use Rattle.rules.specs.Mount.{allocation}
 use Rattle.rules.specs.Allocation.{FirstFree, EveryAllocation}
 use Rattle.rules.proofs.Tests.{known, le-or-lt, and-both}
-use Rattle.rules.proofs.Round.{meets, finds-none, found-free, spent, At, found-at, at-found}
+use Rattle.rules.proofs.Round.{meets, finds-none, found-free, spent, FoundAt, found-at, at-found}
 
 module _ (held : ℕ → Bool) where
   -- a free index is not 0 and not held
@@ -45,7 +47,7 @@ module _ (held : ℕ → Bool) (c : ℕ) (h : c < 256) where
   unfolding allocate untilTwice
   handed-out k e = go (found-at (freeOf held) 257 c k h e)
     where
-      go : (d : ℕ) × At (freeOf held) 257 c k d → (d : ℕ) × FirstFree held c k d
+      go : (d : ℕ) × FoundAt (freeOf held) 257 c k d → (d : ℕ) × FirstFree held c k d
       go (d, a) =
           let f = free-is held k (a .is-free) in
           let near : d < 256 =
@@ -96,3 +98,8 @@ exact held c h = record {
   refused-count = λ e. spent (freeOf held) 257 c e;
   moved = refl;
 }
+
+-- what a mount finds is an index from 1 to 255
+pub found-bounds : (i : Instance) → counterOf i < 256 → (k : ℕ) → allocation i .found ≡ some k → (1 ≤ k) × (k ≤ 255)
+unfolding allocation
+found-bounds i h k e = let f = handed-out (heldIn i) (counterOf i) h k e .1 in (f .least, f .most)

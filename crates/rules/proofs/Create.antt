@@ -23,12 +23,12 @@ module _ (bytes n : ℕ) where
   is-large-enough a b c = rw (le-ltb n 1 a, le-ltb maxNodes n b, le-ltb bytes (storageFor n) c)
 
 module _ (known : ℕ) (o : Options) where
-  pub options-fit : badOptions known o ≡ false → (unknown known o ≡ false) × (o .flags < 64)
+  pub options-known : badOptions known o ≡ false → (unknown known o ≡ false) × (o .flags < 64)
   unfolding badOptions
-  options-fit e =
+  options-known e =
       let a = or-neither (unknown known o) (ltb 63 (o .flags)) e in
       (a .0, omega (arith, ltb-false 63 (o .flags) (a .1)))
 
-  pub do-fit : unknown known o ≡ false → o .flags < 64 → badOptions known o ≡ false
+  pub known-options : unknown known o ≡ false → o .flags < 64 → badOptions known o ≡ false
   unfolding badOptions
-  do-fit e h = rw (e, le-ltb 63 (o .flags) (omega arith))
+  known-options e h = rw (e, le-ltb 63 (o .flags) (omega arith))

@@ -8,8 +8,8 @@ use Prim.Native.Nat.{ℕ, _+_, _^_, _≤_, _<_}
 use native.Mathlib.Omega.{arith}
 use lib.Bits.{bitAnd, and-le-r}
 use lib.ListN.{length, getD, replicate, length-replicate, getD-replicate, List·getD-eq-default}
-use borrow.Author.Tests.{ltb-false, leb-true, eqb-true, not-false}
-use Rattle.rules.specs.Numbers.{topNumber, DONE}
+use borrow.Author.Tests.{ltb-false, eqb-true, not-false}
+use Rattle.rules.specs.Numbers.{DONE}
 use Rattle.rules.specs.Bytes.{Bytes}
 use Rattle.rules.specs.Ids.{badMapping}
 use Rattle.rules.specs.Tree.{Mount, Node, isNone}
@@ -17,55 +17,56 @@ use Rattle.rules.specs.Instance.{Slot, Instance, emptySlot, heldIn}
 use Rattle.rules.specs.Outcome.{Outcome}
 use Rattle.rules.specs.Mount.{allocation}
 use Rattle.rules.specs.Create.{Creation, outside, unknown, badOptions, tooSmall, newInstance, createRule}
-use Rattle.rules.specs.Saved.{stateOf, valid, goodNodes}
+use Rattle.rules.specs.Saved.{stateOf}
 use Rattle.rules.specs.Restore.{entriesFor, nodesFrom, noNodes, fresh, restoredTo}
 use Rattle.rules.specs.Calls.{Call, rule}
 use Rattle.rules.specs.Driven.{Typed, creation, call, Rises, Below, Named, Unique, Shape, IsAt, MountIn, Mounted, Facts, EveryDriven, EveryReached}
-use Rattle.rules.proofs.Tests.{le-or-lt, and-both, or-neither, passed}
+use Rattle.rules.proofs.Tests.{le-or-lt, and-both, or-neither}
 use Rattle.rules.proofs.Rows.{first-of}
 use Rattle.rules.proofs.Ids.{within}
 use Rattle.rules.proofs.Walk.{path-rooted}
 use Rattle.rules.proofs.Ways.{Restorable, every-call}
 use Rattle.rules.proofs.Accepted.{clauses, fits}
 use Rattle.rules.proofs.Shape.{entries-from, entries-length}
-use Rattle.rules.proofs.Create.{large-enough, options-fit}
-use Rattle.rules.proofs.Good.{good-shape}
+use Rattle.rules.proofs.Create.{large-enough, options-known}
+use Rattle.rules.proofs.Good.{valid-shape}
 use Rattle.rules.proofs.MountFacts.{Keeps, mount-as, restored-as, unmounted}
 
 -- ---- state restore
 
-pub no-nodes : (ns : List Node) → noNodes ns ≡ true → ns ≡ []
+no-nodes : (ns : List Node) → noNodes ns ≡ true → ns ≡ []
 unfolding noNodes
 no-nodes [] e = refl
 no-nodes (n ∷ ns) e = absurd (false≢true e)
 
-pub no-root : (m : Option Mount) → isNone m ≡ true → m ≡ none
+no-root : (m : Option Mount) → isNone m ≡ true → m ≡ none
 no-root none e = refl
 no-root (some m) e = absurd (false≢true e)
 
--- a fresh instance holds no slot
-none-held : (i : Instance) → Facts i → fresh i ≡ true → (k : ℕ) → heldIn i k ≡ true → ⊥
-unfolding fresh MountIn
-none-held i f e k h =
+-- a fresh instance has no node besides the root, and no mount on that
+pub fresh-bare : (i : Instance) → fresh i ≡ true → (i .tree .nodes ≡ []) × (i .tree .root ≡ none)
+unfolding fresh
+fresh-bare i e =
     let b = and-both (noNodes (i .tree .nodes)) (isNone (i .tree .root)) e in
+    (no-nodes (i .tree .nodes) (b .0), no-root (i .tree .root) (b .1))
+
+-- and so it holds no slot
+none-held : (i : Instance) → Facts i → fresh i ≡ true → (k : ℕ) → heldIn i k ≡ true → ⊥
+unfolding MountIn
+none-held i f e k h =
+    let b = fresh-bare i e in
     let m : Mounted k (i .tree) = f .held k h in
-    let n : IsAt k none ⊎ MountIn k [] = subst (λ (x : Option Mount). IsAt k x ⊎ MountIn k []) (no-root (i .tree .root) (b .1)) (subst (λ (x : List Node). IsAt k (i .tree .root) ⊎ MountIn k x) (no-nodes (i .tree .nodes) (b .0)) m) in
+    let n : IsAt k none ⊎ MountIn k [] = rw (b .0, b .1) at m in
     ⊎-elim (λ w. w) (λ w. w) n
 
 module _ (i : Instance) (b : List ℕ) (f : Facts i) (bytes : Bytes b) (ok : Restorable i b) where
-  valid-parts : (2 ≤ stateOf b .next) × (stateOf b .next ≤ topNumber) × (goodNodes (stateOf b .next) [] (stateOf b .nodes) ≡ true)
-  unfolding valid
-  valid-parts =
-      let t = passed _ (clauses b (ok .is-accepted) .1) in
-      (leb-true 2 (stateOf b .next) (t .0), leb-true (stateOf b .next) topNumber (t .1 .0), t .1 .1 .0)
-
   state-facts : Facts (restoredTo (stateOf b) i)
   unfolding restoredTo
   state-facts =
       let s = stateOf b in
-      let v = valid-parts in
+      let v = valid-shape s (clauses b (ok .is-accepted) .1) in
       let w = fits b bytes (ok .is-accepted) in
-      let shape : Shape (entriesFor (nodesFrom (s .nodes))) (s .next) = rw (entries-from (s .nodes)) (good-shape (s .next) (s .nodes) (v .0) (v .2)) in
+      let shape : Shape (entriesFor (nodesFrom (s .nodes))) (s .next) = rw (entries-from (s .nodes)) (v .2) in
       let size : length (nodesFrom (s .nodes)) ≡ length (s .nodes) = sym (entries-length (nodesFrom (s .nodes))) ∙ ap length (entries-from (s .nodes)) in
       record {
         shape = shape;
@@ -103,7 +104,7 @@ call-facts = every-call (λ (i : Instance) (c : Call) (o : Outcome). Typed c →
     counter = f .counter;
     held = f .held;
   };
-  restored = λ i b ok t f. state-facts i b f (t b refl) ok;
+  state-restored = λ i b ok t f. state-facts i b f (t b refl) ok;
 })
 
 within-mask : (known bits : ℕ) → outside known bits ≡ false → bits ≤ known
@@ -125,7 +126,7 @@ module _ (bytes : ℕ) (q : Creation) (mask : q .known < 2 ^ 64) (size : tooSmal
       let n = q .capacity in
       let o = q .options in
       let a = large-enough bytes n size in
-      let d = options-fit (q .known) o known in
+      let d = options-known (q .known) o known in
       let e = or-neither (outside (q .known) (o .inOpts)) (outside (q .known) (o .outOpts)) (d .0) in
       let w = within (o .mapping) maps in
       record {

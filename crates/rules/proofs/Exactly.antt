@@ -24,7 +24,6 @@ use Rattle.rules.specs.Listing.{ListRequest, listRule}
 use Rattle.rules.specs.Restore.{saveRule, restoreRule}
 use Rattle.rules.specs.Calls.{Call, mount, restore-mount, umount, set-remove-pseudo-root, path-walk, get-rootfs, route, lookup, readdir, remap-attr-id, options, initialized, save, restore, rule}
 use Rattle.rules.specs.Exactly.{Test, _⟼_, heldTo, slotEmpty, mountTests, restoreMountTests, pathTests, tests, createTests, Exactly}
-use Rattle.rules.proofs.Tests.{known}
 use Rattle.rules.proofs.Allocation.{exact}
 use Rattle.rules.proofs.Rows.{Settles, decides, settled, passes, stops, settle, settle-last, settle-or}
 

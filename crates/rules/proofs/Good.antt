@@ -6,10 +6,10 @@ use mathlib.Core.List.{List, [], _∷_}
 use Prim.Native.Nat.{ℕ, _+_, _≤_, _<_}
 use native.Mathlib.Omega.{arith}
 use lib.Dec.{eqb}
-use borrow.Author.Tests.{eqb-true, eq-eqb, not-true, ltb-true, lt-ltb}
-use Rattle.rules.specs.Numbers.{rootNumber}
+use borrow.Author.Tests.{eqb-true, eq-eqb, not-true, leb-true, ltb-true, lt-ltb}
+use Rattle.rules.specs.Numbers.{rootNumber, topNumber}
 use Rattle.rules.specs.Bytes.{same}
-use Rattle.rules.specs.Saved.{Entry, lastNumber, present, used, goodName, goodNode, goodNodes}
+use Rattle.rules.specs.Saved.{Entry, State, lastNumber, present, used, goodName, goodNode, goodNodes, valid}
 use Rattle.rules.specs.Driven.{Rises, Below, Named, Unique, Shape}
 use Rattle.rules.proofs.Tests.{and-both, or-neither, pass, passed}
 use Rattle.rules.proofs.Shape.{beside, beside-sym, rises-end}
@@ -39,35 +39,35 @@ unfolding goodNode
 is-good next before e g =
     pass _ (lt-ltb (lastNumber before) (e .number) (g .rises), (lt-ltb (e .number) next (g .under), (g .named, (g .parent, (rw (g .alone), tt)))))
 
+-- the numbers before are at most the last one's
+Falling : List Entry → Type 0
+Falling before = (x : ℕ) → present x before ≡ true → (1 ≤ x) × (x ≤ lastNumber before)
+
+falling-more : (before : List Entry) (e : Entry) → Falling before → lastNumber before < e .number → Falling (e ∷ before)
+unfolding Falling present lastNumber
+falling-more before e f l x = go (eqb (e .number) x) refl
+  where
+    go : (b : Bool) → eqb (e .number) x ≡ b → (b || present x before) ≡ true → (1 ≤ x) × (x ≤ e .number)
+    go true q p = (omega (arith, eqb-true (e .number) x q), omega (arith, eqb-true (e .number) x q))
+    go false q p = (f x p .0, omega (arith, f x p .1))
+
+falling-nil : Falling []
+unfolding Falling present lastNumber
+falling-nil x p = (omega (arith, eqb-true x rootNumber p), omega (arith, eqb-true x rootNumber p))
+
+-- d stands among those before: a name that is not used there is not d's
+Among : Entry → List Entry → Type 0
+Among d before = (x : ℕ) (p : List ℕ) → used x p before ≡ false → (eqb (d .above) x && same (d .called) p) ≡ false
+
+among-first : (d : Entry) (before : List Entry) → Among d (d ∷ before)
+unfolding Among used
+among-first d before x p u = or-neither (eqb (d .above) x && same (d .called) p) (used x p before) u .0
+
+among-more : (d e : Entry) (before : List Entry) → Among d before → Among d (e ∷ before)
+unfolding Among used
+among-more d e before a x p u = a x p (or-neither (eqb (e .above) x && same (e .called) p) (used x p before) u .1)
+
 module _ (next : ℕ) where
-  -- the numbers before are at most the last one's
-  Falling : List Entry → Type 0
-  Falling before = (x : ℕ) → present x before ≡ true → (1 ≤ x) × (x ≤ lastNumber before)
-
-  falling-more : (before : List Entry) (e : Entry) → Falling before → lastNumber before < e .number → Falling (e ∷ before)
-  unfolding Falling present lastNumber
-  falling-more before e f l x = go (eqb (e .number) x) refl
-    where
-      go : (b : Bool) → eqb (e .number) x ≡ b → (b || present x before) ≡ true → (1 ≤ x) × (x ≤ e .number)
-      go true q p = (omega (arith, eqb-true (e .number) x q), omega (arith, eqb-true (e .number) x q))
-      go false q p = (f x p .0, omega (arith, f x p .1))
-
-  falling-nil : Falling []
-  unfolding Falling present lastNumber
-  falling-nil x p = (omega (arith, eqb-true x rootNumber p), omega (arith, eqb-true x rootNumber p))
-
-  -- d stands among those before: a name that is not used there is not d's
-  Among : Entry → List Entry → Type 0
-  Among d before = (x : ℕ) (p : List ℕ) → used x p before ≡ false → (eqb (d .above) x && same (d .called) p) ≡ false
-
-  among-first : (d : Entry) (before : List Entry) → Among d (d ∷ before)
-  unfolding Among used
-  among-first d before x p u = or-neither (eqb (d .above) x && same (d .called) p) (used x p before) u .0
-
-  among-more : (d e : Entry) (before : List Entry) → Among d before → Among d (e ∷ before)
-  unfolding Among used
-  among-more d e before a x p u = a x p (or-neither (eqb (e .above) x && same (e .called) p) (used x p before) u .1)
-
   unused-later : (d : Entry) (es before : List Entry) → Among d before → goodNodes next before es ≡ true → used (d .above) (d .called) es ≡ false
   unfolding used goodNodes Among
   unused-later d [] before a h = refl
@@ -97,24 +97,32 @@ module _ (next : ℕ) where
         unique = (unused-later e es (e ∷ before) (among-first e before) (t .1), r .unique);
       }
 
-pub good-shape : (next : ℕ) (es : List Entry) → 2 ≤ next → goodNodes next [] es ≡ true → Shape es next
+good-shape : (next : ℕ) (es : List Entry) → 2 ≤ next → goodNodes next [] es ≡ true → Shape es next
 unfolding lastNumber
 good-shape next es l h =
-    let r = good-rest next es [] (falling-nil next) h (omega arith) in
+    let r = good-rest next es [] falling-nil h (omega arith) in
     record { rises = r .rises; below = r .below; named = r .named; unique = r .unique }
+
+-- what a valid state is, all but the parents
+pub valid-shape : (s : State) → valid s ≡ true → (2 ≤ s .next) × (s .next ≤ topNumber) × Shape (s .nodes) (s .next)
+unfolding valid
+valid-shape s v =
+    let t = passed _ v in
+    let low = leb-true 2 (s .next) (t .0) in
+    (low, leb-true (s .next) topNumber (t .1 .0), good-shape (s .next) (s .nodes) low (t .1 .1 .0))
 
 -- ---- the parents of those left are before, or among those left
 
-unfoldable pub In : ℕ → List Entry → Type 0
-In x [] = ⊥
-In x (e ∷ es) = (e .number ≡ x) ⊎ In x es
+unfoldable pub HasNumber : ℕ → List Entry → Type 0
+HasNumber x [] = ⊥
+HasNumber x (e ∷ es) = (e .number ≡ x) ⊎ HasNumber x es
 
 unfoldable pub Parents : List Entry → List Entry → List Entry → Type 0
 Parents before left [] = Unit {0}
-Parents before left (e ∷ es) = ((present (e .above) before ≡ true) ⊎ In (e .above) left) × Parents before left es
+Parents before left (e ∷ es) = ((present (e .above) before ≡ true) ⊎ HasNumber (e .above) left) × Parents before left es
 
-in-above : (low high x : ℕ) (es : List Entry) → Rises low es high → In x es → low ≤ x
-unfolding In Rises
+in-above : (low high x : ℕ) (es : List Entry) → Rises low es high → HasNumber x es → low ≤ x
+unfolding HasNumber Rises
 in-above low high x [] r h = absurd h
 in-above low high x (e ∷ es) r (inl h) = omega (arith, r .0)
 in-above low high x (e ∷ es) r (inr h) = omega (arith, r .0, in-above (e .number + 1) high x es (r .1) h)
@@ -128,10 +136,10 @@ unfolding present
 present-first x e before h = rw (eq-eqb (e .number) x h)
 
 parents-on : (e : Entry) (before left es : List Entry) → Parents before (e ∷ left) es → Parents (e ∷ before) left es
-unfolding Parents In
+unfolding Parents HasNumber
 parents-on e before left [] p = tt
 parents-on e before left (d ∷ es) p = (
-  ⊎-elim (λ h. inl (present-more (d .above) e before h)) (λ (h : (e .number ≡ d .above) ⊎ In (d .above) left). ⊎-elim (λ q. inl (present-first (d .above) e before q)) (λ q. inr q) h) (p .0),
+  ⊎-elim (λ h. inl (present-more (d .above) e before h)) (λ (h : (e .number ≡ d .above) ⊎ HasNumber (d .above) left). ⊎-elim (λ q. inl (present-first (d .above) e before q)) (λ q. inr q) h) (p .0),
   parents-on e before left es (p .1),
 )
 

@@ -6,7 +6,7 @@ use mathlib.Core.List.{List, [], _∷_, _++_}
 use mathlib.Core.Option.{Option, none, some, Option·none-ne-some}
 use Prim.Native.Nat.{ℕ}
 use native.Mathlib.Decide.{ℕ-discrete}
-use lib.ListN.{length, getD, set, length-set}
+use lib.ListN.{getD, set}
 use lib.Seq.{getD-set-other}
 use lib.Dec.{eqb}
 use borrow.Author.Tests.{eqb-true, eqb-false}
@@ -135,12 +135,6 @@ held-freed none i h q e = (h q e, λ w. w)
 held-freed (some m) i h q e =
     let b = held-before (i .indexes .slots) (m .index) q e in
     (h q (b .1), λ w. b .0 (sym w))
-
--- freeing leaves as many slots
-pub freed-slots : (m : Option Mount) (slots : List Slot) → length (freedSlots m slots) ≡ length slots
-unfolding freedSlots
-freed-slots none slots = refl
-freed-slots (some m) slots = length-set slots (m .index) emptySlot
 
 pub held-placed : (k : ℕ) (r : Request) (x : ℕ) (i : Instance) → Rooted (i .tree .nodes) x → Held i → Held (placed k r x i)
 unfolding placed

@@ -1,4 +1,4 @@
--- A kept number leads into its own mount or nowhere until its index is handed out again. Assumes nothing.
+-- A kept number leads into its own mount or nowhere until a call gives its index away, and there as long as its mount stands. Assumes nothing.
 use mathlib.Core.Path.{_≡_, refl, sym, ap, _∙_, subst}
 use mathlib.Core.Bool.{Bool, true, false, cond}
 use mathlib.Core.Logic.{_⊎_, inl, inr, ⊎-elim}
@@ -9,19 +9,19 @@ use native.Mathlib.Omega.{arith}
 use borrow.Author.Tests.{ne-eqb}
 use Rattle.rules.specs.Numbers.{indexOf, numberOf, NOENT}
 use Rattle.rules.specs.Round.{allocate}
-use Rattle.rules.specs.Instance.{Slot, Instance, counterOf, emptySlot, slotOf, tagInSlot, tagOf, heldIn}
+use Rattle.rules.specs.Instance.{Slot, Instance, counterOf, emptySlot, slotOf, tagInSlot, tagOf}
 use Rattle.rules.specs.Outcome.{refused, says, toBackend}
 use Rattle.rules.specs.Mount.{Request, allocation}
 use Rattle.rules.specs.Lookup.{routeTag, routeRule}
 use Rattle.rules.specs.Calls.{Call, mount, route, rule}
 use Rattle.rules.specs.Laps.{Step, Going, total, lastFound, Has}
-use Rattle.rules.specs.Trace.{Unrestored, afterAll, stepOf, stepsOf}
+use Rattle.rules.specs.Trace.{Unrestored, afterAll, stepsOf}
 use Rattle.rules.specs.Kept.{named, before, namedIn, handedOut, Ungiven, LeadsTo, MountedAt, EveryNew, EveryStanding, EveryOwn, EveryKept, EveryJudged}
-use Rattle.rules.proofs.Allocation.{exact}
-use Rattle.rules.proofs.Laps.{every-allocator, last-append}
+use Rattle.rules.proofs.Allocation.{found-bounds}
+use Rattle.rules.proofs.Laps.{last-of}
 use Rattle.rules.proofs.Turn.{mounts-allocate}
-use Rattle.rules.proofs.Trace.{searches, steps-going}
-use Rattle.rules.proofs.Given.{not-given, ungiven-slot, standing-slot}
+use Rattle.rules.proofs.Trace.{searches, steps-going, low-after, laps-from}
+use Rattle.rules.proofs.Given.{ungiven-slot, standing-slot}
 
 -- ---- lists of indexes
 
@@ -44,7 +44,7 @@ ungiven : (cs : List Call) (i : Instance) (k : ℕ) → (Has k (handedOut (steps
 unfolding stepsOf handedOut namedIn Ungiven
 ungiven [] i k h n = tt
 ungiven (c ∷ cs) i k h n = (
-  not-given k c (rule i c) (λ e. h (has-first (rule i c .found) k _ e)) (λ e. n (has-first (named c) k _ e)),
+  λ g. ⊎-elim (λ e. h (has-first (rule i c .found) k _ e)) (λ e. n (has-first (named c) k _ e)) (g .1),
   ungiven cs (rule i c .after) k (λ w. h (has-later (rule i c .found) k _ w)) (λ w. n (has-later (named c) k _ w)),
 )
 
@@ -70,11 +70,10 @@ leads i x t p = ⊎-elim (λ a. inr (leads-on i x t p a)) (λ a. inl (leads-off 
 mounted-tag : (i : Instance) (r : Request) (k : ℕ) → MountedAt i r k → (0 < k) × (tagOf (rule i (mount r) .after) k ≡ some (r .tag))
 unfolding rule allocation
 mounted-tag i r k m =
-    let s = searches i (mount r) k (m .found) .0 in
-    let first = exact (heldIn i) (counterOf i) (m .counter) .handed-out k .0 (sym (s .1) ∙ m .found) in
+    let b = found-bounds i (m .counter) k (sym (searches i (mount r) k (m .found) .0 .1) ∙ m .found) in
     let a = mounts-allocate i r .answers (m .done) in
     let same : a .0 ≡ k = let e = sym (a .1 .found) ∙ m .found in cc in
-    (first .1 .least, subst (λ (j : ℕ). tagOf (rule i (mount r) .after) j ≡ some (r .tag)) same (a .1 .holds (omega (arith, m .slots, first .1 .most))))
+    (b .0, subst (λ (j : ℕ). tagOf (rule i (mount r) .after) j ≡ some (r .tag)) same (a .1 .holds (omega (arith, m .slots, b .1))))
 
 pub least-index : (i : Instance) (r : Request) (k : ℕ) → MountedAt i r k → 0 < k
 least-index i r k m = mounted-tag i r k m .0
@@ -146,7 +145,7 @@ module _ (s : Step) (ss : List Step) (c k : ℕ) where
   -- a later one does
   one-more : (d : ℕ) (u : UpTo d k ss) → Going c (s ∷ u .steps) → UpTo c k (s ∷ ss)
   unfolding total lastFound
-  one-more d u g = record { steps = s ∷ u .steps; going = g; last = last-append [] (u .steps) (s .found) k (u .last); few = omega (arith, u .few) }
+  one-more d u g = record { steps = s ∷ u .steps; going = g; last = last-of (u .steps) (s .found) k (u .last); few = omega (arith, u .few) }
 
 up-to : (ss : List Step) (c k : ℕ) → c < 256 → Going c ss → Has k (handedOut ss) → UpTo c k ss
 unfolding Going handedOut allocate
@@ -159,13 +158,11 @@ up-to (s ∷ ss) c k l (inr (a, g)) h =
 
 not-sooner : (i : Instance) (r : Request) (k : ℕ) → MountedAt i r k → (cs : List Call) → Unrestored (rule i (mount r) .after) cs
     → Has k (handedOut (stepsOf (rule i (mount r) .after) cs)) → 256 ≤ total (stepsOf (rule i (mount r) .after) cs)
-unfolding allocation allocate
 not-sooner i r k m cs u h =
     let a = rule i (mount r) .after in
-    let s = searches i (mount r) k (m .found) in
-    let low : counterOf a < 256 = omega (arith, s .1) in
+    let low = low-after i (mount r) k (m .found) in
     let w = up-to (stepsOf a cs) (counterOf a) k low (steps-going cs a low u) h in
-    let lap = every-allocator (counterOf i) (m .counter) (stepOf i (mount r)) k (s .0) (m .found) (w .steps) (subst (λ n. Going n (w .steps)) (s .1) (w .going)) (w .last) in
+    let lap = laps-from i (m .counter) (mount r) k (m .found) (w .steps) (w .going) (w .last) in
     omega (arith, w .few, lap .positive, lap .whole)
 
 -- the theorem: within a lap

@@ -124,8 +124,8 @@ going-append (s ∷ ss) ts c h (inr (a, g)) r =
     let e : (c + (length (s .visits) + total ss)) % 256 ≡ (d + total ss) % 256 = omega arith in
     inr (a, going-append ss ts d (omega arith) g (rw e at r))
 
-pub last-append : (ss ts : List Step) (x : Option ℕ) (k : ℕ) → lastFound none ts ≡ some k → lastFound x (ss ++ ts) ≡ some k
+-- what the last of some steps handed out, whatever was handed out before them
+pub last-of : (ts : List Step) (x : Option ℕ) (k : ℕ) → lastFound none ts ≡ some k → lastFound x ts ≡ some k
 unfolding lastFound
-last-append [] [] x k e = absurd (Option·none-ne-some k e)
-last-append [] (t ∷ ts) x k e = e
-last-append (s ∷ ss) ts x k e = last-append ss ts (s .found) k e
+last-of [] x k e = absurd (Option·none-ne-some k e)
+last-of (t ∷ ts) x k e = e

@@ -34,7 +34,7 @@ module _ (i : Instance) (c : Call) where
     values = λ f. absurd (f e);
   }
 
-  -- nor has one that changes nothing, if a mount of that number may leave all as it was
+  -- a call that changes nothing, if its INVAL or INODE came from row 2 or 3
   unchanged : (o : Outcome) → (o .code ≡ INVAL → ByRow2 c) → (o .code ≡ INODE → ByRow3 c) → Still i o → Leaves i c o
   unchanged o v w s = record {
     full = λ f. absurd (s .not-full f);
@@ -137,5 +137,5 @@ leaves = every-call Leaves (record {
   restores-mount = restored-as;
   unmounted = λ i path x m q e. unmounted i (umount path) x m;
   sets-removal = λ i. done i _ _ refl;
-  restored = λ i b ok. done i _ _ refl;
+  state-restored = λ i b ok. done i _ _ refl;
 })

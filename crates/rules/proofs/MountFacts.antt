@@ -1,6 +1,6 @@
 -- A mount, a restored mount and an unmount keep what holds of every driven instance. Assumes nothing.
 use mathlib.Core.Path.{_≡_, refl, _∙_}
-use mathlib.Core.Bool.{Bool, true, false, cond, not, _&&_}
+use mathlib.Core.Bool.{true, false, not, _&&_}
 use mathlib.Core.List.{List}
 use mathlib.Core.Option.{Option, none, some}
 use Prim.Native.Nat.{ℕ, _+_, _≤_, _<_}
@@ -12,19 +12,20 @@ use Rattle.rules.specs.Numbers.{rootNumber, topNumber}
 use Rattle.rules.specs.Utf8.{wellFormed}
 use Rattle.rules.specs.Path.{tooLong, rooted}
 use Rattle.rules.specs.Round.{allocate}
-use Rattle.rules.specs.Tree.{Mount, mountAt}
-use Rattle.rules.specs.Instance.{Slot, Tree, Instance, emptySlot, heldBy, mountOf, setMount, grown, cut, live, counterOf}
+use Rattle.rules.specs.Tree.{Mount}
+use Rattle.rules.specs.Instance.{Slot, Tree, Instance, withIndexes, withTree, emptySlot, heldBy, mountOf, setMount, grown, cut, live, counterOf}
 use Rattle.rules.specs.Outcome.{Outcome}
 use Rattle.rules.specs.Mount.{Request, planned, needed, noRoom, freedSlots, mountOn, placed, allocation, stepped, walkedTo, ended, mountAs, restoreAs}
 use Rattle.rules.specs.Unmount.{taken, unmounts}
 use Rattle.rules.specs.Restore.{entriesFor}
 use Rattle.rules.specs.Driven.{Shape, Facts, Rooted}
 use Rattle.rules.proofs.Tests.{and-rest, or-neither}
-use Rattle.rules.proofs.Rows.{first-of}
+use Rattle.rules.proofs.Rows.{first-of, either}
 use Rattle.rules.proofs.Ways.{Passed}
 use Rattle.rules.proofs.Shape.{entries-mount, shape-less, length-less, length-mount}
 use Rattle.rules.proofs.Walk.{Walking, planned-walking}
-use Rattle.rules.proofs.Held.{Held, freed-slots, held-grown, held-placed, held-taken}
+use Rattle.rules.proofs.Slots.{freed-slots}
+use Rattle.rules.proofs.Held.{Held, held-grown, held-placed, held-taken}
 
 -- ---- the parts of an instance that a call changes
 
@@ -39,22 +40,19 @@ fine-of i f = record { shape = f .shape; top = f .top; room = f .room }
 
 set-fine : (cap : ℕ) (t : Tree) (x : ℕ) (m : Option Mount) → FineTree cap t → FineTree cap (setMount t x m)
 unfolding setMount
-set-fine cap t x m f = go (eqb x rootNumber)
-  where
-    go : (b : Bool) → FineTree cap (cond b (record { next = t .next; root = m; nodes = t .nodes }) (record { next = t .next; root = t .root; nodes = mountAt m (t .nodes) x }))
-    go true = record { shape = f .shape; top = f .top; room = f .room }
-    go false = record { shape = rw (entries-mount m (t .nodes) x) (f .shape); top = f .top; room = omega (arith, f .room, length-mount m (t .nodes) x) }
+set-fine cap t x m f =
+    either (FineTree cap) (eqb x rootNumber) (λ e. record { shape = f .shape; top = f .top; room = f .room })
+    (λ e. record { shape = rw (entries-mount m (t .nodes) x) (f .shape); top = f .top; room = omega (arith, f .room, length-mount m (t .nodes) x) })
 
 cut-fine : (cap : ℕ) (t : Tree) (x : ℕ) → FineTree cap t → FineTree cap (cut x t)
 cut-fine cap t x f = record { shape = shape-less (t .nodes) x (t .next) (f .shape); top = f .top; room = omega (arith, f .room, length-less (t .nodes) x) }
 
 taken-fine : (i : Instance) (x : ℕ) → FineTree (i .fixed .capacity) (i .tree) → FineTree (i .fixed .capacity) (taken i x)
 unfolding taken
-taken-fine i x f = go (i .removal && not (eqb x rootNumber)) (set-fine (i .fixed .capacity) (i .tree) x none f)
-  where
-    go : (b : Bool) → FineTree (i .fixed .capacity) (setMount (i .tree) x none) → FineTree (i .fixed .capacity) (cond b (cut x (setMount (i .tree) x none)) (setMount (i .tree) x none))
-    go true g = cut-fine (i .fixed .capacity) (setMount (i .tree) x none) x g
-    go false g = g
+taken-fine i x f =
+    let cap = i .fixed .capacity in
+    let g = set-fine cap (i .tree) x none f in
+    either (FineTree cap) (i .removal && not (eqb x rootNumber)) (λ e. cut-fine cap (setMount (i .tree) x none) x g) (λ e. g)
 
 -- the facts with another tree, other slots of the same number, another counter
 record Changes (i : Instance) (t : Tree) (slots : List Slot) (counter : ℕ) : Type 0 where
@@ -63,7 +61,7 @@ record Changes (i : Instance) (t : Tree) (slots : List Slot) (counter : ℕ) : T
   low : counter < 256
 
 abbrev with-all : Instance → Tree → List Slot → ℕ → Instance
-with-all i t slots counter = record { fixed = i .fixed; removal = i .removal; initialized = i .initialized; options = i .options; indexes = record { slots = slots; counter = counter }; tree = t }
+with-all i t slots counter = withTree t (withIndexes (record { slots = slots; counter = counter }) i)
 
 changed : (i : Instance) (t : Tree) (slots : List Slot) (counter : ℕ) → Facts i → Changes i t slots counter → Held (with-all i t slots counter) → Facts (with-all i t slots counter)
 changed i t slots counter f c h = record {

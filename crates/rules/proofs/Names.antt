@@ -2,18 +2,17 @@
 use mathlib.Core.Path.{_≡_, refl, sym, ap, _∙_, subst}
 use mathlib.Core.Bool.{Bool, true, false, cond, _&&_, true≢false}
 use mathlib.Core.List.{List, [], _∷_}
-use mathlib.Core.Logic.{⊎-elim}
 use Prim.Native.Nat.{ℕ, zero, suc}
 use native.Mathlib.Nat.{suc-inj}
 use native.Mathlib.Omega.{arith}
 use lib.ListN.{length}
 use lib.Dec.{eqb}
-use borrow.Author.Tests.{eqb-true, le-leb, eq-eqb}
+use borrow.Author.Tests.{eqb-true, le-leb, eq-eqb, ne-eqb}
 use Rattle.rules.specs.Bytes.{same, holds}
 use Rattle.rules.specs.Utf8.{Range, table, within, fits, firstRow, sequence, onSequence, endFrom, validTo, wellFormed}
 use Rattle.rules.specs.Path.{slash, onto, partsBy, pieces, isDot, isDots, components, tooLong}
 use Rattle.rules.specs.Saved.{goodName}
-use Rattle.rules.proofs.Tests.{known, and-both, pass}
+use Rattle.rules.proofs.Tests.{and-both, pass}
 use Rattle.rules.proofs.Same.{some-byte}
 use Rattle.rules.proofs.Parts.{EachPiece, EachName, Short, kept-names, within-limits}
 
@@ -51,7 +50,7 @@ unfolding fits NoSlash Apart
 fits-apart [] s h e = tt
 fits-apart (r ∷ rs) [] h e = tt
 fits-apart (r ∷ rs) (b ∷ s) h e = (
-  ⊎-elim (λ (t : eqb b slash ≡ true). absurd (true≢false (sym (and-both (within r b) (fits rs s) e .0) ∙ (ap (within r) (eqb-true b slash t) ∙ h .0)))) (λ f. f) (known (eqb b slash)),
+  ne-eqb b slash (λ t. true≢false (sym (and-both (within r b) (fits rs s) e .0) ∙ (ap (within r) t ∙ h .0))),
   fits-apart rs s (h .1) (and-both (within r b) (fits rs s) e .1),
 )
 

@@ -1,27 +1,25 @@
 -- The mounts of other nodes stay, over every call. Assumes nothing.
 use mathlib.Core.Path.{_≡_, refl, sym, ap, _∙_}
 use mathlib.Core.Bool.{Bool, true, false, cond, not, _&&_}
-use mathlib.Core.List.{List, [], _∷_, _++_, append-assoc, append-nil}
+use mathlib.Core.List.{List, [], _∷_, _++_}
 use mathlib.Core.Option.{Option, none, some}
-use Prim.Native.Nat.{ℕ, _+_}
+use Prim.Native.Nat.{ℕ}
 use native.Mathlib.Decide.{ℕ-discrete}
-use lib.ListN.{length}
 use lib.Dec.{eqb}
 use borrow.Author.Tests.{eqb-true, ne-eqb}
 use Rattle.rules.specs.Numbers.{rootNumber}
-use Rattle.rules.specs.Path.{Part, name, parent, components}
-use Rattle.rules.specs.Tree.{Mount, Node, Made, bare, nodeIn, childIn, orMake, step, makes, atRoot, withMount, mountAt, without, isNone}
+use Rattle.rules.specs.Tree.{Mount, Node, bare, nodeIn, withMount, mountAt, without}
 use Rattle.rules.specs.Instance.{Tree, Instance, mountIn, mountOf, setMount, grown, cut}
 use Rattle.rules.specs.Outcome.{Outcome, nothing, says}
 use Rattle.rules.specs.Mount.{Request, planned, mountOn, placed, allocation, walkedTo, stepped, ended, mountAs, restoreAs}
 use Rattle.rules.specs.Unmount.{reached, taken, unmounts}
 use Rattle.rules.specs.Saved.{Entry, stateOf}
-use Rattle.rules.specs.Restore.{nodesFrom, noNodes, fresh, restoredTo}
+use Rattle.rules.specs.Restore.{nodesFrom, fresh, restoredTo}
 use Rattle.rules.specs.Calls.{mount, restore-mount, umount, restore}
 use Rattle.rules.specs.Stays.{MountAfter, same-mount, by-mount, by-restored, by-unmount, EveryMountOn}
-use Rattle.rules.proofs.Tests.{and-both}
 use Rattle.rules.proofs.Rows.{each-of, either}
-use Rattle.rules.proofs.Driven.{no-nodes, no-root}
+use Rattle.rules.proofs.Driven.{fresh-bare}
+use Rattle.rules.proofs.Walk.{planned-all}
 use Rattle.rules.proofs.Ways.{every-call}
 
 -- the mount on the first node of a number, or none
@@ -67,18 +65,6 @@ on-more [] n y e = go (eqb (n .number) y)
     go false = refl
 on-more (m ∷ ns) n y e = behind-first (eqb (m .number) y) m _ _ (on-more ns n y e)
 
-on-made : (live : List Node) (next y : ℕ) (ps : List Part) (m : Made) → on (live ++ makes live next m ps .nodes) y ≡ on (live ++ m .nodes) y
-unfolding makes step
-on-made live next y [] m = refl
-on-made live next y (parent at ∷ ps) m = on-made live next y ps _
-on-made live next y (name at p ∷ ps) m = on-made live next y ps _ ∙ made (childIn (live ++ m .nodes) (m .here) p)
-  where
-    made : (z : Option ℕ) → on (live ++ orMake next m p z .nodes) y ≡ on (live ++ m .nodes) y
-    made none =
-        let n = bare (next + length (m .nodes)) (m .here) p in
-        sym (ap (λ (ns : List Node). on ns y) (append-assoc live (m .nodes) (n ∷ []))) ∙ on-more (live ++ m .nodes) n y refl
-    made (some z) = refl
-
 -- ---- trees
 
 -- by the mounts on the nodes
@@ -86,8 +72,8 @@ of-nodes : (r : Option Mount) (y : ℕ) (p q : Option Mount) → p ≡ q → con
 of-nodes r y p q e = rw e
 
 grown-same : (t : Tree) (path : List ℕ) (y : ℕ) → mountOf (grown (planned t path .nodes) t) y ≡ mountOf t y
-unfolding mountOf planned
-grown-same t path y = of-nodes (t .root) y _ _ (on-made (t .nodes) (t .next) y (components 0 path) atRoot ∙ ap (λ (ns : List Node). on ns y) (append-nil (t .nodes)))
+unfolding mountOf
+grown-same t path y = of-nodes (t .root) y _ _ (planned-all (λ (ns : List Node). on ns y ≡ on (t .nodes) y) t (λ ns n l m e. on-more ns n y m ∙ e) path refl)
 
 module _ (x y : ℕ) (apart : x ≡ y → ⊥) where
   set-same : (t : Tree) (m : Option Mount) → mountOf (setMount t x m) y ≡ mountOf t y
@@ -126,7 +112,7 @@ mount-as i r (some k) y =
       (
         same-mount w,
         elim (ℕ-discrete (ended i (r .path)) y) [
-          | yes e ↦ by-mount r refl (sym e)
+          | yes e ↦ by-mount r refl refl (sym e)
           | no n ↦ same-mount (placed-same k r (ended i (r .path)) (walkedTo (r .path) (stepped i)) y n ∙ w)
         ],
       ),
@@ -141,7 +127,7 @@ restored-as i k r y =
       (
         same-mount w,
         elim (ℕ-discrete (ended i (r .path)) y) [
-          | yes e ↦ by-restored k r refl (sym e)
+          | yes e ↦ by-restored k r refl refl (sym e)
           | no n ↦ same-mount (placed-same k r (ended i (r .path)) (walkedTo (r .path) i) y n ∙ w)
         ],
       ),
@@ -150,7 +136,7 @@ restored-as i k r y =
 unmounted : (i : Instance) (path : List ℕ) (x : ℕ) (m : Mount) → reached i path ≡ some x → (y : ℕ) → MountAfter i (umount path) (unmounts i x m) y
 unfolding unmounts
 unmounted i path x m q y =
-    elim (ℕ-discrete x y) [ yes e ↦ by-unmount path refl (q ∙ ap {B = Option ℕ} some e) | no n ↦ same-mount (taken-same x y n i) ]
+    elim (ℕ-discrete x y) [ yes e ↦ by-unmount path refl refl (q ∙ ap {B = Option ℕ} some e) | no n ↦ same-mount (taken-same x y n i) ]
 
 bare-nodes : (es : List Entry) (y : ℕ) → on (nodesFrom es) y ≡ none
 unfolding nodesFrom nodeIn
@@ -161,11 +147,11 @@ bare-nodes (e ∷ es) y = go (eqb (e .number) y) (bare-nodes es y)
     go true k = refl
     go false k = k
 
-restored : (i : Instance) (b : List ℕ) → fresh i ≡ true → (y : ℕ) → MountAfter i (restore b) (says nothing (restoredTo (stateOf b) i)) y
-unfolding restoredTo fresh mountOf nodeIn
-restored i b a y =
-    let f = and-both (noNodes (i .tree .nodes)) (isNone (i .tree .root)) a in
-    same-mount (rw (no-nodes (i .tree .nodes) (f .0), no-root (i .tree .root) (f .1)) (of-nodes none y _ _ (bare-nodes (stateOf b .nodes) y)))
+state-restored : (i : Instance) (b : List ℕ) → fresh i ≡ true → (y : ℕ) → MountAfter i (restore b) (says nothing (restoredTo (stateOf b) i)) y
+unfolding restoredTo mountOf nodeIn
+state-restored i b a y =
+    let f = fresh-bare i a in
+    same-mount (rw (f .0, f .1) (of-nodes none y _ _ (bare-nodes (stateOf b .nodes) y)))
 
 -- the theorem
 pub every-mount-on : EveryMountOn
@@ -176,5 +162,5 @@ every-mount-on = every-call (λ i c o. (y : ℕ) → MountAfter i c o y) (record
   restores-mount = λ i k r p. restored-as i k r;
   unmounted = λ i path x m q e. unmounted i path x m q;
   sets-removal = λ i y. same-mount refl;
-  restored = λ i b ok. restored i b (ok .is-fresh);
+  state-restored = λ i b ok. state-restored i b (ok .is-fresh);
 })

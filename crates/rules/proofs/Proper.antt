@@ -18,13 +18,13 @@ use Rattle.rules.specs.Saved.{Entry, State, present, used, goodName, goo
 use Rattle.rules.specs.Restore.{saved, fresh, restoreRule}
 use Rattle.rules.specs.Driven.{Rises, Below, Named, Unique, Shape}
 use Rattle.rules.specs.Proper.{At, Name, Tidy, Earlier, Proper, EveryValid, EveryAccepted, EveryBadSave, EveryTidy}
-use Rattle.rules.proofs.Tests.{known, and-both, or-neither, pass, passed}
+use Rattle.rules.proofs.Tests.{untrue, and-both, or-neither, pass, passed}
 use Rattle.rules.proofs.Same.{same-refl, ne-same, same-false}
 use Rattle.rules.proofs.Sequences.{every-text}
 use Rattle.rules.proofs.Rows.{first-of}
 use Rattle.rules.proofs.RoundTrip.{there-and-back, no-other}
 use Rattle.rules.proofs.Shape.{beside, rises-end}
-use Rattle.rules.proofs.Good.{In, Parents, good-is, good-shape, shape-good}
+use Rattle.rules.proofs.Good.{HasNumber, Parents, good-is, valid-shape, shape-good}
 use Rattle.rules.proofs.Driven.{facts}
 
 -- ---- names
@@ -45,7 +45,7 @@ unfolding goodName
 is-name p g =
     let t = passed _ g in
     record {
-      some = leb-true 1 (length p) (t .0);
+      not-empty = leb-true 1 (length p) (t .0);
       short = leb-true (length p) 255 (t .1 .0);
       text = every-text p .0 (t .1 .1 .1 .1 .1 .0);
       no-slash = held-nowhere slash p (not-true _ (t .1 .1 .0));
@@ -57,7 +57,7 @@ name-good : (p : List ℕ) → Name p → goodName p ≡ true
 unfolding goodName
 name-good p n =
     pass _ (
-      le-leb 1 (length p) (n .some),
+      le-leb 1 (length p) (n .not-empty),
       (
         le-leb (length p) 255 (n .short),
         (
@@ -171,13 +171,13 @@ unique-from (d ∷ es) f = (
   unique-from es (λ j k c e l. f (suc j) (suc k) c e (omega arith)),
 )
 
-in-at : (es : List Entry) (k : ℕ) (d : Entry) → At es k d → In (d .number) es
-unfolding In At
+in-at : (es : List Entry) (k : ℕ) (d : Entry) → At es k d → HasNumber (d .number) es
+unfolding HasNumber At
 in-at [] k d a = a
 in-at (c ∷ es) zero d a = inl (ap (λ (e : Entry). e .number) a)
 in-at (c ∷ es) (suc k) d a = inr (in-at es k d a)
 
-parents-from : (all es : List Entry) → ((k : ℕ) (e : Entry) → At es k e → (e .above ≡ 1) ⊎ In (e .above) all) → Parents [] all es
+parents-from : (all es : List Entry) → ((k : ℕ) (e : Entry) → At es k e → (e .above ≡ 1) ⊎ HasNumber (e .above) all) → Parents [] all es
 unfolding Parents At present
 parents-from all [] f = tt
 parents-from all (d ∷ es) f = (⊎-elim (λ (q : d .above ≡ 1). inl (eq-eqb (d .above) rootNumber q)) (λ q. inr q) (f 0 d refl), parents-from all es (λ k. f (suc k)))
@@ -187,10 +187,10 @@ parents-from all (d ∷ es) f = (⊎-elim (λ (q : d .above ≡ 1). inl (eq-eqb 
 valid-proper : (s : State) → valid s ≡ true → Proper s
 unfolding valid present
 valid-proper s v =
-    let t = passed _ v in
-    let good = t .1 .1 .0 in
+    let h = valid-shape s v in
+    let good = passed _ v .1 .1 .0 in
     record {
-      tidy = shape-tidy s (leb-true (s .next) topNumber (t .1 .0)) (good-shape (s .next) (s .nodes) (leb-true 2 (s .next) (t .0)) good);
+      tidy = shape-tidy s (h .1) (h .2);
       parents = λ k e a. ⊎-elim (λ p. inl (eqb-true (e .above) rootNumber p)) (λ w. inr w) (parents-at (s .next) (s .nodes) [] good k e a);
     }
 
@@ -219,7 +219,7 @@ module _ (s : State) (p : Proper s) where
   pub proper-parents : Parents [] es es
   proper-parents =
       parents-from es es (λ k e a.
-      ⊎-elim (λ q. inl q) (λ (w : Earlier es k (e .above)). inr (subst (λ (x : ℕ). In x es) (w .4) (in-at es (w .0) (w .1) (w .3)))) (p .parents k e a))
+      ⊎-elim (λ q. inl q) (λ (w : Earlier es k (e .above)). inr (subst (λ (x : ℕ). HasNumber x es) (w .4) (in-at es (w .0) (w .1) (w .3)))) (p .parents k e a))
 
   proper-valid : valid s ≡ true
   unfolding valid
@@ -268,5 +268,5 @@ every-bad-save i b f h = (
   λ e s w. no-bad-save i b (every-accepted b h .1 (s, w)) e,
   λ n.
       ap (λ (o : Outcome). o .code)
-      (is-bad-save i b f (⊎-elim (λ (a : accepted b ≡ true). let w = every-accepted b h .0 a in absurd (n (w .0) (w .1))) (λ a. a) (known (accepted b)))),
+      (is-bad-save i b f (untrue (accepted b) (λ a. let w = every-accepted b h .0 a in n (w .0) (w .1)))),
 )

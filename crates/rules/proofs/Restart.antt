@@ -4,22 +4,18 @@ use mathlib.Core.List.{List, [], _∷_}
 use Prim.Native.Nat.{ℕ, _+_, _%_, _<_}
 use native.Mathlib.Omega.{arith}
 use Rattle.rules.specs.Instance.{Instance, counterOf}
-use Rattle.rules.specs.Mount.{allocation}
-use Rattle.rules.specs.Outcome.{Outcome}
-use Rattle.rules.specs.Round.{allocate}
-use Rattle.rules.specs.Saved.{State, encode, stateOf}
-use Rattle.rules.specs.Restore.{saved, restoredTo, restoreRule}
+use Rattle.rules.specs.Saved.{State, encode}
+use Rattle.rules.specs.Restore.{saved, restoredTo}
 use Rattle.rules.specs.Calls.{rule}
 use Rattle.rules.specs.Driven.{Driven}
 use Rattle.rules.specs.Laps.{Going, total}
-use Rattle.rules.specs.Trace.{afterAll, stepOf, stepsOf}
-use Rattle.rules.specs.Restart.{Life, left, stepsIn, Carried, Restarted, Restarts, EveryRestart, EverySavedRestart}
-use Rattle.rules.proofs.Rows.{each-of}
-use Rattle.rules.proofs.Laps.{every-allocator, going-append}
-use Rattle.rules.proofs.Trace.{searches, steps-going, all-moved}
+use Rattle.rules.specs.Trace.{afterAll, stepsOf}
+use Rattle.rules.specs.Restart.{Life, leftBy, stepsIn, Carried, Restarted, Restarts, EveryRestart, EverySavedRestart}
+use Rattle.rules.proofs.Laps.{going-append}
+use Rattle.rules.proofs.Trace.{steps-going, all-moved, low-after, laps-from}
 use Rattle.rules.proofs.Encoded.{state-read}
 use Rattle.rules.proofs.Driven.{facts}
-use Rattle.rules.proofs.Restored.{saved-fits}
+use Rattle.rules.proofs.Restored.{saved-fits, restore-done}
 
 -- the steps of lives go on from the counter that was left
 lives-going : (ls : List Life) (i : Instance) → counterOf i < 256 → Carried i ls → Going (counterOf i) (stepsIn ls)
@@ -28,36 +24,27 @@ lives-going [] i h c = tt
 lives-going (l ∷ ls) i h (e, (u, c)) =
     let a = l .start in
     let n : ℕ = total (stepsOf a (l .calls)) in
-    let moved : counterOf (left l) ≡ (counterOf i + n) % 256 = omega (arith, e, all-moved (l .calls) a (omega arith) u) in
-    let on : Going ((counterOf i + n) % 256) (stepsIn ls) = subst (λ (m : ℕ). Going m (stepsIn ls)) moved (lives-going ls (left l) (omega arith) c) in
+    let moved : counterOf (leftBy l) ≡ (counterOf i + n) % 256 = omega (arith, e, all-moved (l .calls) a (omega arith) u) in
+    let on : Going ((counterOf i + n) % 256) (stepsIn ls) = subst (λ (m : ℕ). Going m (stepsIn ls)) moved (lives-going ls (leftBy l) (omega arith) c) in
     going-append (stepsOf a (l .calls)) (stepsIn ls) (counterOf i) h (subst (λ (m : ℕ). Going m (stepsOf a (l .calls))) e (steps-going (l .calls) a (omega arith) u)) on
 
 -- the theorem: the counter carried over
 pub laps-over : EveryRestart
-unfolding allocation allocate
-laps-over i h c k first ls u last =
-    let s = searches i c k first in
-    let going = lives-going ls (rule i c .after) (omega (arith, s .1)) u in
-    every-allocator (counterOf i) h (stepOf i c) k (s .0) first (stepsIn ls) (subst (λ (n : ℕ). Going n (stepsIn ls)) (s .1) going) last
+laps-over i h c k first ls u = laps-from i h c k first (stepsIn ls) (lives-going ls (rule i c .after) (low-after i c k first) u)
 
 -- ---- a save and a restore
 
--- a done restore sets the counter that the bytes spell
-set-by : (f : Instance) (b : List ℕ) → restoreRule f b .code ≡ 0 → counterOf (restoreRule f b .after) ≡ stateOf b .counter
-unfolding restoreRule restoredTo
-set-by f b =
-    each-of (λ (o : Outcome). o .code ≡ 0 → counterOf (o .after) ≡ stateOf b .counter) _ _
-    (λ e. absurd (omega arith), (λ e. absurd (omega arith), (λ e. absurd (omega arith), (λ e. absurd (omega arith), λ e. refl))))
-
--- of an instance that calls have made, that is the one that was saved
+-- a done restore of what a driven instance saved sets its counter
 restored-counter : (i f j : Instance) → Driven i → Restarted i f j → counterOf j ≡ counterOf i
-unfolding saved
-restored-counter i f j d r = ap counterOf (sym (r .gives)) ∙ set-by f (encode (saved i)) (r .done) ∙ ap (λ (s : State). s .counter) (state-read (saved i) (saved-fits i (facts i d)))
+unfolding saved restoredTo
+restored-counter i f j d r =
+    ap counterOf (sym (r .gives) ∙ restore-done f (encode (saved i)) (r .done) .1)
+    ∙ ap (λ (s : State). s .counter) (state-read (saved i) (saved-fits i (facts i d)))
 
 carried : (ls : List Life) (i : Instance) → Restarts i ls → Carried i ls
 unfolding Restarts Carried
 carried [] i r = tt
-carried (l ∷ ls) i (d, ((f, r), (u, rs))) = (restored-counter i f (l .start) d r, (u, carried ls (left l) rs))
+carried (l ∷ ls) i (d, ((f, r), (u, rs))) = (restored-counter i f (l .start) d r, (u, carried ls (leftBy l) rs))
 
 -- the theorem: over saves and restores
 pub laps-over-restore : EverySavedRestart

@@ -1,4 +1,5 @@
--- A driven instance is saved as a valid state exactly if its parents are all present, and then comes back. Assumes nothing.
+-- A driven instance is saved as a valid state exactly if its parents are all present, and then comes back; what was restored is saved as it was read;
+-- and how long a state can be. Assumes nothing.
 use mathlib.Core.Path.{_≡_, refl, sym, ap, _∙_}
 use mathlib.Core.Bool.{Bool, true, false, cond, not, _||_, true≢false, or-true}
 use mathlib.Core.Logic.{_⊎_, inl, inr, ⊎-elim}
@@ -10,39 +11,38 @@ use lib.ListN.{length}
 use lib.Dec.{eqb, ltb}
 use borrow.Author.Tests.{eqb-true, eq-eqb, leb-true, le-leb, le-ltb, not-true, not-false}
 use Rattle.rules.specs.Numbers.{rootNumber, topNumber}
-use Rattle.rules.specs.Bytes.{Bytes}
 use Rattle.rules.specs.Tree.{Node, isNone, nodeIn, isKnown}
 use Rattle.rules.specs.Instance.{Instance}
-use Rattle.rules.specs.Outcome.{Outcome}
+use Rattle.rules.specs.Outcome.{Outcome, firstOf}
 use Rattle.rules.specs.Create.{unknown}
 use Rattle.rules.specs.Saved.{Entry, present, goodName, valid, encode, accepted, stateOf}
 use Rattle.rules.specs.Restore.{entriesFor, nodesFrom, saved, restoredTo, restoreRule}
 use Rattle.rules.specs.RoundTrip.{EntriesFit, Fits, NamesTo}
 use Rattle.rules.specs.Driven.{Rises, Below, Named, Facts, Present}
-use Rattle.rules.specs.Restored.{GivesBack, SaveThenRestore, GoneIsBadSave, RestoreThenSave, NoLonger}
-use Rattle.rules.proofs.Tests.{known, pass, passed}
+use Rattle.rules.specs.Restored.{SaveThenRestore, GoneIsBadSave, RestoreThenSave, NoLonger}
+use Rattle.rules.proofs.Tests.{untrue, pass, passed}
 use Rattle.rules.proofs.Rows.{first-of}
 use Rattle.rules.proofs.Encoded.{state-read}
 use Rattle.rules.proofs.Accepted.{clauses}
 use Rattle.rules.proofs.RoundTrip.{there-and-back, no-other, longest, most-bytes}
 use Rattle.rules.proofs.Shape.{entries-from, entries-length, rises-end}
-use Rattle.rules.proofs.Good.{In, Parents, shape-good}
+use Rattle.rules.proofs.Good.{HasNumber, Parents, shape-good}
 use Rattle.rules.proofs.Driven.{facts}
 use Rattle.rules.proofs.Proper.{proper-parents, every-valid, is-bad-save}
 
 -- ---- the parents
 
-node-in : (ns : List Node) (x : ℕ) → isNone (nodeIn ns x) ≡ false → In x (entriesFor ns)
-unfolding nodeIn entriesFor In
+node-in : (ns : List Node) (x : ℕ) → isNone (nodeIn ns x) ≡ false → HasNumber x (entriesFor ns)
+unfolding nodeIn entriesFor HasNumber
 node-in [] x h = absurd (true≢false h)
 node-in (n ∷ ns) x h = go (eqb (n .number) x) refl h (node-in ns x)
   where
-    go : (b : Bool) → eqb (n .number) x ≡ b → isNone (cond b (some n) (nodeIn ns x)) ≡ false → (isNone (nodeIn ns x) ≡ false → In x (entriesFor ns)) → (n .number ≡ x) ⊎ In x (entriesFor ns)
+    go : (b : Bool) → eqb (n .number) x ≡ b → isNone (cond b (some n) (nodeIn ns x)) ≡ false → (isNone (nodeIn ns x) ≡ false → HasNumber x (entriesFor ns)) → (n .number ≡ x) ⊎ HasNumber x (entriesFor ns)
     go true e f k = inl (eqb-true (n .number) x e)
     go false e f k = inr (k f)
 
-in-node : (ns : List Node) (x : ℕ) → In x (entriesFor ns) → isNone (nodeIn ns x) ≡ false
-unfolding nodeIn entriesFor In
+in-node : (ns : List Node) (x : ℕ) → HasNumber x (entriesFor ns) → isNone (nodeIn ns x) ≡ false
+unfolding nodeIn entriesFor HasNumber
 in-node [] x h = absurd h
 in-node (n ∷ ns) x (inl h) = rw (eq-eqb (n .number) x h)
 in-node (n ∷ ns) x (inr h) = go (eqb (n .number) x) (in-node ns x h)
@@ -56,7 +56,7 @@ unfolding Present Parents entriesFor isKnown present
 all-parents all [] p = tt
 all-parents all (n ∷ ns) p = (go (eqb (n .above) rootNumber) refl (p .0), all-parents all ns (p .1))
   where
-    go : (b : Bool) → eqb (n .above) rootNumber ≡ b → (b || not (isNone (nodeIn all (n .above)))) ≡ true → (eqb (n .above) rootNumber ≡ true) ⊎ In (n .above) (entriesFor all)
+    go : (b : Bool) → eqb (n .above) rootNumber ≡ b → (b || not (isNone (nodeIn all (n .above)))) ≡ true → (eqb (n .above) rootNumber ≡ true) ⊎ HasNumber (n .above) (entriesFor all)
     go true e f = inl e
     go false e f = inr (node-in all (n .above) (not-true _ f))
 
@@ -127,7 +127,7 @@ no-longer i d =
 
 -- the theorem: what was saved comes back
 pub save-then-restore : SaveThenRestore
-unfolding restoreRule restoredTo saved
+unfolding restoreRule firstOf restoredTo saved
 save-then-restore i j d p fr mask room =
     let f = facts i d in
     let both = there-and-back (saved i) (saved-fits i f) (saved-valid i f p) in
@@ -136,38 +136,30 @@ save-then-restore i j d p fr mask room =
     let bits : unknown (j .fixed .known) (stateOf (encode (saved i)) .options) ≡ false = rw (back, mask) (f .within) in
     let size : ltb (j .fixed .capacity) (1 + length (stateOf (encode (saved i)) .nodes)) ≡ false =
     rw back (le-ltb (j .fixed .capacity) (1 + length (entriesFor (i .tree .nodes))) (omega (arith, entries-length (i .tree .nodes), room))) in
-    first-of (GivesBack i) _ _ (
-      λ a. absurd (true≢false (sym a ∙ rw fr)),
-      λ a. (
-        λ b. absurd (true≢false (sym b ∙ rw ok)),
-        λ b. (
-          λ c. absurd (true≢false (sym c ∙ bits)),
-          λ c. (
-            λ e. absurd (true≢false (sym e ∙ size)),
-            λ e. rw back (record { done = refl; tree = refl; counter = refl; options = refl }),
-          ),
-        ),
-      ),
-    )
+    rw (fr, ok, bits, size, back) (record { done = refl; tree = refl; counter = refl; options = refl })
 
 -- the theorem: where a parent is gone it is BADSAVE
 pub gone-is-bad-save : GoneIsBadSave
 gone-is-bad-save i j d n fr =
     let b = encode (saved i) in
-    is-bad-save j b fr (⊎-elim (λ (a : accepted b ≡ true). absurd (n (accepted-present i (facts i d) a))) (λ a. a) (known (accepted b)))
+    is-bad-save j b fr (untrue (accepted b) (λ a. n (accepted-present i (facts i d) a)))
 
 -- ---- what was restored is saved again
 
-resaved : (j : Instance) (b : List ℕ) → Bytes b → accepted b ≡ true → encode (saved (restoredTo (stateOf b) j)) ≡ b
-unfolding saved restoredTo
-resaved j b h a =
-    let s = stateOf b in
-    let e : entriesFor (nodesFrom (s .nodes)) ≡ s .nodes = entries-from (s .nodes) in
-    ap encode (λ t. record { nodes = e t; options = s .options; next = s .next; counter = s .counter }) ∙ sym (no-other b h a .bytes)
+-- a done restore: the bytes are accepted, and the instance becomes what their state says
+pub restore-done : (j : Instance) (b : List ℕ) → restoreRule j b .code ≡ 0 → (accepted b ≡ true) × (restoreRule j b .after ≡ restoredTo (stateOf b) j)
+unfolding restoreRule
+restore-done j b =
+    first-of (λ (o : Outcome). o .code ≡ 0 → (accepted b ≡ true) × (o .after ≡ restoredTo (stateOf b) j)) _ _
+    (λ a e. absurd (omega arith), λ a. (λ c e. absurd (omega arith), λ c. (λ d e. absurd (omega arith), λ d. (λ g e. absurd (omega arith), λ g e. (not-false _ c, refl)))))
 
 -- the theorem: no other bytes are accepted for it
 pub restore-then-save : RestoreThenSave
-unfolding restoreRule
-restore-then-save j b h =
-    first-of (λ (o : Outcome). o .code ≡ 0 → encode (saved (o .after)) ≡ b) _ _
-    (λ a e. absurd (omega arith), λ a. (λ c e. absurd (omega arith), λ c. (λ d e. absurd (omega arith), λ d. (λ g e. absurd (omega arith), λ g e. resaved j b h (not-false _ c)))))
+unfolding saved restoredTo
+restore-then-save j b h e =
+    let d = restore-done j b e in
+    let s = stateOf b in
+    let ns : entriesFor (nodesFrom (s .nodes)) ≡ s .nodes = entries-from (s .nodes) in
+    ap (λ (i : Instance). encode (saved i)) (d .1)
+    ∙ ap encode (λ t. record { nodes = ns t; options = s .options; next = s .next; counter = s .counter })
+    ∙ sym (no-other b h (d .0) .bytes)

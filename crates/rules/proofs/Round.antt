@@ -79,14 +79,14 @@ module _ (free : ℕ → Bool) where
       (λ (f : free c ≡ false). rw f (ap suc (spent n (after c) (rw f at e)))) (known (free c))
 
   -- k is the first free one, d steps on
-  pub record At (n c k d : ℕ) : Type 0 where
+  pub record FoundAt (n c k d : ℕ) : Type 0 where
     pub within : d < n
     pub place : k ≡ (c + d) % 256
     pub is-free : free k ≡ true
     pub before : (e : ℕ) → e < d → free ((c + e) % 256) ≡ false
     pub counted : length (visited free (goingRound n c)) ≡ d + 1
 
-  pub found-at : (n c k : ℕ) → c < 256 → firstFree free (goingRound n c) ≡ some k → (d : ℕ) × At n c k d
+  pub found-at : (n c k : ℕ) → c < 256 → firstFree free (goingRound n c) ≡ some k → (d : ℕ) × FoundAt n c k d
   unfolding goingRound firstFree visited
   found-at zero c k h e = absurd (Option·none-ne-some k e)
   found-at (suc n) c k h e =
@@ -95,7 +95,7 @@ module _ (free : ℕ → Bool) where
       (0, record { within = omega arith; place = omega arith; is-free = ap free (sym same) ∙ t; before = λ j l. absurd (omega arith); counted = rw t }))
       (λ (f : free c ≡ false). later f (found-at n (after c) k (omega arith) (rw f at e))) (known (free c))
     where
-      later : free c ≡ false → (d : ℕ) × At n (after c) k d → (d : ℕ) × At (suc n) c k d
+      later : free c ≡ false → (d : ℕ) × FoundAt n (after c) k d → (d : ℕ) × FoundAt (suc n) c k d
       later f (d, a) = (
         suc d,
         record {
@@ -107,7 +107,7 @@ module _ (free : ℕ → Bool) where
         },
       )
         where
-          earlier : free c ≡ false → At n (after c) k d → (j : ℕ) → j < suc d → free ((c + j) % 256) ≡ false
+          earlier : free c ≡ false → FoundAt n (after c) k d → (j : ℕ) → j < suc d → free ((c + j) % 256) ≡ false
           earlier f a zero l = let e : (c + 0) % 256 ≡ c = omega arith in rw e f
           earlier f a (suc j) l = let e : (c + suc j) % 256 ≡ (after c + j) % 256 = omega arith in rw e (a .before j (omega arith))
 

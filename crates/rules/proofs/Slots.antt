@@ -5,7 +5,7 @@ use mathlib.Core.List.{List}
 use mathlib.Core.Option.{Option, none, some}
 use Prim.Native.Nat.{ℕ, _≤_, _<_}
 use native.Mathlib.Decide.{ℕ-discrete}
-use lib.ListN.{length, getD, set, List·getD-eq-default}
+use lib.ListN.{length, getD, set, length-set, List·getD-eq-default}
 use lib.Seq.{getD-set-same, getD-set-other, set-out}
 use Rattle.rules.specs.Tree.{Mount}
 use Rattle.rules.specs.Instance.{Slot, Instance, emptySlot, heldBy, slotOf, mountOf}
@@ -15,7 +15,7 @@ use Rattle.rules.specs.Unmount.{reached, mountUnder, unmounts}
 use Rattle.rules.specs.Saved.{stateOf}
 use Rattle.rules.specs.Restore.{restoredTo}
 use Rattle.rules.specs.Calls.{mount, restore-mount, umount, restore}
-use Rattle.rules.specs.Kept.{indexIn, SlotAfter, stays, emptied, handed-out, put-back, EverySlot}
+use Rattle.rules.specs.Kept.{indexIn, SlotAfter, same-slot, emptied, handed-out, by-restored, EverySlot}
 use Rattle.rules.proofs.Tests.{le-or-lt}
 use Rattle.rules.proofs.Rows.{each-of}
 use Rattle.rules.proofs.Ways.{every-call}
@@ -27,6 +27,12 @@ pub emptied-slot : (slots : List Slot) (k : ℕ) → getD (set slots k emptySlot
 emptied-slot slots k =
     ⊎-elim (λ (l : length slots ≤ k). ap (λ (x : List Slot). getD x k emptySlot) (set-out slots k emptySlot l) ∙ List·getD-eq-default slots emptySlot l)
     (λ (l : k < length slots). getD-set-same slots k emptySlot emptySlot l) (le-or-lt (length slots) k)
+
+-- freeing leaves as many slots
+pub freed-slots : (m : Option Mount) (slots : List Slot) → length (freedSlots m slots) ≡ length slots
+unfolding freedSlots
+freed-slots none slots = refl
+freed-slots (some m) slots = length-set slots (m .index) emptySlot
 
 -- where slot k was emptied each is as it was, or is slot k
 cleared : (slots : List Slot) (k j : ℕ) → (getD (set slots k emptySlot) j emptySlot ≡ getD slots j emptySlot) ⊎ ((k ≡ j) × (getD (set slots k emptySlot) j emptySlot ≡ emptySlot))
@@ -53,15 +59,15 @@ other-slot k r x i j n =
 
 mount-as : (i : Instance) (r : Request) (k : Option ℕ) → allocation i .found ≡ k → (j : ℕ) → SlotAfter i (mount r) (mountAs i r k) j
 unfolding mountAs
-mount-as i r none e j = stays refl
+mount-as i r none e j = same-slot refl
 mount-as i r (some k) e j =
     each-of (λ o. SlotAfter i (mount r) o j) _ _ (
-      stays refl,
+      same-slot refl,
       (
-        stays refl,
+        same-slot refl,
         elim (ℕ-discrete j k) [
           | yes s ↦ handed-out refl (e ∙ ap {B = Option ℕ} some (sym s))
-          | no n ↦ ⊎-elim stays (λ a. emptied refl (a .0) (a .1)) (other-slot k r (ended i (r .path)) (walkedTo (r .path) (stepped i)) j n)
+          | no n ↦ ⊎-elim same-slot (λ a. emptied refl (a .0) (a .1)) (other-slot k r (ended i (r .path)) (walkedTo (r .path) (stepped i)) j n)
         ],
       ),
     )
@@ -70,12 +76,12 @@ restored-as : (i : Instance) (k : ℕ) (r : Request) (j : ℕ) → SlotAfter i (
 unfolding restoreAs
 restored-as i k r j =
     each-of (λ o. SlotAfter i (restore-mount k r) o j) _ _ (
-      stays refl,
+      same-slot refl,
       (
-        stays refl,
+        same-slot refl,
         elim (ℕ-discrete j k) [
-          | yes s ↦ put-back refl (ap {B = Option ℕ} some (sym s))
-          | no n ↦ ⊎-elim stays (λ a. emptied refl (a .0) (a .1)) (other-slot k r (ended i (r .path)) (walkedTo (r .path) i) j n)
+          | yes s ↦ by-restored refl (ap {B = Option ℕ} some (sym s))
+          | no n ↦ ⊎-elim same-slot (λ a. emptied refl (a .0) (a .1)) (other-slot k r (ended i (r .path)) (walkedTo (r .path) i) j n)
         ],
       ),
     )
@@ -84,20 +90,20 @@ unmounted : (i : Instance) (path : List ℕ) (x : ℕ) (m : Mount) → reached i
 unfolding unmounts
 unmounted i path x m q e j =
     let old : indexIn (mountUnder i (reached i path)) ≡ some (m .index) = ap (λ (y : Option ℕ). indexIn (mountUnder i y)) q ∙ ap indexIn e in
-    ⊎-elim stays (λ a. emptied refl (old ∙ ap {B = Option ℕ} some (a .0)) (a .1)) (cleared (i .indexes .slots) (m .index) j)
+    ⊎-elim same-slot (λ a. emptied refl (old ∙ ap {B = Option ℕ} some (a .0)) (a .1)) (cleared (i .indexes .slots) (m .index) j)
 
-restored : (i : Instance) (b : List ℕ) (j : ℕ) → SlotAfter i (restore b) (says nothing (restoredTo (stateOf b) i)) j
+state-restored : (i : Instance) (b : List ℕ) (j : ℕ) → SlotAfter i (restore b) (says nothing (restoredTo (stateOf b) i)) j
 unfolding restoredTo
-restored i b j = stays refl
+state-restored i b j = same-slot refl
 
 -- the theorem
 pub every-slot : EverySlot
 every-slot = every-call (λ i c o. (j : ℕ) → SlotAfter i c o j) (record {
-  still = λ i c o q s j. stays (ap (λ (a : Instance). slotOf a j) (s .after));
-  early = λ i c code e j. stays refl;
+  still = λ i c o q s j. same-slot (ap (λ (a : Instance). slotOf a j) (s .after));
+  early = λ i c code e j. same-slot refl;
   mounts = λ i r p j. mount-as i r (allocation i .found) refl j;
   restores-mount = λ i k r p j. restored-as i k r j;
   unmounted = unmounted;
-  sets-removal = λ i j. stays refl;
-  restored = λ i b ok j. restored i b j;
+  sets-removal = λ i j. same-slot refl;
+  state-restored = λ i b ok j. state-restored i b j;
 })

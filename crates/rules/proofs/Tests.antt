@@ -1,4 +1,4 @@
--- Tests: both, neither, all of a list or one that fails, and which of two numbers is the smaller. Assumes nothing.
+-- Tests: one that is known, both, neither, all of a list or one that fails, and which of two numbers is the smaller. Assumes nothing.
 use mathlib.Core.Path.{_≡_, refl}
 use mathlib.Core.Bool.{Bool, true, false, _&&_, _||_, true≢false, false≢true, and-false}
 use mathlib.Core.Logic.{_⊎_, inl, inr}
@@ -12,6 +12,10 @@ use Rattle.rules.specs.Saved.{every}
 pub known : (b : Bool) → (b ≡ true) ⊎ (b ≡ false)
 known true = inl refl
 known false = inr refl
+
+pub untrue : (b : Bool) → (b ≡ true → ⊥) → b ≡ false
+untrue true n = absurd (n refl)
+untrue false n = refl
 
 pub le-or-lt : (m n : ℕ) → (m ≤ n) ⊎ (n < m)
 le-or-lt m n = elim (decLe m n) [ yes h ↦ inl h | no h ↦ inr (omega arith) ]

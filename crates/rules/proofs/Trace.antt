@@ -2,7 +2,7 @@
 use mathlib.Core.Path.{_≡_, sym, _∙_, subst}
 use mathlib.Core.Logic.{inl, inr, ⊎-elim}
 use mathlib.Core.List.{List, [], _∷_}
-use mathlib.Core.Option.{some, Option·none-ne-some}
+use mathlib.Core.Option.{none, some, Option·none-ne-some}
 use Prim.Native.Nat.{ℕ, _+_, _%_, _<_}
 use native.Mathlib.Omega.{arith}
 use lib.ListN.{length}
@@ -10,7 +10,7 @@ use Rattle.rules.specs.Round.{allocate}
 use Rattle.rules.specs.Instance.{Instance, counterOf}
 use Rattle.rules.specs.Mount.{allocation}
 use Rattle.rules.specs.Calls.{Call, rule}
-use Rattle.rules.specs.Laps.{Searches, Going, total}
+use Rattle.rules.specs.Laps.{Step, Searches, Going, total, lastFound, Laps}
 use Rattle.rules.specs.Trace.{NoRestore, Unrestored, afterAll, stepOf, stepsOf, EveryRun, EveryLap}
 use Rattle.rules.proofs.Laps.{runs-round, every-allocator}
 use Rattle.rules.proofs.Turn.{only-mounts, seen-moved, found-no-restore}
@@ -47,11 +47,17 @@ unfolding allocation
 searches i c k e =
     ⊎-elim (λ q. absurd (Option·none-ne-some k (sym (q .found) ∙ e))) (λ q. ((q .1 .visits, q .1 .found), q .1 .counter)) (only-mounts i c (found-no-restore i c k e))
 
--- the theorem: after a call that handed k out, calls up to one that hands k out again
-pub laps : EveryLap
+-- and the counter that it leaves is a byte
+pub low-after : (i : Instance) (c : Call) (k : ℕ) → rule i c .found ≡ some k → counterOf (rule i c .after) < 256
 unfolding allocation allocate
-laps i h c k first cs u last =
-    let a = rule i c .after in
-    let s = searches i c k first in
-    let going = steps-going cs a (omega (arith, s .1)) u in
-    every-allocator (counterOf i) h (stepOf i c) k (s .0) first (stepsOf a cs) (subst (λ n. Going n (stepsOf a cs)) (s .1) going) last
+low-after i c k e = omega (arith, searches i c k e .1)
+
+-- after a call that handed k out, steps up to one that hands k out again
+pub laps-from : (i : Instance) → counterOf i < 256 → (c : Call) (k : ℕ) → rule i c .found ≡ some k → (ss : List Step) → Going (counterOf (rule i c .after)) ss
+    → lastFound none ss ≡ some k → Laps ss
+unfolding allocation
+laps-from i h c k first ss g = let s = searches i c k first in every-allocator (counterOf i) h (stepOf i c) k (s .0) first ss (subst (λ n. Going n ss) (s .1) g)
+
+-- the theorem: calls up to one that hands k out again
+pub laps : EveryLap
+laps i h c k first cs u = let a = rule i c .after in laps-from i h c k first (stepsOf a cs) (steps-going cs a (low-after i c k first) u)

@@ -9,7 +9,7 @@ use lib.ListN.{length}
 use lib.Seq.{getD-set-same}
 use borrow.Author.Tests.{le-ltb}
 use Rattle.rules.specs.Numbers.{maxIno}
-use Rattle.rules.specs.Round.{after, goingRound, untilTwice, visited, allocate}
+use Rattle.rules.specs.Round.{goingRound, untilTwice, visited, allocate}
 use Rattle.rules.specs.Tree.{Mount}
 use Rattle.rules.specs.Instance.{Instance, counterOf, emptySlot, heldBy, tagOf, mountOf}
 use Rattle.rules.specs.Outcome.{Answer, Outcome, refused, firstOf}
@@ -20,7 +20,7 @@ use Rattle.rules.specs.Calls.{Call, mount, rule}
 use Rattle.rules.specs.Trace.{NoRestore, Moves, Keeps, MountAnswers, EveryMount, OnlyMounts}
 use Rattle.rules.proofs.Rows.{each-of}
 use Rattle.rules.proofs.Ways.{every-call}
-use Rattle.rules.proofs.Held.{freed-slots}
+use Rattle.rules.proofs.Slots.{freed-slots}
 
 -- ---- mount
 
@@ -104,7 +104,7 @@ only-mounts = every-call Turns (record {
   restores-mount = λ i k r p un. inl (restored-as i k r);
   unmounted = λ i path x m q e un. inl (unmounted i x m);
   sets-removal = λ i un. inl (record { visits = refl; found = refl; counter = refl });
-  restored = λ i b ok un. absurd (un b refl refl);
+  state-restored = λ i b ok un. absurd (un b refl refl);
 })
 
 -- a search moves the counter by as many as it visits

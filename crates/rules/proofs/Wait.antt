@@ -14,7 +14,7 @@ use Rattle.rules.specs.Instance.{Slot, Instance, heldIn}
 use Rattle.rules.specs.Calls.{Call, rule}
 use Rattle.rules.specs.Laps.{Step, lastFound, Has, Met}
 use Rattle.rules.specs.Trace.{stepsOf}
-use Rattle.rules.specs.Kept.{named, namedIn, handedOut, stays, emptied, handed-out, put-back}
+use Rattle.rules.specs.Kept.{named, namedIn, handedOut, same-slot, emptied, handed-out, by-restored}
 use Rattle.rules.specs.Wait.{othersHeld, EveryWait}
 use Rattle.rules.proofs.Trace.{laps}
 use Rattle.rules.proofs.Slots.{every-slot}
@@ -90,10 +90,10 @@ accounted (c ∷ cs) i j (inr m) = ⊎-elim held (λ w. inr (⊎-elim (λ a. inl
     held : heldIn (rule i c .after) j ≡ true → (heldIn i j ≡ true) ⊎ (Has j (handedOut (stepsOf i (c ∷ cs))) ⊎ Has j (namedIn (c ∷ cs)))
     held h =
         elim (every-slot i c j) [
-          | stays e ↦ inl (sym (ap (λ (s : Slot). s .held) e) ∙ h)
+          | same-slot e ↦ inl (sym (ap (λ (s : Slot). s .held) e) ∙ h)
           | emptied z o e ↦ absurd (false≢true (sym (ap (λ (s : Slot). s .held) e) ∙ h))
           | handed-out z e ↦ inr (inl (has-first (rule i c .found) j _ e))
-          | put-back z e ↦ inr (inr (has-first (named c) j _ e))
+          | by-restored z e ↦ inr (inr (has-first (named c) j _ e))
         ]
 
 -- the theorem

@@ -3,7 +3,7 @@ use mathlib.Core.Path.{_≡_, refl, subst}
 use mathlib.Core.Bool.{Bool, true, false, cond, _&&_}
 use mathlib.Core.Logic.{_⊎_, inl, inr}
 use mathlib.Core.List.{List, [], _∷_, _++_, append-assoc, append-nil}
-use mathlib.Core.Option.{Option, none, some, Option·some-injective, Option·none-ne-some}
+use mathlib.Core.Option.{Option, none, some, Option·some-injective, Option·none-ne-some, Option·some-ne-none}
 use Prim.Native.Nat.{ℕ, _+_, _≤_, _<_}
 use native.Mathlib.Nat.{add-zero}
 use native.Mathlib.Omega.{arith}
@@ -97,6 +97,15 @@ node-append (m ∷ ns) ms x n e = go (eqb (m .number) x) e (node-append ns ms x 
     go true f k = f
     go false f k = k f
 
+pub node-second : (ns ms : List Node) (x : ℕ) → nodeIn ns x ≡ none → nodeIn (ns ++ ms) x ≡ nodeIn ms x
+unfolding nodeIn
+node-second [] ms x e = refl
+node-second (m ∷ ns) ms x e = go (eqb (m .number) x) e (node-second ns ms x)
+  where
+    go : (b : Bool) → cond b (some m) (nodeIn ns x) ≡ none → (nodeIn ns x ≡ none → nodeIn (ns ++ ms) x ≡ nodeIn ms x) → cond b (some m) (nodeIn (ns ++ ms) x) ≡ nodeIn ms x
+    go true f k = absurd (Option·some-ne-none m f)
+    go false f k = k f
+
 reached-append : (ns ms : List Node) (x : ℕ) → Rooted ns x → Rooted (ns ++ ms) x
 reached-append ns ms x top = top
 reached-append ns ms x (under y n e r) = under y n (node-append ns ms y n e) (reached-append ns ms (n .above) r)
@@ -130,6 +139,24 @@ reached-bounds ns high x r (under y n e h) =
     (omega (arith, b .0), b .1)
 
 -- ---- the mount walk
+
+-- what holds of the nodes of a tree, and with a new node put last, holds with those that a mount walk makes
+module _ (P : List Node → Type 0) (t : Tree) (more : (ns : List Node) (n : Node) → t .next ≤ n .number → n .mount ≡ none → P ns → P (ns ++ (n ∷ []))) where
+  makes-all : (ps : List Part) (m : Made) → P (t .nodes ++ m .nodes) → P (t .nodes ++ makes (t .nodes) (t .next) m ps .nodes)
+  unfolding makes step
+  makes-all [] m h = h
+  makes-all (parent at ∷ ps) m h = makes-all ps _ h
+  makes-all (name at p ∷ ps) m h = makes-all ps _ (made (childIn (t .nodes ++ m .nodes) (m .here) p))
+    where
+      made : (y : Option ℕ) → P (t .nodes ++ orMake (t .next) m p y .nodes)
+      made none =
+          let n = bare (t .next + length (m .nodes)) (m .here) p in
+          subst P (append-assoc (t .nodes) (m .nodes) (n ∷ [])) (more (t .nodes ++ m .nodes) n (omega arith) refl h)
+      made (some y) = h
+
+  pub planned-all : (path : List ℕ) → P (t .nodes) → P (t .nodes ++ planned t path .nodes)
+  unfolding planned
+  planned-all path h = makes-all (components 0 path) atRoot (rw (append-nil (t .nodes)) h)
 
 pub record Walking (live : List Node) (next : ℕ) (m : Made) : Type 0 where
   pub shape : Shape (entriesFor (live ++ m .nodes)) (next + length (m .nodes))

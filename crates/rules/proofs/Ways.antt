@@ -1,15 +1,15 @@
 -- A way to prove a thing of every call: once for all that change nothing, once for a mount or a restored mount that an early row refuses, and once for each that can
 -- change something. Assumes nothing.
 use mathlib.Core.Path.{_≡_, refl, sym}
-use mathlib.Core.Bool.{Bool, true, false, _&&_}
+use mathlib.Core.Bool.{Bool, true, false, _&&_, _||_}
 use mathlib.Core.Logic.{inl, inr}
 use mathlib.Core.List.{List}
 use mathlib.Core.Option.{Option, none, some}
 use Prim.Native.Nat.{ℕ, _+_, _≤_, _<_}
 use native.Mathlib.Omega.{arith}
 use lib.ListN.{length}
-use lib.Dec.{ltb}
-use borrow.Author.Tests.{not-true, not-false, ltb-true, ltb-false}
+use lib.Dec.{eqb, ltb}
+use borrow.Author.Tests.{eqb-false, not-true, not-false, ltb-true, ltb-false}
 use Rattle.rules.specs.Numbers.{maxIno, TOOLONG, INVAL, INODE, FULL, NOROOM, BADINDEX}
 use Rattle.rules.specs.Utf8.{wellFormed}
 use Rattle.rules.specs.Path.{rooted, tooLong}
@@ -24,6 +24,7 @@ use Rattle.rules.specs.Saved.{accepted, stateOf}
 use Rattle.rules.specs.Restore.{fresh, restoredTo, restoreRule}
 use Rattle.rules.specs.Calls.{Call, mount, restore-mount, umount, set-remove-pseudo-root, path-walk, get-rootfs, route, lookup, readdir, remap-attr-id, options, initialized, save, restore, rule}
 use Rattle.rules.specs.Leaves.{ByRow2, ByRow3}
+use Rattle.rules.proofs.Tests.{or-neither}
 use Rattle.rules.proofs.Rows.{first-of}
 use Rattle.rules.proofs.Still.{Still, still-refused, still-says, walk-still, root-still, route-still, lookup-still, list-still, save-still}
 
@@ -57,7 +58,7 @@ pub record Early (c : Call) (code : ℕ) : Type 0 where
   pub inval : code ≡ INVAL → ByRow2 c
   pub inode : code ≡ INODE → ByRow3 c
 
--- bytes that a restore accepts
+-- a restore that no test refuses
 pub record Restorable (i : Instance) (b : List ℕ) : Type 0 where
   pub is-fresh : fresh i ≡ true
   pub is-accepted : accepted b ≡ true
@@ -66,17 +67,12 @@ pub record Restorable (i : Instance) (b : List ℕ) : Type 0 where
 
 -- ---- early rows
 
-plainly : (c : Call) (code : ℕ) → (code ≡ FULL → ⊥) → (code ≡ INVAL → ⊥) → (code ≡ INODE → ⊥) → Early c code
-plainly c code f v n = record { not-full = f; inval = λ e. absurd (v e); inode = λ e. absurd (n e) }
-
-too-long : (c : Call) → Early c TOOLONG
-too-long c = plainly c TOOLONG (λ e. omega arith) (λ e. omega arith) (λ e. omega arith)
-
-no-room : (c : Call) → Early c NOROOM
-no-room c = plainly c NOROOM (λ e. omega arith) (λ e. omega arith) (λ e. omega arith)
-
-bad-index : (c : Call) → Early c BADINDEX
-bad-index c = plainly c BADINDEX (λ e. omega arith) (λ e. omega arith) (λ e. omega arith)
+-- with none of the numbers that `Early` names
+plainly : (c : Call) (code : ℕ) → (eqb code FULL || (eqb code INVAL || eqb code INODE)) ≡ false → Early c code
+plainly c code e =
+    let a = or-neither (eqb code FULL) (eqb code INVAL || eqb code INODE) e in
+    let b = or-neither (eqb code INVAL) (eqb code INODE) (a .1) in
+    record { not-full = eqb-false code FULL (a .0); inval = λ q. absurd (eqb-false code INVAL (b .0) q); inode = λ q. absurd (eqb-false code INODE (b .1) q) }
 
 not-utf8 : (c : Call) → ByRow2 c → Early c INVAL
 not-utf8 c v = record { not-full = λ e. omega arith; inval = λ e. v; inode = λ e. absurd (omega arith) }
@@ -111,7 +107,7 @@ module _ (P : Instance → Call → Outcome → Type 0) where
     pub restores-mount : (i : Instance) (k : ℕ) (r : Request) → Passed i r → P i (restore-mount k r) (restoreAs i k r)
     pub unmounted : (i : Instance) (path : List ℕ) (x : ℕ) (m : Mount) → reached i path ≡ some x → mountOf (i .tree) x ≡ some m → P i (umount path) (unmounts i x m)
     pub sets-removal : (i : Instance) → P i set-remove-pseudo-root (says nothing (removing i))
-    pub restored : (i : Instance) (b : List ℕ) → Restorable i b → P i (restore b) (says nothing (restoredTo (stateOf b) i))
+    pub state-restored : (i : Instance) (b : List ℕ) → Restorable i b → P i (restore b) (says nothing (restoredTo (stateOf b) i))
 
   module _ (h : Cases) (i : Instance) where
     mount-case : (r : Request) → P i (mount r) (mountRule i r)
@@ -119,13 +115,13 @@ module _ (P : Instance → Call → Outcome → Type 0) where
     mount-case r =
         let early = h .early i (mount r) in
         first-of (P i (mount r)) _ _ (
-          λ a. early _ (too-long (mount r)),
+          λ a. early _ (plainly (mount r) TOOLONG refl),
           λ a. (
             λ b. early _ (not-utf8 (mount r) (mount-row2 r (not-true _ b))),
             λ b. (
               λ d. early _ (too-large (mount r) (mount-row3 r (ltb-true maxIno (r .largest) d))),
               λ d. (
-                λ n. early _ (no-room (mount r)),
+                λ n. early _ (plainly (mount r) NOROOM refl),
                 λ n. h .mounts i r (record { short = a; utf8 = not-false _ b; largest = ltb-false maxIno (r .largest) d; room = n }),
               ),
             ),
@@ -138,15 +134,15 @@ module _ (P : Instance → Call → Outcome → Type 0) where
         let c = restore-mount k r in
         let early = h .early i c in
         first-of (P i c) _ _ (
-          λ a. early _ (too-long c),
+          λ a. early _ (plainly c TOOLONG refl),
           λ a. (
             λ b. early _ (not-utf8 c (restored-row2 r k)),
             λ b. (
-              λ z. early _ (bad-index c),
+              λ z. early _ (plainly c BADINDEX refl),
               λ z. (
                 λ d. early _ (too-large c (restored-row3 r k (ltb-true maxIno (r .largest) d))),
                 λ d. (
-                  λ n. early _ (no-room c),
+                  λ n. early _ (plainly c NOROOM refl),
                   λ n. h .restores-mount i k r (record { short = a; utf8 = not-false _ b; largest = ltb-false maxIno (r .largest) d; room = n }),
                 ),
               ),
@@ -184,7 +180,7 @@ module _ (P : Instance → Call → Outcome → Type 0) where
               λ d. refuse _ (λ f. omega arith),
               λ d. (
                 λ e. refuse _ (λ f. omega arith),
-                λ e. h .restored i b (record { is-fresh = not-false _ a; is-accepted = not-false _ c; options = d; room = e }),
+                λ e. h .state-restored i b (record { is-fresh = not-false _ a; is-accepted = not-false _ c; options = d; room = e }),
               ),
             ),
           ),

@@ -1,12 +1,10 @@
--- What becomes of a number that a session keeps: it leads into its own mount or nowhere until its index is handed out again.
+-- What becomes of a number that a caller keeps: it leads into its own mount or nowhere until a call gives its index away, and there as long as its mount stands.
 use Prim.Native.Nat.{ℕ, _<_}
-use mathlib.Core.Bool.{Bool, false, _&&_, _||_}
 use mathlib.Core.Logic.{_⊎_}
 use mathlib.Core.List.{List, [], _∷_}
 use mathlib.Core.Option.{Option, none, some}
 use mathlib.Core.Path.{_≡_}
 use lib.ListN.{length}
-use lib.Dec.{eqb}
 use Rattle.rules.specs.Numbers.{indexOf, numberOf, NOENT}
 use Rattle.rules.specs.Instance.{Instance, counterOf, emptySlot, slotOf}
 use Rattle.rules.specs.Outcome.{toBackend, Outcome, refused, says}
@@ -36,7 +34,7 @@ named initialized = none
 named (save buffer) = none
 named (restore b) = none
 
--- an index before others, if there is one
+-- a number before others, if there is one
 abbrev pub before : Option ℕ → List ℕ → List ℕ
 before none ks = ks
 before (some k) ks = k ∷ ks
@@ -51,19 +49,14 @@ unfoldable pub handedOut : List Step → List ℕ
 handedOut [] = []
 handedOut (s ∷ ss) = before (s .found) (handedOut ss)
 
--- it is there, and it is k
-abbrev pub isIt : ℕ → Option ℕ → Bool
-isIt k none = false
-isIt k (some j) = eqb j k
-
--- the call is done and gives k away: a mount hands it out, or a restored mount names it
-abbrev pub gives : ℕ → Call → Outcome → Bool
-gives k c o = eqb (o .code) 0 && (isIt k (o .found) || isIt k (named c))
+-- the call is done and gives k away: a mount hands it out, or a restored mount names it (R76, R85, R93)
+abbrev pub Gives : ℕ → Call → Outcome → Type 0
+Gives k c o = (o .code ≡ 0) × ((o .found ≡ some k) ⊎ (named c ≡ some k))
 
 -- no call gives k away, each on what the one before left
 unfoldable pub Ungiven : ℕ → Instance → List Call → Type 0
 Ungiven k i [] = Unit {0}
-Ungiven k i (c ∷ cs) = (gives k c (rule i c) ≡ false) × Ungiven k (rule i c .after) cs
+Ungiven k i (c ∷ cs) = (Gives k c (rule i c) → ⊥) × Ungiven k (rule i c .after) cs
 
 -- ---- mounts that calls take off
 
@@ -89,24 +82,24 @@ abbrev pub indexIn : Option Mount → Option ℕ
 indexIn none = none
 indexIn (some m) = some (m .index)
 
--- the call is done and ends the mount of k: it takes a mount of that index off, or is a restored mount that names it
-abbrev pub ends : ℕ → Instance → Call → Outcome → Bool
-ends k i c o = eqb (o .code) 0 && (isIt k (indexIn (oldMount i c)) || isIt k (named c))
+-- the call is done and ends the mount of k: it takes a mount of that index off, or is a restored mount that names it (R76, R93, R98)
+abbrev pub Ends : ℕ → Instance → Call → Outcome → Type 0
+Ends k i c o = (o .code ≡ 0) × ((indexIn (oldMount i c) ≡ some k) ⊎ (named c ≡ some k))
 
 -- no call ends the mount of k, each on what the one before left
 unfoldable pub Standing : ℕ → Instance → List Call → Type 0
 Standing k i [] = Unit {0}
-Standing k i (c ∷ cs) = (ends k i c (rule i c) ≡ false) × Standing k (rule i c .after) cs
+Standing k i (c ∷ cs) = (Ends k i c (rule i c) → ⊥) × Standing k (rule i c .after) cs
 
 -- ---- what changes a slot
 
 -- the slot of j after a call: as it was; or the call is done, and empties it by taking a mount of that index off, or hands j out, or names it in a restored mount
 -- (R56, R76, R85, R93, R98)
 pub data SlotAfter (i : Instance) (c : Call) (o : Outcome) (j : ℕ) : Type 0 where
-  stays : slotOf (o .after) j ≡ slotOf i j → SlotAfter i c o j
+  same-slot : slotOf (o .after) j ≡ slotOf i j → SlotAfter i c o j
   emptied : o .code ≡ 0 → indexIn (oldMount i c) ≡ some j → slotOf (o .after) j ≡ emptySlot → SlotAfter i c o j
   handed-out : o .code ≡ 0 → o .found ≡ some j → SlotAfter i c o j
-  put-back : o .code ≡ 0 → named c ≡ some j → SlotAfter i c o j
+  by-restored : o .code ≡ 0 → named c ≡ some j → SlotAfter i c o j
 
 -- of every call on every instance
 abbrev pub EverySlot : Type 0
@@ -114,7 +107,7 @@ EverySlot = (i : Instance) (c : Call) (j : ℕ) → SlotAfter i c (rule i c) j
 
 -- ---- where a kept number leads
 
--- the full number x leads into the backend of the tag t, or nowhere (R105, R106)
+-- the full number x leads into the backend of the tag t, or nowhere (R106)
 abbrev pub LeadsTo : Instance → ℕ → ℕ → Type 0
 LeadsTo i x t = (rule i (route x) ≡ refused NOENT i) ⊎ (rule i (route x) ≡ says (toBackend t (indexOf x) (numberOf x)) i)
 
@@ -135,19 +128,19 @@ abbrev pub EveryStanding : Type 0
 EveryStanding = (i : Instance) (x t : ℕ) → 0 < indexOf x → rule i (route x) .answer ≡ toBackend t (indexOf x) (numberOf x)
     → (cs : List Call) → Standing (indexOf x) i cs → rule (afterAll i cs) (route x) ≡ says (toBackend t (indexOf x) (numberOf x)) (afterAll i cs)
 
--- a number of its index leads into that mount's backend or nowhere, as long as no call gives the index away (R85, R105, R106)
+-- a number of its index leads into that mount's backend or nowhere, as long as no call gives the index away (R76, R85, R93, R106)
 abbrev pub EveryOwn : Type 0
 EveryOwn = (i : Instance) (r : Request) (k : ℕ) → MountedAt i r k → (cs : List Call) → Ungiven k (rule i (mount r) .after) cs
     → (x : ℕ) → indexOf x ≡ k → LeadsTo (afterAll (rule i (mount r) .after) cs) x (r .tag)
 
--- and so as long as the counts sum to less than 256, with no state restore and no restored mount that names the index (R82, R87, R105, R106)
+-- and so as long as the counts sum to less than 256, with no done state restore and no restored mount that names the index (R82, R87, R106)
 abbrev pub EveryKept : Type 0
 EveryKept = (i : Instance) (r : Request) (k : ℕ) → MountedAt i r k → (cs : List Call) → Unrestored (rule i (mount r) .after) cs
     → (Has k (namedIn cs) → ⊥) → total (stepsOf (rule i (mount r) .after) cs) < 256
     → (x : ℕ) → indexOf x ≡ k → LeadsTo (afterAll (rule i (mount r) .after) cs) x (r .tag)
 
 -- a number that led into the backend of the tag t, and whose index no call gave away since, leads there still if it leads anywhere; on any tables, over any calls, state
--- restores among them: a gateway that marks an index anew at each call that gives it away can judge a number by the mark (R105, R106)
+-- restores among them: a gateway that marks an index anew at each call that gives it away can judge a number by the mark (R76, R85, R93, R106)
 abbrev pub EveryJudged : Type 0
 EveryJudged = (i : Instance) (x t : ℕ) → 0 < indexOf x → rule i (route x) .answer ≡ toBackend t (indexOf x) (numberOf x)
     → (cs : List Call) → Ungiven (indexOf x) i cs → rule (afterAll i cs) (route x) .code ≡ 0

@@ -22,7 +22,7 @@ At (d ∷ ds) (suc k) e = At ds k e
 
 -- 1 to 255 bytes of UTF-8, 47 (`/`) at no place, and neither 46 (`.`) alone nor twice 46 (R10, R35, R129 j)
 pub record Name (p : List ℕ) : Type 0 where
-  pub some : 1 ≤ length p
+  pub not-empty : 1 ≤ length p
   pub short : length p ≤ 255
   pub text : Text p
   pub no-slash : (k : ℕ) → At p k 47 → ⊥

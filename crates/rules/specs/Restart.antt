@@ -17,8 +17,8 @@ pub record Life : Type 0 where
   pub calls : List Call
 
 -- what it leaves
-abbrev pub left : Life → Instance
-left l = afterAll (l .start) (l .calls)
+abbrev pub leftBy : Life → Instance
+leftBy l = afterAll (l .start) (l .calls)
 
 -- the steps of lives, one life after another
 unfoldable pub stepsIn : List Life → List Step
@@ -28,22 +28,22 @@ stepsIn (l ∷ ls) = stepsOf (l .start) (l .calls) ++ stepsIn ls
 -- lives after the instance i: each begins with the counter that was left, and has no done state restore among its calls (R87)
 unfoldable pub Carried : Instance → List Life → Type 0
 Carried i [] = Unit {0}
-Carried i (l ∷ ls) = (counterOf (l .start) ≡ counterOf i) × (Unrestored (l .start) (l .calls) × Carried (left l) ls)
+Carried i (l ∷ ls) = (counterOf (l .start) ≡ counterOf i) × (Unrestored (l .start) (l .calls) × Carried (leftBy l) ls)
 
 -- a call handed k out; lives follow, and the last call of all hands k out again (R87, R88)
 abbrev pub EveryRestart : Type 0
 EveryRestart = (i : Instance) → counterOf i < 256 → (c : Call) (k : ℕ) → rule i c .found ≡ some k → (ls : List Life) → Carried (rule i c .after) ls
     → lastFound none (stepsIn ls) ≡ some k → Laps (stepsIn ls)
 
--- what the saved bytes of i leave of the instance f by a restore that is done is j (R119, R128, R134)
+-- a restore of the saved bytes of i into f is done, and leaves j (R119, R128, R134)
 pub record Restarted (i f j : Instance) : Type 0 where
   pub done : restoreRule f (encode (saved i)) .code ≡ 0
   pub gives : restoreRule f (encode (saved i)) .after ≡ j
 
--- lives after the instance i: each begins with a done restore of the state that was left, of an instance that calls have made (R87, R134)
+-- lives after the instance i: each begins with a done restore of what was saved from the instance left before it, which is driven (R87, R134)
 unfoldable pub Restarts : Instance → List Life → Type 0
 Restarts i [] = Unit {0}
-Restarts i (l ∷ ls) = Driven i × (((f : Instance) × Restarted i f (l .start)) × (Unrestored (l .start) (l .calls) × Restarts (left l) ls))
+Restarts i (l ∷ ls) = Driven i × (((f : Instance) × Restarted i f (l .start)) × (Unrestored (l .start) (l .calls) × Restarts (leftBy l) ls))
 
 -- a call handed k out; after more calls come restarts, and the last call of all hands k out again (R87, R88, R135)
 abbrev pub EverySavedRestart : Type 0

@@ -52,12 +52,13 @@ EveryStays = (i : Instance) (c : Call) → Stays i c (rule i c)
 
 -- ---- the mounts of other nodes
 
--- the mount on the node y after a call: as it was; or y is the node where the path of a mount or a restored mount ends, or which an unmount reaches (R76, R93, R98, R127)
+-- the mount on the node y after a call: as it was; or the call is done, and y is the node where the path of a mount or a restored mount ends, or which an unmount
+-- reaches (R15, R76, R93, R98, R127)
 pub data MountAfter (i : Instance) (c : Call) (o : Outcome) (y : ℕ) : Type 0 where
   same-mount : mountOf (o .after .tree) y ≡ mountOf (i .tree) y → MountAfter i c o y
-  by-mount : (r : Request) → c ≡ mount r → y ≡ ended i (r .path) → MountAfter i c o y
-  by-restored : (k : ℕ) (r : Request) → c ≡ restore-mount k r → y ≡ ended i (r .path) → MountAfter i c o y
-  by-unmount : (path : List ℕ) → c ≡ umount path → reached i path ≡ some y → MountAfter i c o y
+  by-mount : (r : Request) → c ≡ mount r → o .code ≡ 0 → y ≡ ended i (r .path) → MountAfter i c o y
+  by-restored : (k : ℕ) (r : Request) → c ≡ restore-mount k r → o .code ≡ 0 → y ≡ ended i (r .path) → MountAfter i c o y
+  by-unmount : (path : List ℕ) → c ≡ umount path → o .code ≡ 0 → reached i path ≡ some y → MountAfter i c o y
 
 -- of every call on every instance
 abbrev pub EveryMountOn : Type 0

@@ -1,7 +1,6 @@
 -- Records with one parent and equal names have one key. Assumes nothing.
 use mathlib.Core.Path.{_≡_, sym, ap, ap₂, _∙_}
 use mathlib.Core.Bool.{true, false, and-false}
-use mathlib.Core.Logic.{⊎-elim}
 use mathlib.Core.List.{List, _++_}
 use Prim.Native.Nat.{ℕ, _+_, _-_, _%_, _^_}
 use native.Mathlib.Omega.{arith}
@@ -11,7 +10,7 @@ use borrow.Author.Tests.{eq-eqb, ne-eqb, eqb-true}
 use Rattle.rules.specs.Bytes.{Bytes, same}
 use Rattle.rules.specs.Fields.{read, value, bytesOf, get}
 use Rattle.rules.specs.Saved.{nodeAt, behind}
-use Rattle.rules.proofs.Tests.{known, and-both}
+use Rattle.rules.proofs.Tests.{untrue, and-both}
 use Rattle.rules.proofs.Same.{same-eq, same-length}
 use Rattle.rules.proofs.Fields.{length-read, read-add, bytes-back}
 use Rattle.le.proofs.Lens.{read-part}
@@ -76,4 +75,4 @@ key-same b p q h t =
 
 -- the law: with another key, no twin
 pub other-key : (b : List ℕ) (p q : ℕ) → Bytes b → (keyAt b p ≡ keyAt b q → ⊥) → twin (nodeAt b p) (nodeAt b q) ≡ false
-other-key b p q h n = ⊎-elim (λ t. absurd (n (key-same b p q h t))) (λ f. f) (known (twin (nodeAt b p) (nodeAt b q)))
+other-key b p q h n = untrue (twin (nodeAt b p) (nodeAt b q)) (λ t. n (key-same b p q h t))

@@ -24,7 +24,7 @@ use Rattle.storage.specs.Header.{spell, headerOf}
 use Rattle.storage.specs.Limits.{SlotsFit, Limits}
 use Rattle.storage.specs.Creation.{creationOf, emptySlots, createMem, Creates, CreatesDriven}
 use Rattle.storage.proofs.Header.{view-headed, laid-headed}
-use Rattle.rules.proofs.Create.{large-enough, options-fit}
+use Rattle.rules.proofs.Create.{large-enough, options-known}
 use Rattle.storage.proofs.Slots.{length-slots, slots-empty}
 
 -- ---- what the writes come to
@@ -61,7 +61,7 @@ module _ (q : Creation) (mem : List ℕ) where
   new-limits e f h k a b =
       let m = within (q .options .mapping) h in
       let s = large-enough (length mem) (q .capacity) e in
-      let o = options-fit (q .known) (q .options) f in
+      let o = options-known (q .known) (q .options) f in
       record {
         some-node = s .0;
         few-nodes = s .1;

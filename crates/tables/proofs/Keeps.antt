@@ -14,7 +14,7 @@ use Rattle.rules.specs.Ids.{badMapping}
 use Rattle.rules.specs.Tree.{Mount}
 use Rattle.rules.specs.Create.{unknown}
 use Rattle.rules.proofs.Fields.{length-bytesOf}
-use Rattle.rules.proofs.Create.{large-enough, is-large-enough, options-fit, do-fit}
+use Rattle.rules.proofs.Create.{large-enough, is-large-enough, options-known, known-options}
 use Rattle.rules.proofs.Tests.{pass, passed}
 use Rattle.tables.specs.Table.{row, putRow}
 use Rattle.tables.specs.Layout.{header, slotTable, nodeTable, mark, capacityOf, countOf, nextOf}
@@ -52,7 +52,7 @@ unfolding laidBy
 ruled h bytes e =
     let t = passed _ e in
     let s = large-enough bytes (field 1 h) (not-true _ (t .1 .1 .0)) in
-    let o = options-fit (field 4 h) (optionsFrom h) (not-true _ (t .1 .1 .1 .1 .1 .1 .0)) in
+    let o = options-known (field 4 h) (optionsFrom h) (not-true _ (t .1 .1 .1 .1 .1 .1 .0)) in
     record {
       size = record { long = leb-true 8192 bytes (t .0); marked = eqb-true (field 0 h) mark (t .1 .0); some-node = s .0; few-nodes = s .1; enough = s .2 };
       live = ltb-true (field 2 h) (field 1 h) (t .1 .1 .1 .0);
@@ -67,7 +67,7 @@ pub is-ruled : (h : List (List ℕ)) (bytes : ℕ) → Ruled h bytes → laidBy 
 unfolding laidBy
 is-ruled h bytes r =
     let s = is-large-enough bytes (field 1 h) (r .size .some-node) (r .size .few-nodes) (r .size .enough) in
-    let o = do-fit (field 4 h) (optionsFrom h) (r .bits) (r .flags) in
+    let o = known-options (field 4 h) (optionsFrom h) (r .bits) (r .flags) in
     pass _ (
       le-leb 8192 bytes (r .size .long),
       (

@@ -2,7 +2,7 @@
 use mathlib.Core.Path.{_≡_, refl, sym, ap, _∙_}
 use mathlib.Core.Bool.{true, false}
 use mathlib.Core.List.{List, []}
-use mathlib.Core.Option.{Option, some}
+use mathlib.Core.Option.{Option}
 use Prim.Native.Nat.{ℕ, _^_, _≤_, _<_}
 use native.Mathlib.Nat.{mod-lt}
 use native.Mathlib.Omega.{arith}
@@ -18,7 +18,7 @@ use Rattle.rules.specs.Outcome.{Answer, mounted, restored}
 use Rattle.rules.specs.Mount.{Request, freed, mountOn, tagAt, allocation, stepped}
 use Rattle.le.specs.Mem.{get}
 use Rattle.rules.proofs.Fields.{get-fits}
-use Rattle.rules.proofs.Allocation.{exact}
+use Rattle.rules.proofs.Allocation.{found-bounds}
 use Rattle.index.specs.Search.{readOf, told as toldFound, foundOf}
 use Rattle.index.specs.declared.FsIndex.the-variants.{Index, Full as IndexFull}
 use Rattle.index.specs.declared.Allocated.{Allocated}
@@ -128,10 +128,6 @@ module _ (mem : List ℕ) (l : laid mem ≡ true) (bytes : Bytes mem) where
       ap (allocate (heldIn (view mem))) counter-is
       ∙ allocate-same (heldIn (view mem)) (heldAt mem) (λ k h. ap (λ s. s .held) (slot-of mem k h)) (counterByte mem) (get-fits 1 mem 81 bytes)
 
-  index-up : (k : ℕ) → allocation (view mem) .found ≡ some k → 1 ≤ k
-  unfolding allocation
-  index-up k e = exact (heldIn (view mem)) (counterOf (view mem)) (counter-in mem bytes) .handed-out k .0 e .1 .least
-
   pub allocates : (a : Allocated) → readOf a ≡ toldFound (allocate (heldAt mem) (counterByte mem)) → (after : List ℕ) → after ≡ setCounter (a .«next_super») mem → Allocates mem a after
   unfolding readOf toldFound foundOf allocMem
   allocates a h after w =
@@ -139,7 +135,7 @@ module _ (mem : List ℕ) (l : laid mem ≡ true) (bytes : Bytes mem) where
       let exactly : after ≡ allocMem mem = w ∙ ap (λ t. setCounter (t .counter) mem) as-told in
       record {
         answer = as-told;
-        least = λ k e. index-up k (sym (ap (λ t. t .found) as-told) ∙ ap foundOf e);
+        least = λ k e. found-bounds (view mem) (counter-in mem bytes) k (sym (ap (λ t. t .found) as-told) ∙ ap foundOf e) .0;
         bytes = exactly;
         stands = ap view exactly ∙ alloc-view mem l;
         keeps = ap laid exactly ∙ alloc-keeps mem l;

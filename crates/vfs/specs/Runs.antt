@@ -63,7 +63,7 @@ lastOf mem [] = mem
 lastOf mem (s ∷ ss) = lastOf (s .after) ss
 
 -- a mount tells that it is done, with the index k; steps follow whose counts sum to less than 256, with no done state restore and no restored mount at k; then a number
--- of that index is routed: to the tag of that mount, or it is refused NOENT (R82, R87, R105, R106)
+-- of that index is routed: to the tag of that mount, or it is refused NOENT (R82, R87, R106)
 abbrev pub EveryKeptOfBytes : Type 0
 EveryKeptOfBytes = (s : Step) → Allowed s → laid (s .before) ≡ true → Bytes (s .before) → (r : Request) → s .call ≡ mount r → s .told .code ≡ 0
     → (k : ℕ) (t : Option ℕ) → s .told .answer ≡ mounted k t

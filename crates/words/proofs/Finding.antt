@@ -10,6 +10,7 @@ use lib.Seq.{take-nil, drop-drop}
 use Rattle.rules.specs.Bytes.{same}
 use Rattle.rules.specs.Path.{partsBy}
 use Rattle.rules.specs.Session.{space, words, number, shown}
+use Rattle.rules.specs.Kept.{before}
 use Rattle.le.specs.Mem.{write}
 use Rattle.le.proofs.Writes.{write-suc}
 use Rattle.path.specs.Steps.{between, partLength, partEnd}
@@ -17,7 +18,7 @@ use Rattle.path.proofs.Words.{behind, first-part, end-length, behind-end}
 use Rattle.decimal.specs.declared.Number.the-variants.{Value, Bad}
 use Rattle.decimal.specs.Read.{valueIn, numberTo}
 use Rattle.decimal.proofs.Steps.{of-width}
-use Rattle.words.specs.Among.{before, numbersOf}
+use Rattle.words.specs.Among.{numbersOf}
 
 -- the largest number of 64 bits
 abbrev pub largest : ℕ

@@ -1,13 +1,8 @@
 -- The numbers among the words of a line, and the low bits of one.
 use Prim.Native.Nat.{ℕ, _%_, _^_}
 use mathlib.Core.List.{List, [], _∷_}
-use mathlib.Core.Option.{Option, none, some}
 use Rattle.rules.specs.Session.{number}
-
--- one more in front, where there is one
-abbrev pub before : Option ℕ → List ℕ → List ℕ
-before none ns = ns
-before (some n) ns = n ∷ ns
+use Rattle.rules.specs.Kept.{before}
 
 -- the words that are numbers of 64 bits, in their order
 unfoldable pub numbersOf : List (List ℕ) → List ℕ
