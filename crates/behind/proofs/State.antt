@@ -13,7 +13,7 @@ use Rattle.rules.specs.Numbers.{DONE, BADSAVE, BADOPT, NOROOM, NOTFRESH, storag
 use Rattle.rules.specs.Instance.{Instance, Options}
 use Rattle.rules.specs.Outcome.{nothing, refused, says, _⇒_, firstOf}
 use Rattle.rules.specs.Create.{Creation, newInstance, unknown}
-use Rattle.rules.specs.Saved.{Entry, State, stateOf, accepted}
+use Rattle.rules.specs.Saved.{SavedNode, State, stateOf, accepted}
 use Rattle.rules.specs.Restore.{fresh, restoredTo, restoreRule}
 use Rattle.rules.proofs.Fields.{length-bytesOf}
 use Rattle.tables.proofs.Table.{Fit}
@@ -41,14 +41,14 @@ module _ (rest : List ℕ) where
   unfolding setNext
   next-front mem l x = header-front rest mem l 3 (bytesOf 8 x ∷ []) (omega (arith, length-bytesOf 8 x))
 
-  load-front : (e : Entry) (mem : List ℕ) → laid mem ≡ true → Loads e → LeavesRest (loadNode e) mem rest
+  load-front : (e : SavedNode) (mem : List ℕ) → laid mem ≡ true → Loads e → LeavesRest (loadNode e) mem rest
   unfolding loadNode
   load-front e mem k f =
       let m′ = setNext (e .number) mem in
       ap (appendNode (e .above) (e .called)) (next-front mem (laid-long mem k) (e .number))
       ∙ append-front rest m′ (laid-is m′ (next-keeps mem (laid-is mem k) (e .number) (omega (arith, f .top)) (f .low) k)) (e .above) (e .called) (f .short)
 
-  loads-front : (es : List Entry) (mem : List ℕ) → laid mem ≡ true → AllLoad es → countOf mem + length es < capacityOf mem → LeavesRest (loadNodes es) mem rest
+  loads-front : (es : List SavedNode) (mem : List ℕ) → laid mem ≡ true → AllLoad es → countOf mem + length es < capacityOf mem → LeavesRest (loadNodes es) mem rest
   unfolding loadNodes AllLoad
   loads-front [] mem k f room = refl
   loads-front (e ∷ es) mem k f room =

@@ -6,6 +6,7 @@ use mathlib.Core.Option.{Option, none, some}
 use mathlib.Core.Path.{_≡_}
 use lib.ListN.{length}
 use lib.Dec.{eqb, ltb}
+use Rattle.rules.specs.Numbers.{maxLine}
 use Rattle.rules.specs.Outcome.{_⇒_, firstOf}
 use Rattle.rules.specs.Session.{space, Line, anyEmpty, lineOf}
 use Rattle.path.specs.Steps.{between, partEnd}
@@ -49,7 +50,7 @@ cutOf s =
     let d = fieldEnd s (c + 1) in
     let e = fieldEnd s (d + 1) in
     firstOf
-    ((ltb 8192 (length s) ⇒ Other)
+    ((ltb maxLine (length s) ⇒ Other)
     ∷ (eqb a (length s) ⇒ Other)
     ∷ (eqb b (length s) ⇒ Two a)
     ∷ (eqb c (length s) ⇒ Three a b)

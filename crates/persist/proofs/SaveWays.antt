@@ -12,7 +12,7 @@ use Rattle.rules.specs.Numbers.{SMALL}
 use Rattle.rules.specs.Tree.{Node}
 use Rattle.rules.specs.Outcome.{wrote, Outcome, refused, writes, firstOf}
 use Rattle.rules.specs.Saved.{optionsBytes, trailerBytes, encode}
-use Rattle.rules.specs.Restore.{entriesFor, saved, saveRule}
+use Rattle.rules.specs.Restore.{savedNodes, saved, saveRule}
 use Rattle.rules.specs.RoundTrip.{NamesTo}
 use Rattle.rules.proofs.Encoded.{options-length, encode-length}
 use Rattle.rules.proofs.RoundTrip.{longest}
@@ -64,7 +64,7 @@ module _ (mem d : List ℕ) where
   state = encode (saved (view mem))
 
   parts : (end : ℕ) → end ≡ length (records mem)
-      → state ≡ records mem ++ (optionsBytes (optionsFrom (headOf mem)) ++ trailerBytes end (length (entriesFor (nodesOf mem))) (nextOf mem) (counterByte mem))
+      → state ≡ records mem ++ (optionsBytes (optionsFrom (headOf mem)) ++ trailerBytes end (length (savedNodes (nodesOf mem))) (nextOf mem) (counterByte mem))
   unfolding encode saved view row get
   parts end e = rw e
 
@@ -144,8 +144,8 @@ small-leaves mem d e w = by-laid (laid mem) refl
 -- ---- how much is written at most
 
 -- whatever the rows are, their names are short
-names-to : (f : ℕ → Node) → ((j : ℕ) → length (f j .called) ≤ 255) → (i k : ℕ) → NamesTo 255 (entriesFor (tab f i k))
-unfolding NamesTo entriesFor tab
+names-to : (f : ℕ → Node) → ((j : ℕ) → length (f j .called) ≤ 255) → (i k : ℕ) → NamesTo 255 (savedNodes (tab f i k))
+unfolding NamesTo savedNodes tab
 names-to f h i zero = tt
 names-to f h i (suc k) = (h i, names-to f h (i + 1) k)
 
@@ -153,8 +153,8 @@ at-most : (mem : List ℕ) → laid mem ≡ true → length (encode (saved (view
 unfolding saved view
 at-most mem l =
     let r = laid-is mem l in
-    let few : length (entriesFor (nodesOf mem)) ≤ 1023 = omega (arith, entries-length (nodesOf mem), nodes-count mem, r .live, r .few-nodes) in
-    let short : NamesTo 255 (entriesFor (nodesOf mem)) =
+    let few : length (savedNodes (nodesOf mem)) ≤ 1023 = omega (arith, entries-length (nodesOf mem), nodes-count mem, r .live, r .few-nodes) in
+    let short : NamesTo 255 (savedNodes (nodesOf mem)) =
     rw (nodes-of mem) (names-to (nodeAt (capacityOf mem) mem) (λ j. name-short (capacityOf mem) mem j _ refl) 0 (countOf mem)) in
     longest .most (saved (view mem)) few short
 

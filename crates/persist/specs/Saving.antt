@@ -4,6 +4,7 @@ use mathlib.Core.Path.{_≡_}
 use mathlib.Core.Bool.{true}
 use mathlib.Core.List.{List, _++_}
 use lib.ListN.{length, drop}
+use Rattle.rules.specs.Numbers.{maxSaved}
 use Rattle.rules.specs.Instance.{Instance}
 use Rattle.rules.specs.Outcome.{wrote, Outcome}
 use Rattle.rules.specs.Saved.{encode}
@@ -47,8 +48,8 @@ SmallLeaves = (mem d e : List ℕ) → Saves mem d Small e → e ≡ d
 
 -- no save writes more
 abbrev pub NeverLonger : Type 0
-NeverLonger = (mem d : List ℕ) (n : ℕ) (e : List ℕ) → Saves mem d (Wrote n) e → n ≤ 279335
+NeverLonger = (mem d : List ℕ) (n : ℕ) (e : List ℕ) → Saves mem d (Wrote n) e → n ≤ maxSaved
 
 -- so many bytes are always enough: the whole state is saved
 abbrev pub Enough : Type 0
-Enough = (mem d : List ℕ) (r : Saved) (e : List ℕ) → laid mem ≡ true → 279335 ≤ length d → Saves mem d r e → r ≡ Wrote (length (encode (saved (view mem))))
+Enough = (mem d : List ℕ) (r : Saved) (e : List ℕ) → laid mem ≡ true → maxSaved ≤ length d → Saves mem d r e → r ≡ Wrote (length (encode (saved (view mem))))

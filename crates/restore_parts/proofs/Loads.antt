@@ -8,7 +8,7 @@ use lib.ListN.{length, length-append as length-both}
 use Rattle.le.specs.Mem.{read, value, bytesOf, get}
 use Rattle.rules.specs.Tree.{Node, bare}
 use Rattle.rules.specs.Instance.{Instance, withTree}
-use Rattle.rules.specs.Saved.{Entry}
+use Rattle.rules.specs.Saved.{SavedNode}
 use Rattle.rules.specs.Restore.{nodesFrom}
 use Rattle.rules.proofs.Fields.{length-bytesOf}
 use Rattle.tables.specs.Table.{row}
@@ -84,10 +84,10 @@ module _ (mem : List ℕ) (d : Bounds mem) (x : ℕ) (top : x ≤ 2 ^ 56) where
 
 -- ---- one record more
 
-abbrev pub noded : Entry → Node
+abbrev pub noded : SavedNode → Node
 noded e = bare (e .number) (e .above) (e .called)
 
-pub record Loaded (e : Entry) (mem : List ℕ) : Type 0 where
+pub record Loaded (e : SavedNode) (mem : List ℕ) : Type 0 where
   pub long : length (loadNode e mem) ≡ length mem
   pub keeps : laid (loadNode e mem) ≡ true
   pub stands : view (loadNode e mem) ≡ withTree (record { next = e .number + 1; root = view mem .tree .root; nodes = view mem .tree .nodes ++ (noded e ∷ []) }) (view mem)
@@ -98,7 +98,7 @@ pub record Ready (m′ : List ℕ) : Type 0 where
   pub room : countOf m′ + 1 < capacityOf m′
   pub under : nextOf m′ < 2 ^ 56
 
-pub ready : (e : Entry) (mem : List ℕ) → laid mem ≡ true → Loads e → countOf mem + 1 < capacityOf mem → Ready (setNext (e .number) mem)
+pub ready : (e : SavedNode) (mem : List ℕ) → laid mem ≡ true → Loads e → countOf mem + 1 < capacityOf mem → Ready (setNext (e .number) mem)
 ready e mem k f room =
     let d = laid-is mem k in
     let top : e .number ≤ 2 ^ 56 = omega (arith, f .top) in
@@ -108,7 +108,7 @@ ready e mem k f room =
       under = omega (arith, next-next mem d (e .number) top, f .top);
     }
 
-pub loads : (e : Entry) (mem : List ℕ) → laid mem ≡ true → Loads e → countOf mem + 1 < capacityOf mem → Loaded e mem
+pub loads : (e : SavedNode) (mem : List ℕ) → laid mem ≡ true → Loads e → countOf mem + 1 < capacityOf mem → Loaded e mem
 unfolding loadNode
 loads e mem k f room =
     let d = laid-is mem k in
@@ -126,7 +126,7 @@ loads e mem k f room =
     }
 
 -- the header's numbers then
-module _ (e : Entry) (mem : List ℕ) (l : Loaded e mem) where
+module _ (e : SavedNode) (mem : List ℕ) (l : Loaded e mem) where
   pub loaded-capacity : capacityOf (loadNode e mem) ≡ capacityOf mem
   unfolding view row get
   loaded-capacity = ap (λ (i : Instance). i .fixed .capacity) (l .stands)
@@ -142,12 +142,12 @@ module _ (e : Entry) (mem : List ℕ) (l : Loaded e mem) where
 abbrev pub withNext : ℕ → Instance → Instance
 withNext x i = withTree (record { next = x; root = i .tree .root; nodes = i .tree .nodes }) i
 
-pub record AllLoaded (es : List Entry) (mem : List ℕ) : Type 0 where
+pub record AllLoaded (es : List SavedNode) (mem : List ℕ) : Type 0 where
   pub long : length (loadNodes es mem) ≡ length mem
   pub keeps : laid (loadNodes es mem) ≡ true
   pub stands : (x : ℕ) → withNext x (view (loadNodes es mem)) ≡ withTree (record { next = x; root = view mem .tree .root; nodes = view mem .tree .nodes ++ nodesFrom es }) (view mem)
 
-pub loads-all : (es : List Entry) (mem : List ℕ) → laid mem ≡ true → AllLoad es → countOf mem + length es < capacityOf mem → AllLoaded es mem
+pub loads-all : (es : List SavedNode) (mem : List ℕ) → laid mem ≡ true → AllLoad es → countOf mem + length es < capacityOf mem → AllLoaded es mem
 unfolding loadNodes AllLoad nodesFrom
 loads-all [] mem k f room = record {
   long = refl;

@@ -6,7 +6,7 @@ use Prim.Native.Nat.{ℕ, zero, suc, _+_, _^_, _≤_, _<_}
 use native.Mathlib.Nat.{add-zero, zero-add}
 use native.Mathlib.Omega.{arith}
 use lib.ListN.{length}
-use Rattle.rules.specs.Saved.{Entry, nodeAt, nodesAt, recordsOf, stateOf, accepted}
+use Rattle.rules.specs.Saved.{SavedNode, nodeAt, nodesAt, recordsOf, stateOf, accepted}
 use Rattle.rules.specs.Driven.{Rises, Below, Named}
 use Rattle.rules.proofs.Accepted.{nodes-count, clauses}
 use Rattle.rules.proofs.Shape.{rises-end}
@@ -17,11 +17,11 @@ use Rattle.restore_parts.specs.Parts.{Loads}
 
 -- ---- records
 
-unfoldable pub AllLoad : List Entry → Type 0
+unfoldable pub AllLoad : List SavedNode → Type 0
 AllLoad [] = Unit {0}
 AllLoad (e ∷ es) = Loads e × AllLoad es
 
-shape-loads : (low next : ℕ) (es : List Entry) → 2 ≤ low → next ≤ 2 ^ 56 → Rises low es next → Below es → Named es → AllLoad es
+shape-loads : (low next : ℕ) (es : List SavedNode) → 2 ≤ low → next ≤ 2 ^ 56 → Rises low es next → Below es → Named es → AllLoad es
 unfolding Rises Below Named AllLoad
 shape-loads low next [] l t r b n = tt
 shape-loads low next (e ∷ es) l t r b n =

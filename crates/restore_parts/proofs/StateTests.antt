@@ -11,7 +11,7 @@ use borrow.Author.Tests.{eq-eqb, ne-eqb, le-leb, lt-leb, lt-ltb, le-ltb}
 use Rattle.le.specs.Mem.{get, put}
 use Rattle.rules.specs.Tree.{Node, isNone}
 use Rattle.rules.specs.Create.{outside, unknown}
-use Rattle.rules.specs.Saved.{nodeAt, behind, optionsAt, optionsIn, recordsOf, nextOf, counterIn, stateOf}
+use Rattle.rules.specs.Saved.{nodeAt, behind, optionsAt, optionsStart, recordsOf, nextOf, counterIn, stateOf}
 use Rattle.rules.specs.Restore.{noNodes, fresh}
 use Rattle.rules.proofs.Tests.{le-or-lt}
 use Rattle.saved.specs.Options.{meant}
@@ -72,7 +72,7 @@ module _ (mem : List ℕ) where
 
 -- ---- the mask, and room
 
-pub bits-by : (mem b : List ℕ) (known : ℕ) (o : SavedOptions) (r : Bool) → known ≡ get 8 mem 32 → meant o ≡ optionsAt b (optionsIn b)
+pub bits-by : (mem b : List ℕ) (known : ℕ) (o : SavedOptions) (r : Bool) → known ≡ get 8 mem 32 → meant o ≡ optionsAt b (optionsStart b)
     → r ≡ (outside known (o .«in_opts») || outside known (o .«out_opts»)) → r ≡ unknown (view mem .fixed .known) (stateOf b .options)
 unfolding unknown view row get stateOf
 bits-by mem b known o r k m e = e ∙ (λ t. outside (k t) (m t .inOpts) || outside (k t) (m t .outOpts))
@@ -105,7 +105,7 @@ short-name b at end e w f = rw (name-is b at end e w) (f .short)
 
 -- ---- all of it
 
-pub saved-put : (mem b : List ℕ) (next counter : ℕ) (o : SavedOptions) (m′ after : List ℕ) → next ≡ nextOf b → counter ≡ counterIn b → meant o ≡ optionsAt b (optionsIn b)
+pub saved-put : (mem b : List ℕ) (next counter : ℕ) (o : SavedOptions) (m′ after : List ℕ) → next ≡ nextOf b → counter ≡ counterIn b → meant o ≡ optionsAt b (optionsStart b)
     → m′ ≡ loadNodes (stateOf b .nodes) mem → after ≡ setState next counter (meant o) m′ → after ≡ stateMem (stateOf b) mem
 unfolding stateMem stateOf
 saved-put mem b next counter o m′ after n k p l h = h ∙ (λ t. setState (n t) (k t) (p t) (l t))

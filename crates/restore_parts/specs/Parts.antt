@@ -4,26 +4,27 @@ use mathlib.Core.Bool.{Bool, not}
 use mathlib.Core.List.{List, [], _∷_}
 use lib.ListN.{length}
 use lib.Dec.{eqb}
+use Rattle.rules.specs.Numbers.{maxName}
 use Rattle.le.specs.Mem.{bytesOf}
 use Rattle.rules.specs.Instance.{Options}
-use Rattle.rules.specs.Saved.{Entry, State}
+use Rattle.rules.specs.Saved.{SavedNode, State}
 use Rattle.tables.specs.Write.{putHeader, setNext, yesByte, appendNode}
 
 -- ---- the records
 
 -- what a row needs of a record
-pub record Loads (e : Entry) : Type 0 where
+pub record Loads (e : SavedNode) : Type 0 where
   pub low : 2 ≤ e .number
   pub top : e .number < 2 ^ 56
   pub above : e .above < 2 ^ 56
-  pub short : length (e .called) ≤ 255
+  pub short : length (e .called) ≤ maxName
 
 -- its number becomes the next one, and the row is appended (R134)
-unfoldable pub loadNode : Entry → List ℕ → List ℕ
+unfoldable pub loadNode : SavedNode → List ℕ → List ℕ
 loadNode e mem = appendNode (e .above) (e .called) (setNext (e .number) mem)
 
 -- one after another
-unfoldable pub loadNodes : List Entry → List ℕ → List ℕ
+unfoldable pub loadNodes : List SavedNode → List ℕ → List ℕ
 loadNodes [] mem = mem
 loadNodes (e ∷ es) mem = loadNodes es (loadNode e mem)
 

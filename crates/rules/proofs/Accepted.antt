@@ -10,8 +10,8 @@ use lib.Dec.{eqb}
 use borrow.Author.Tests.{leb-true, eqb-true, ltb-true}
 use Rattle.rules.specs.Bytes.{Bytes}
 use Rattle.rules.specs.Fields.{read, get, fields}
-use Rattle.rules.specs.Saved.{Entry, nodeRow, optionsRow, trailerRow, nodeBytes, nodesBytes, optionsBytes, trailerBytes, encode, nodeAt, behind, nodesAt, endAt, optionsAt, optionsIn, trailerIn, offsetOf, recordsOf, nextOf, counterIn, stateOf, frame, laidOut, valid, accepted}
-use Rattle.rules.specs.RoundTrip.{EntriesFit, Fits}
+use Rattle.rules.specs.Saved.{SavedNode, nodeRow, optionsRow, trailerRow, nodeBytes, nodesBytes, optionsBytes, trailerBytes, encode, nodeAt, behind, nodesAt, endAt, optionsAt, optionsStart, trailerStart, offsetOf, recordsOf, nextOf, counterIn, stateOf, frame, laidOut, valid, accepted}
+use Rattle.rules.specs.RoundTrip.{SavedNodesFit, Fits}
 use Rattle.rules.proofs.Tests.{and-both, Holds, passed}
 use Rattle.rules.proofs.Fields.{fieldsAt, length-read, read-add, read-all, get-fits, total, fields-back}
 
@@ -48,8 +48,8 @@ unfolding nodesAt
 nodes-count b zero at = refl
 nodes-count b (suc k) at = ap suc (nodes-count b k (behind b at))
 
-nodes-fit : (b : List ℕ) (k at : ℕ) → Bytes b → EntriesFit (nodesAt b k at)
-unfolding EntriesFit nodesAt nodeAt
+nodes-fit : (b : List ℕ) (k at : ℕ) → Bytes b → SavedNodesFit (nodesAt b k at)
+unfolding SavedNodesFit nodesAt nodeAt
 nodes-fit b zero at h = tt
 nodes-fit b (suc k) at h = (
   record {
@@ -66,10 +66,10 @@ clauses b a = and-both (laidOut b) (valid (stateOf b)) a
 
 module _ (b : List ℕ) (h : Bytes b) (a : accepted b ≡ true) where
   abbrev E : ℕ
-  E = optionsIn b
+  E = optionsStart b
 
   abbrev t : ℕ
-  t = trailerIn b
+  t = trailerStart b
 
   laid : Holds (frame b ++ (eqb (endAt b (recordsOf b) 0) E ∷ []))
   unfolding laidOut
@@ -104,7 +104,7 @@ module _ (b : List ℕ) (h : Bytes b) (a : accepted b ≡ true) where
       simp add-assoc at (fields-back trailerRow b t h) in
       rw (offset-is, v, z) at r
 
-  abbrev N : List Entry
+  abbrev N : List SavedNode
   N = nodesAt b (recordsOf b) 0
 
   N-length : length (nodesBytes N) ≡ E

@@ -18,7 +18,7 @@ use Rattle.rules.specs.Outcome.{Outcome}
 use Rattle.rules.specs.Mount.{allocation}
 use Rattle.rules.specs.Create.{Creation, outside, unknown, badOptions, tooSmall, newInstance, createRule}
 use Rattle.rules.specs.Saved.{stateOf}
-use Rattle.rules.specs.Restore.{entriesFor, nodesFrom, noNodes, fresh, restoredTo}
+use Rattle.rules.specs.Restore.{savedNodes, nodesFrom, noNodes, fresh, restoredTo}
 use Rattle.rules.specs.Calls.{Call, rule}
 use Rattle.rules.specs.Driven.{Typed, creation, call, Rises, Below, Named, Unique, Shape, IsAt, MountIn, Mounted, Facts, EveryDriven, EveryReached}
 use Rattle.rules.proofs.Tests.{le-or-lt, and-both, or-neither}
@@ -66,7 +66,7 @@ module _ (i : Instance) (b : List ℕ) (f : Facts i) (bytes : Bytes b) (ok : Res
       let s = stateOf b in
       let v = valid-shape s (clauses b (ok .is-accepted) .1) in
       let w = fits b bytes (ok .is-accepted) in
-      let shape : Shape (entriesFor (nodesFrom (s .nodes))) (s .next) = rw (entries-from (s .nodes)) (v .2) in
+      let shape : Shape (savedNodes (nodesFrom (s .nodes))) (s .next) = rw (entries-from (s .nodes)) (v .2) in
       let size : length (nodesFrom (s .nodes)) ≡ length (s .nodes) = sym (entries-length (nodesFrom (s .nodes))) ∙ ap length (entries-from (s .nodes)) in
       record {
         shape = shape;
@@ -121,7 +121,7 @@ new-not-held k =
 module _ (bytes : ℕ) (q : Creation) (mask : q .known < 2 ^ 64) (size : tooSmall bytes (q .capacity) ≡ false) (known : badOptions (q .known) (q .options) ≡ false)
     (maps : badMapping (q .options .mapping) ≡ false) where
   new-facts : Facts (newInstance q)
-  unfolding newInstance unknown entriesFor Rises Below Named Unique
+  unfolding newInstance unknown savedNodes Rises Below Named Unique
   new-facts =
       let n = q .capacity in
       let o = q .options in

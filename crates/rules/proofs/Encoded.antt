@@ -9,21 +9,21 @@ use lib.ListN.{length, length-append}
 use borrow.Author.Tests.{le-leb, lt-ltb, eq-eqb}
 use Rattle.rules.specs.Fields.{read, get, fields}
 use Rattle.rules.specs.Instance.{Options}
-use Rattle.rules.specs.Saved.{Entry, State, nodeRow, optionsRow, trailerRow, nodeBytes, nodesBytes, optionsBytes, trailerBytes, encode, nodeAt, behind, nodesAt, endAt, optionsAt, optionsIn, offsetOf, recordsOf, nextOf, counterIn, stateOf, laidOut, valid, accepted}
-use Rattle.rules.specs.RoundTrip.{EntryFits, EntriesFit, Fits}
+use Rattle.rules.specs.Saved.{SavedNode, State, nodeRow, optionsRow, trailerRow, nodeBytes, nodesBytes, optionsBytes, trailerBytes, encode, nodeAt, behind, nodesAt, endAt, optionsAt, optionsStart, offsetOf, recordsOf, nextOf, counterIn, stateOf, laidOut, valid, accepted}
+use Rattle.rules.specs.RoundTrip.{SavedNodeFits, SavedNodesFit, Fits}
 use Rattle.rules.proofs.Tests.{pass}
 use Rattle.rules.proofs.Fields.{fieldsAt, read-behind, total, Fit, fields-length, fields-read}
 
 -- ---- one record, written and read
 
-abbrev headOf : Entry → List ℕ
+abbrev headOf : SavedNode → List ℕ
 headOf n = n .number ∷ n .above ∷ length (n .called) ∷ []
 
-head-fit : (n : Entry) → EntryFits n → Fit nodeRow (headOf n)
+head-fit : (n : SavedNode) → SavedNodeFits n → Fit nodeRow (headOf n)
 unfolding Fit
 head-fit n f = (f .number, (f .above, (f .called, tt)))
 
-module _ (n : Entry) (pre post : List ℕ) (at : ℕ) (e : length pre ≡ at) (f : EntryFits n) where
+module _ (n : SavedNode) (pre post : List ℕ) (at : ℕ) (e : length pre ≡ at) (f : SavedNodeFits n) where
   abbrev head : List ℕ
   head = fields nodeRow (headOf n)
 
@@ -58,26 +58,26 @@ module _ (n : Entry) (pre post : List ℕ) (at : ℕ) (e : length pre ≡ at) (f
   node-behind : behind whole at ≡ at + 18 + length (n .called)
   node-behind = ap (λ (k : ℕ). at + 18 + k) size
 
-pub node-length : (n : Entry) → length (nodeBytes n) ≡ 18 + length (n .called)
+pub node-length : (n : SavedNode) → length (nodeBytes n) ≡ 18 + length (n .called)
 unfolding nodeBytes total
 node-length n = length-append (fields nodeRow _) (n .called) ∙ ap (λ (k : ℕ). k + length (n .called)) (fields-length nodeRow (headOf n) refl)
 
 -- ---- records one behind the other
 
-regroup : (n : Entry) (ns : List Entry) (pre post : List ℕ)
+regroup : (n : SavedNode) (ns : List SavedNode) (pre post : List ℕ)
     → pre ++ (nodesBytes (n ∷ ns) ++ post) ≡ pre ++ (fields nodeRow (headOf n) ++ (n .called ++ (nodesBytes ns ++ post)))
 unfolding nodesBytes nodeBytes
 regroup n ns pre post = simp append-assoc
 
-rest-behind : (n : Entry) (ns : List Entry) (pre post : List ℕ) → pre ++ (nodesBytes (n ∷ ns) ++ post) ≡ (pre ++ nodeBytes n) ++ (nodesBytes ns ++ post)
+rest-behind : (n : SavedNode) (ns : List SavedNode) (pre post : List ℕ) → pre ++ (nodesBytes (n ∷ ns) ++ post) ≡ (pre ++ nodeBytes n) ++ (nodesBytes ns ++ post)
 unfolding nodesBytes
 rest-behind n ns pre post = simp append-assoc
 
-rest-length : (n : Entry) (pre : List ℕ) (at : ℕ) → length pre ≡ at → length (pre ++ nodeBytes n) ≡ at + 18 + length (n .called)
+rest-length : (n : SavedNode) (pre : List ℕ) (at : ℕ) → length pre ≡ at → length (pre ++ nodeBytes n) ≡ at + 18 + length (n .called)
 rest-length n pre at e = omega (arith, length-append pre (nodeBytes n), node-length n)
 
-nodes-read : (ns : List Entry) (pre post : List ℕ) (at : ℕ) → length pre ≡ at → EntriesFit ns → nodesAt (pre ++ (nodesBytes ns ++ post)) (length ns) at ≡ ns
-unfolding nodesAt EntriesFit
+nodes-read : (ns : List SavedNode) (pre post : List ℕ) (at : ℕ) → length pre ≡ at → SavedNodesFit ns → nodesAt (pre ++ (nodesBytes ns ++ post)) (length ns) at ≡ ns
+unfolding nodesAt SavedNodesFit
 nodes-read [] pre post at e f = refl
 nodes-read (n ∷ ns) pre post at e f =
     let b : List ℕ = pre ++ (nodesBytes (n ∷ ns) ++ post) in
@@ -89,9 +89,9 @@ nodes-read (n ∷ ns) pre post at e f =
     ∙ nodes-read ns (pre ++ nodeBytes n) post (at + 18 + length (n .called)) (rest-length n pre at e) (f .1) in
     λ i. first i ∷ (ap (nodesAt b (length ns)) on ∙ rest) i
 
-nodes-end : (ns : List Entry) (pre post : List ℕ) (at : ℕ) → length pre ≡ at → EntriesFit ns
+nodes-end : (ns : List SavedNode) (pre post : List ℕ) (at : ℕ) → length pre ≡ at → SavedNodesFit ns
     → endAt (pre ++ (nodesBytes ns ++ post)) (length ns) at ≡ at + length (nodesBytes ns)
-unfolding endAt EntriesFit nodesBytes
+unfolding endAt SavedNodesFit nodesBytes
 nodes-end [] pre post at e f = omega arith
 nodes-end (n ∷ ns) pre post at e f =
     let b : List ℕ = pre ++ (nodesBytes (n ∷ ns) ++ post) in
@@ -177,7 +177,7 @@ module _ (s : State) (f : Fits s) where
       let r : get 4 b (L + 32 + 4) ≡ length (s .nodes) = cc in
       rw at-trailer r
 
-  options-read : optionsAt b (optionsIn b) ≡ o
+  options-read : optionsAt b (optionsStart b) ≡ o
   unfolding optionsAt
   options-read =
       let e = options-places in

@@ -9,20 +9,20 @@ use lib.Dec.{eqb}
 use borrow.Author.Tests.{eqb-true, eq-eqb, not-true, leb-true, ltb-true, lt-ltb}
 use Rattle.rules.specs.Numbers.{rootNumber, topNumber}
 use Rattle.rules.specs.Bytes.{same}
-use Rattle.rules.specs.Saved.{Entry, State, lastNumber, present, used, goodName, goodNode, goodNodes, valid}
+use Rattle.rules.specs.Saved.{SavedNode, State, lastNumber, present, used, goodName, goodNode, goodNodes, valid}
 use Rattle.rules.specs.Driven.{Rises, Below, Named, Unique, Shape}
 use Rattle.rules.proofs.Tests.{and-both, or-neither, pass, passed}
 use Rattle.rules.proofs.Shape.{beside, beside-sym, rises-end}
 
 -- the tests of a good record, one by one
-pub record Good (next : ℕ) (before : List Entry) (e : Entry) : Type 0 where
+pub record Good (next : ℕ) (before : List SavedNode) (e : SavedNode) : Type 0 where
   pub rises : lastNumber before < e .number
   pub under : e .number < next
   pub named : goodName (e .called) ≡ true
   pub parent : present (e .above) before ≡ true
   pub alone : used (e .above) (e .called) before ≡ false
 
-pub good-is : (next : ℕ) (before : List Entry) (e : Entry) → goodNode next before e ≡ true → Good next before e
+pub good-is : (next : ℕ) (before : List SavedNode) (e : SavedNode) → goodNode next before e ≡ true → Good next before e
 unfolding goodNode
 good-is next before e h =
     let t = passed _ h in
@@ -34,16 +34,16 @@ good-is next before e h =
       alone = not-true _ (t .1 .1 .1 .1 .0);
     }
 
-is-good : (next : ℕ) (before : List Entry) (e : Entry) → Good next before e → goodNode next before e ≡ true
+is-good : (next : ℕ) (before : List SavedNode) (e : SavedNode) → Good next before e → goodNode next before e ≡ true
 unfolding goodNode
 is-good next before e g =
     pass _ (lt-ltb (lastNumber before) (e .number) (g .rises), (lt-ltb (e .number) next (g .under), (g .named, (g .parent, (rw (g .alone), tt)))))
 
 -- the numbers before are at most the last one's
-Falling : List Entry → Type 0
+Falling : List SavedNode → Type 0
 Falling before = (x : ℕ) → present x before ≡ true → (1 ≤ x) × (x ≤ lastNumber before)
 
-falling-more : (before : List Entry) (e : Entry) → Falling before → lastNumber before < e .number → Falling (e ∷ before)
+falling-more : (before : List SavedNode) (e : SavedNode) → Falling before → lastNumber before < e .number → Falling (e ∷ before)
 unfolding Falling present lastNumber
 falling-more before e f l x = go (eqb (e .number) x) refl
   where
@@ -56,19 +56,19 @@ unfolding Falling present lastNumber
 falling-nil x p = (omega (arith, eqb-true x rootNumber p), omega (arith, eqb-true x rootNumber p))
 
 -- d stands among those before: a name that is not used there is not d's
-Among : Entry → List Entry → Type 0
+Among : SavedNode → List SavedNode → Type 0
 Among d before = (x : ℕ) (p : List ℕ) → used x p before ≡ false → (eqb (d .above) x && same (d .called) p) ≡ false
 
-among-first : (d : Entry) (before : List Entry) → Among d (d ∷ before)
+among-first : (d : SavedNode) (before : List SavedNode) → Among d (d ∷ before)
 unfolding Among used
 among-first d before x p u = or-neither (eqb (d .above) x && same (d .called) p) (used x p before) u .0
 
-among-more : (d e : Entry) (before : List Entry) → Among d before → Among d (e ∷ before)
+among-more : (d e : SavedNode) (before : List SavedNode) → Among d before → Among d (e ∷ before)
 unfolding Among used
 among-more d e before a x p u = a x p (or-neither (eqb (e .above) x && same (e .called) p) (used x p before) u .1)
 
 module _ (next : ℕ) where
-  unused-later : (d : Entry) (es before : List Entry) → Among d before → goodNodes next before es ≡ true → used (d .above) (d .called) es ≡ false
+  unused-later : (d : SavedNode) (es before : List SavedNode) → Among d before → goodNodes next before es ≡ true → used (d .above) (d .called) es ≡ false
   unfolding used goodNodes Among
   unused-later d [] before a h = refl
   unused-later d (e ∷ es) before a h =
@@ -76,13 +76,13 @@ module _ (next : ℕ) where
       let g = good-is next before e (t .0) in
       rw (beside-sym e d ∙ a (e .above) (e .called) (g .alone)) (unused-later d es (e ∷ before) (among-more d e before a) (t .1))
 
-  record Rest (low : ℕ) (es : List Entry) : Type 0 where
+  record Rest (low : ℕ) (es : List SavedNode) : Type 0 where
     rises : Rises low es next
     below : Below es
     named : Named es
     unique : Unique es
 
-  good-rest : (es before : List Entry) → Falling before → goodNodes next before es ≡ true → lastNumber before < next → Rest (lastNumber before + 1) es
+  good-rest : (es before : List SavedNode) → Falling before → goodNodes next before es ≡ true → lastNumber before < next → Rest (lastNumber before + 1) es
   unfolding goodNodes Rises Below Named Unique lastNumber Falling
   good-rest [] before f h l = record { rises = omega arith; below = tt; named = tt; unique = tt }
   good-rest (e ∷ es) before f h l =
@@ -97,7 +97,7 @@ module _ (next : ℕ) where
         unique = (unused-later e es (e ∷ before) (among-first e before) (t .1), r .unique);
       }
 
-good-shape : (next : ℕ) (es : List Entry) → 2 ≤ next → goodNodes next [] es ≡ true → Shape es next
+good-shape : (next : ℕ) (es : List SavedNode) → 2 ≤ next → goodNodes next [] es ≡ true → Shape es next
 unfolding lastNumber
 good-shape next es l h =
     let r = good-rest next es [] falling-nil h (omega arith) in
@@ -113,29 +113,29 @@ valid-shape s v =
 
 -- ---- the parents of those left are before, or among those left
 
-unfoldable pub HasNumber : ℕ → List Entry → Type 0
+unfoldable pub HasNumber : ℕ → List SavedNode → Type 0
 HasNumber x [] = ⊥
 HasNumber x (e ∷ es) = (e .number ≡ x) ⊎ HasNumber x es
 
-unfoldable pub Parents : List Entry → List Entry → List Entry → Type 0
+unfoldable pub Parents : List SavedNode → List SavedNode → List SavedNode → Type 0
 Parents before left [] = Unit {0}
 Parents before left (e ∷ es) = ((present (e .above) before ≡ true) ⊎ HasNumber (e .above) left) × Parents before left es
 
-in-above : (low high x : ℕ) (es : List Entry) → Rises low es high → HasNumber x es → low ≤ x
+in-above : (low high x : ℕ) (es : List SavedNode) → Rises low es high → HasNumber x es → low ≤ x
 unfolding HasNumber Rises
 in-above low high x [] r h = absurd h
 in-above low high x (e ∷ es) r (inl h) = omega (arith, r .0)
 in-above low high x (e ∷ es) r (inr h) = omega (arith, r .0, in-above (e .number + 1) high x es (r .1) h)
 
-present-more : (x : ℕ) (e : Entry) (before : List Entry) → present x before ≡ true → present x (e ∷ before) ≡ true
+present-more : (x : ℕ) (e : SavedNode) (before : List SavedNode) → present x before ≡ true → present x (e ∷ before) ≡ true
 unfolding present
 present-more x e before h = rw (h, or-true)
 
-present-first : (x : ℕ) (e : Entry) (before : List Entry) → e .number ≡ x → present x (e ∷ before) ≡ true
+present-first : (x : ℕ) (e : SavedNode) (before : List SavedNode) → e .number ≡ x → present x (e ∷ before) ≡ true
 unfolding present
 present-first x e before h = rw (eq-eqb (e .number) x h)
 
-parents-on : (e : Entry) (before left es : List Entry) → Parents before (e ∷ left) es → Parents (e ∷ before) left es
+parents-on : (e : SavedNode) (before left es : List SavedNode) → Parents before (e ∷ left) es → Parents (e ∷ before) left es
 unfolding Parents HasNumber
 parents-on e before left [] p = tt
 parents-on e before left (d ∷ es) p = (
@@ -145,11 +145,11 @@ parents-on e before left (d ∷ es) p = (
 
 -- ---- the names of those left are not used before
 
-unfoldable Unused : List Entry → List Entry → Type 0
+unfoldable Unused : List SavedNode → List SavedNode → Type 0
 Unused before [] = Unit {0}
 Unused before (e ∷ es) = (used (e .above) (e .called) before ≡ false) × Unused before es
 
-unused-on : (e : Entry) (before es : List Entry) → Unused before es → used (e .above) (e .called) es ≡ false → Unused (e ∷ before) es
+unused-on : (e : SavedNode) (before es : List SavedNode) → Unused before es → used (e .above) (e .called) es ≡ false → Unused (e ∷ before) es
 unfolding Unused used
 unused-on e before [] u h = tt
 unused-on e before (d ∷ es) u h =
@@ -158,7 +158,7 @@ unused-on e before (d ∷ es) u h =
 
 -- ---- so they are good
 
-left-good : (next : ℕ) (es before : List Entry) → Rises (lastNumber before + 1) es next → Below es → Named es → Unique es → Unused before es → Parents before es es
+left-good : (next : ℕ) (es before : List SavedNode) → Rises (lastNumber before + 1) es next → Below es → Named es → Unique es → Unused before es → Parents before es es
     → goodNodes next before es ≡ true
 unfolding goodNodes Rises Below Named Unique Unused Parents lastNumber
 left-good next [] before r b n u v p = refl
@@ -175,12 +175,12 @@ left-good next (e ∷ es) before r b n u v p =
     rw (is-good next before e g)
     (left-good next es (e ∷ before) (r .1) (b .2) (n .1) (u .1) (unused-on e before es (v .1) (u .0)) (parents-on e before es es (p .1)))
 
-none-unused : (es : List Entry) → Unused [] es
+none-unused : (es : List SavedNode) → Unused [] es
 unfolding Unused used
 none-unused [] = tt
 none-unused (e ∷ es) = (refl, none-unused es)
 
 -- records of that shape, each with its parent among them
-pub shape-good : (next : ℕ) (es : List Entry) → Shape es next → Parents [] es es → goodNodes next [] es ≡ true
+pub shape-good : (next : ℕ) (es : List SavedNode) → Shape es next → Parents [] es es → goodNodes next [] es ≡ true
 unfolding lastNumber
 shape-good next es s p = left-good next es [] (s .rises) (s .below) (s .named) (s .unique) (none-unused es) p

@@ -27,6 +27,7 @@ pub mod Held
 pub mod MountFacts
 pub mod Create
 pub mod Driven
+pub mod Records
 pub mod Proper
 pub mod Restored
 pub mod Restart

@@ -17,7 +17,7 @@ use Rattle.rules.specs.Instance.{Slot, Tree, Instance, withIndexes, with
 use Rattle.rules.specs.Outcome.{Outcome}
 use Rattle.rules.specs.Mount.{Request, planned, needed, noRoom, freedSlots, mountOn, placed, allocation, stepped, walkedTo, ended, mountAs, restoreAs}
 use Rattle.rules.specs.Unmount.{taken, unmounts}
-use Rattle.rules.specs.Restore.{entriesFor}
+use Rattle.rules.specs.Restore.{savedNodes}
 use Rattle.rules.specs.Driven.{Shape, Facts, Rooted}
 use Rattle.rules.proofs.Tests.{and-rest, or-neither}
 use Rattle.rules.proofs.Rows.{first-of, either}
@@ -31,7 +31,7 @@ use Rattle.rules.proofs.Held.{Held, held-grown, held-placed, held-taken
 
 -- the tree, apart from its mounts
 record FineTree (capacity : ℕ) (t : Tree) : Type 0 where
-  shape : Shape (entriesFor (t .nodes)) (t .next)
+  shape : Shape (savedNodes (t .nodes)) (t .next)
   top : t .next ≤ topNumber
   room : 1 + length (t .nodes) ≤ capacity
 

@@ -13,7 +13,7 @@ use Rattle.rules.specs.Instance.{Tree, Instance, mountIn, mountOf, setMo
 use Rattle.rules.specs.Outcome.{Outcome, nothing, says}
 use Rattle.rules.specs.Mount.{Request, planned, mountOn, placed, allocation, walkedTo, stepped, ended, mountAs, restoreAs}
 use Rattle.rules.specs.Unmount.{reached, taken, unmounts}
-use Rattle.rules.specs.Saved.{Entry, stateOf}
+use Rattle.rules.specs.Saved.{SavedNode, stateOf}
 use Rattle.rules.specs.Restore.{nodesFrom, fresh, restoredTo}
 use Rattle.rules.specs.Calls.{mount, restore-mount, umount, restore}
 use Rattle.rules.specs.Stays.{MountAfter, same-mount, by-mount, by-restored, by-unmount, EveryMountOn}
@@ -138,7 +138,7 @@ unfolding unmounts
 unmounted i path x m q y =
     elim (ℕ-discrete x y) [ yes e ↦ by-unmount path refl refl (q ∙ ap {B = Option ℕ} some e) | no n ↦ same-mount (taken-same x y n i) ]
 
-bare-nodes : (es : List Entry) (y : ℕ) → on (nodesFrom es) y ≡ none
+bare-nodes : (es : List SavedNode) (y : ℕ) → on (nodesFrom es) y ≡ none
 unfolding nodesFrom nodeIn
 bare-nodes [] y = refl
 bare-nodes (e ∷ es) y = go (eqb (e .number) y) (bare-nodes es y)

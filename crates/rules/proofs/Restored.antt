@@ -15,9 +15,9 @@ use Rattle.rules.specs.Tree.{Node, isNone, nodeIn, isKnown}
 use Rattle.rules.specs.Instance.{Instance}
 use Rattle.rules.specs.Outcome.{Outcome, firstOf}
 use Rattle.rules.specs.Create.{unknown}
-use Rattle.rules.specs.Saved.{Entry, present, goodName, valid, encode, accepted, stateOf}
-use Rattle.rules.specs.Restore.{entriesFor, nodesFrom, saved, restoredTo, restoreRule}
-use Rattle.rules.specs.RoundTrip.{EntriesFit, Fits, NamesTo}
+use Rattle.rules.specs.Saved.{SavedNode, present, goodName, valid, encode, accepted, stateOf}
+use Rattle.rules.specs.Restore.{savedNodes, nodesFrom, saved, restoredTo, restoreRule}
+use Rattle.rules.specs.RoundTrip.{SavedNodesFit, Fits, NamesTo}
 use Rattle.rules.specs.Driven.{Rises, Below, Named, Facts, Present}
 use Rattle.rules.specs.Restored.{SaveThenRestore, GoneIsBadSave, RestoreThenSave, NoLonger}
 use Rattle.rules.proofs.Tests.{untrue, pass, passed}
@@ -32,17 +32,17 @@ use Rattle.rules.proofs.Proper.{proper-parents, every-valid, is-bad-sav
 
 -- ---- the parents
 
-node-in : (ns : List Node) (x : ℕ) → isNone (nodeIn ns x) ≡ false → HasNumber x (entriesFor ns)
-unfolding nodeIn entriesFor HasNumber
+node-in : (ns : List Node) (x : ℕ) → isNone (nodeIn ns x) ≡ false → HasNumber x (savedNodes ns)
+unfolding nodeIn savedNodes HasNumber
 node-in [] x h = absurd (true≢false h)
 node-in (n ∷ ns) x h = go (eqb (n .number) x) refl h (node-in ns x)
   where
-    go : (b : Bool) → eqb (n .number) x ≡ b → isNone (cond b (some n) (nodeIn ns x)) ≡ false → (isNone (nodeIn ns x) ≡ false → HasNumber x (entriesFor ns)) → (n .number ≡ x) ⊎ HasNumber x (entriesFor ns)
+    go : (b : Bool) → eqb (n .number) x ≡ b → isNone (cond b (some n) (nodeIn ns x)) ≡ false → (isNone (nodeIn ns x) ≡ false → HasNumber x (savedNodes ns)) → (n .number ≡ x) ⊎ HasNumber x (savedNodes ns)
     go true e f k = inl (eqb-true (n .number) x e)
     go false e f k = inr (k f)
 
-in-node : (ns : List Node) (x : ℕ) → HasNumber x (entriesFor ns) → isNone (nodeIn ns x) ≡ false
-unfolding nodeIn entriesFor HasNumber
+in-node : (ns : List Node) (x : ℕ) → HasNumber x (savedNodes ns) → isNone (nodeIn ns x) ≡ false
+unfolding nodeIn savedNodes HasNumber
 in-node [] x h = absurd h
 in-node (n ∷ ns) x (inl h) = rw (eq-eqb (n .number) x h)
 in-node (n ∷ ns) x (inr h) = go (eqb (n .number) x) (in-node ns x h)
@@ -51,17 +51,17 @@ in-node (n ∷ ns) x (inr h) = go (eqb (n .number) x) (in-node ns x h)
     go true k = refl
     go false k = k
 
-all-parents : (all ns : List Node) → Present all ns → Parents [] (entriesFor all) (entriesFor ns)
-unfolding Present Parents entriesFor isKnown present
+all-parents : (all ns : List Node) → Present all ns → Parents [] (savedNodes all) (savedNodes ns)
+unfolding Present Parents savedNodes isKnown present
 all-parents all [] p = tt
 all-parents all (n ∷ ns) p = (go (eqb (n .above) rootNumber) refl (p .0), all-parents all ns (p .1))
   where
-    go : (b : Bool) → eqb (n .above) rootNumber ≡ b → (b || not (isNone (nodeIn all (n .above)))) ≡ true → (eqb (n .above) rootNumber ≡ true) ⊎ HasNumber (n .above) (entriesFor all)
+    go : (b : Bool) → eqb (n .above) rootNumber ≡ b → (b || not (isNone (nodeIn all (n .above)))) ≡ true → (eqb (n .above) rootNumber ≡ true) ⊎ HasNumber (n .above) (savedNodes all)
     go true e f = inl e
     go false e f = inr (node-in all (n .above) (not-true _ f))
 
-parents-all : (all ns : List Node) → Parents [] (entriesFor all) (entriesFor ns) → Present all ns
-unfolding Present Parents entriesFor isKnown present
+parents-all : (all ns : List Node) → Parents [] (savedNodes all) (savedNodes ns) → Present all ns
+unfolding Present Parents savedNodes isKnown present
 parents-all all [] p = tt
 parents-all all (n ∷ ns) p = (⊎-elim (λ h. rw h) (λ h. rw (in-node all (n .above) h, or-true)) (p .0), parents-all all ns (p .1))
 
@@ -71,26 +71,26 @@ pub name-length : (p : List ℕ) → goodName p ≡ true → length p ≤ 255
 unfolding goodName
 name-length p g = leb-true (length p) 255 (passed _ g .1 .0)
 
-entries-fit : (low next : ℕ) (es : List Entry) → next ≤ topNumber → Rises low es next → Below es → Named es → EntriesFit es
-unfolding Rises Below Named EntriesFit
+entries-fit : (low next : ℕ) (es : List SavedNode) → next ≤ topNumber → Rises low es next → Below es → Named es → SavedNodesFit es
+unfolding Rises Below Named SavedNodesFit
 entries-fit low next [] t r b n = tt
 entries-fit low next (e ∷ es) t r b n =
     let l = rises-end (e .number + 1) next es (r .1) in
     (record { number = omega arith; above = omega (arith, b .1); called = omega (arith, name-length (e .called) (n .0)) }, entries-fit (e .number + 1) next es t (r .1) (b .2) (n .1))
 
-names-to : (es : List Entry) → Named es → NamesTo 255 es
+names-to : (es : List SavedNode) → Named es → NamesTo 255 es
 unfolding Named NamesTo
 names-to [] n = tt
 names-to (e ∷ es) n = (name-length (e .called) (n .0), names-to es (n .1))
 
 module _ (i : Instance) (f : Facts i) where
-  few : length (entriesFor (i .tree .nodes)) ≤ 1023
+  few : length (savedNodes (i .tree .nodes)) ≤ 1023
   few = omega (arith, entries-length (i .tree .nodes), f .room, f .capacity)
 
   pub saved-fits : Fits (saved i)
   unfolding saved
   saved-fits =
-      let es = entriesFor (i .tree .nodes) in
+      let es = savedNodes (i .tree .nodes) in
       record {
         nodes = entries-fit 2 (i .tree .next) es (f .top) (f .shape .rises) (f .shape .below) (f .shape .named);
         options = f .options;
@@ -103,7 +103,7 @@ module _ (i : Instance) (f : Facts i) where
   saved-valid : Present (i .tree .nodes) (i .tree .nodes) → valid (saved i) ≡ true
   unfolding valid saved
   saved-valid p =
-      let es = entriesFor (i .tree .nodes) in
+      let es = savedNodes (i .tree .nodes) in
       pass _ (
         le-leb 2 (i .tree .next) (rises-end 2 (i .tree .next) es (f .shape .rises)),
         (
@@ -123,7 +123,7 @@ pub no-longer : NoLonger
 unfolding saved
 no-longer i d =
     let f = facts i d in
-    longest .most (saved i) (few i f) (names-to (entriesFor (i .tree .nodes)) (f .shape .named))
+    longest .most (saved i) (few i f) (names-to (savedNodes (i .tree .nodes)) (f .shape .named))
 
 -- the theorem: what was saved comes back
 pub save-then-restore : SaveThenRestore
@@ -135,7 +135,7 @@ save-then-restore i j d p fr mask room =
     let back : stateOf (encode (saved i)) ≡ saved i = both .1 in
     let bits : unknown (j .fixed .known) (stateOf (encode (saved i)) .options) ≡ false = rw (back, mask) (f .within) in
     let size : ltb (j .fixed .capacity) (1 + length (stateOf (encode (saved i)) .nodes)) ≡ false =
-    rw back (le-ltb (j .fixed .capacity) (1 + length (entriesFor (i .tree .nodes))) (omega (arith, entries-length (i .tree .nodes), room))) in
+    rw back (le-ltb (j .fixed .capacity) (1 + length (savedNodes (i .tree .nodes))) (omega (arith, entries-length (i .tree .nodes), room))) in
     rw (fr, ok, bits, size, back) (record { done = refl; tree = refl; counter = refl; options = refl })
 
 -- the theorem: where a parent is gone it is BADSAVE
@@ -159,7 +159,7 @@ unfolding saved restoredTo
 restore-then-save j b h e =
     let d = restore-done j b e in
     let s = stateOf b in
-    let ns : entriesFor (nodesFrom (s .nodes)) ≡ s .nodes = entries-from (s .nodes) in
+    let ns : savedNodes (nodesFrom (s .nodes)) ≡ s .nodes = entries-from (s .nodes) in
     ap (λ (i : Instance). encode (saved i)) (d .1)
     ∙ ap encode (λ t. record { nodes = ns t; options = s .options; next = s .next; counter = s .counter })
     ∙ sym (no-other b h (d .0) .bytes)

@@ -5,8 +5,8 @@ use Prim.Native.Nat.{_*_, _≤_}
 use native.Mathlib.Omega.{arith}
 use lib.ListN.{length, length-append}
 use Rattle.rules.specs.Create.{newInstance}
-use Rattle.rules.specs.Saved.{Entry, nodeBytes, nodesBytes}
-use Rattle.rules.specs.Restore.{saved, entriesFor}
+use Rattle.rules.specs.Saved.{SavedNode, nodeBytes, nodesBytes}
+use Rattle.rules.specs.Restore.{saved, savedNodes}
 use Rattle.rules.specs.RoundTrip.{ThereAndBack, NoOther, FreshLength, NamesTo, NamesOf, Longest}
 use Rattle.rules.proofs.Encoded.{node-length, encode-length, state-read, is-accepted}
 use Rattle.rules.proofs.Accepted.{clauses, written, fits}
@@ -23,15 +23,15 @@ no-other b h a = record { bytes = sym (written b h a); fits = fits b h a; good =
 
 -- the theorem: a fresh state has 56 bytes
 pub fresh-length : FreshLength
-unfolding saved newInstance entriesFor nodesBytes
+unfolding saved newInstance savedNodes nodesBytes
 fresh-length q = encode-length (saved (newInstance q))
 
-pub most-bytes : (ns : List Entry) → NamesTo 255 ns → length (nodesBytes ns) ≤ 273 * length ns
+pub most-bytes : (ns : List SavedNode) → NamesTo 255 ns → length (nodesBytes ns) ≤ 273 * length ns
 unfolding NamesTo nodesBytes
 most-bytes [] h = omega arith
 most-bytes (n ∷ ns) h = omega (arith, h .0, most-bytes ns (h .1), length-append (nodeBytes n) (nodesBytes ns), node-length n)
 
-exact-bytes : (ns : List Entry) → NamesOf 255 ns → length (nodesBytes ns) ≡ 273 * length ns
+exact-bytes : (ns : List SavedNode) → NamesOf 255 ns → length (nodesBytes ns) ≡ 273 * length ns
 unfolding NamesOf nodesBytes
 exact-bytes [] h = refl
 exact-bytes (n ∷ ns) h = omega (arith, h .0, exact-bytes ns (h .1), length-append (nodeBytes n) (nodesBytes ns), node-length n)

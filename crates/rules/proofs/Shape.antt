@@ -9,98 +9,98 @@ use lib.ListN.{length}
 use lib.Dec.{eqb}
 use Rattle.rules.specs.Bytes.{same}
 use Rattle.rules.specs.Tree.{Mount, Node, isChild, childIn, withMount, mountAt, without}
-use Rattle.rules.specs.Saved.{Entry, used, goodName}
-use Rattle.rules.specs.Restore.{entryFor, entriesFor, nodesFrom}
+use Rattle.rules.specs.Saved.{SavedNode, used, goodName}
+use Rattle.rules.specs.Restore.{savedNode, savedNodes, nodesFrom}
 use Rattle.rules.specs.Driven.{Rises, Below, Named, Unique, Shape}
 use Rattle.rules.proofs.Tests.{or-neither}
 use Rattle.rules.proofs.Same.{eqb-sym, same-sym}
 
 -- ---- nodes and entries
 
-pub entries-append : (xs ys : List Node) → entriesFor (xs ++ ys) ≡ entriesFor xs ++ entriesFor ys
-unfolding entriesFor
+pub entries-append : (xs ys : List Node) → savedNodes (xs ++ ys) ≡ savedNodes xs ++ savedNodes ys
+unfolding savedNodes
 entries-append [] ys = refl
-entries-append (x ∷ xs) ys = ap (λ (l : List Entry). entryFor x ∷ l) (entries-append xs ys)
+entries-append (x ∷ xs) ys = ap (λ (l : List SavedNode). savedNode x ∷ l) (entries-append xs ys)
 
-pub entries-mount : (m : Option Mount) (ns : List Node) (x : ℕ) → entriesFor (mountAt m ns x) ≡ entriesFor ns
-unfolding entriesFor mountAt
+pub entries-mount : (m : Option Mount) (ns : List Node) (x : ℕ) → savedNodes (mountAt m ns x) ≡ savedNodes ns
+unfolding savedNodes mountAt
 entries-mount m [] x = refl
 entries-mount m (n ∷ ns) x = go (eqb (n .number) x) (entries-mount m ns x)
   where
-    go : (b : Bool) → entriesFor (mountAt m ns x) ≡ entriesFor ns → entriesFor (cond b (withMount m n ∷ ns) (n ∷ mountAt m ns x)) ≡ entryFor n ∷ entriesFor ns
+    go : (b : Bool) → savedNodes (mountAt m ns x) ≡ savedNodes ns → savedNodes (cond b (withMount m n ∷ ns) (n ∷ mountAt m ns x)) ≡ savedNode n ∷ savedNodes ns
     go true e = refl
-    go false e = ap (λ (l : List Entry). entryFor n ∷ l) e
+    go false e = ap (λ (l : List SavedNode). savedNode n ∷ l) e
 
-pub entries-from : (es : List Entry) → entriesFor (nodesFrom es) ≡ es
-unfolding entriesFor nodesFrom
+pub entries-from : (es : List SavedNode) → savedNodes (nodesFrom es) ≡ es
+unfolding savedNodes nodesFrom
 entries-from [] = refl
-entries-from (e ∷ es) = ap (λ (l : List Entry). e ∷ l) (entries-from es)
+entries-from (e ∷ es) = ap (λ (l : List SavedNode). e ∷ l) (entries-from es)
 
-pub entries-length : (ns : List Node) → length (entriesFor ns) ≡ length ns
-unfolding entriesFor
+pub entries-length : (ns : List Node) → length (savedNodes ns) ≡ length ns
+unfolding savedNodes
 entries-length [] = refl
 entries-length (n ∷ ns) = ap suc (entries-length ns)
 
 -- a missing child is a name that is not used
-pub child-unused : (ns : List Node) (here : ℕ) (p : List ℕ) → childIn ns here p ≡ none → used here p (entriesFor ns) ≡ false
-unfolding childIn isChild entriesFor used
+pub child-unused : (ns : List Node) (here : ℕ) (p : List ℕ) → childIn ns here p ≡ none → used here p (savedNodes ns) ≡ false
+unfolding childIn isChild savedNodes used
 child-unused [] here p e = refl
 child-unused (n ∷ ns) here p e = go (eqb (n .above) here && same (n .called) p) e (child-unused ns here p)
   where
-    go : (b : Bool) → cond b (some (n .number)) (childIn ns here p) ≡ none → (childIn ns here p ≡ none → used here p (entriesFor ns) ≡ false) → (b || used here p (entriesFor ns)) ≡ false
+    go : (b : Bool) → cond b (some (n .number)) (childIn ns here p) ≡ none → (childIn ns here p ≡ none → used here p (savedNodes ns) ≡ false) → (b || used here p (savedNodes ns)) ≡ false
     go true f k = absurd (Option·none-ne-some (n .number) (sym f))
     go false f k = k f
 
 -- ---- the same parent and name, either way round
 
-abbrev pub beside : Entry → Entry → Bool
+abbrev pub beside : SavedNode → SavedNode → Bool
 beside d e = eqb (d .above) (e .above) && same (d .called) (e .called)
 
-pub beside-sym : (d e : Entry) → beside d e ≡ beside e d
+pub beside-sym : (d e : SavedNode) → beside d e ≡ beside e d
 beside-sym d e = rw (eqb-sym (d .above) (e .above), same-sym (d .called) (e .called))
 
 -- ---- one more
 
-rises-lower : (low low′ high : ℕ) (es : List Entry) → low′ ≤ low → Rises low es high → Rises low′ es high
+rises-lower : (low low′ high : ℕ) (es : List SavedNode) → low′ ≤ low → Rises low es high → Rises low′ es high
 unfolding Rises
 rises-lower low low′ high [] l r = omega arith
 rises-lower low low′ high (e ∷ es) l r = (omega (arith, r .0), r .1)
 
-pub rises-end : (low high : ℕ) (es : List Entry) → Rises low es high → low ≤ high
+pub rises-end : (low high : ℕ) (es : List SavedNode) → Rises low es high → low ≤ high
 unfolding Rises
 rises-end low high [] r = r
 rises-end low high (e ∷ es) r = omega (arith, r .0, rises-end (e .number + 1) high es (r .1))
 
-rises-more : (low high : ℕ) (es : List Entry) (e : Entry) → Rises low es high → e .number ≡ high → Rises low (es ++ (e ∷ [])) (high + 1)
+rises-more : (low high : ℕ) (es : List SavedNode) (e : SavedNode) → Rises low es high → e .number ≡ high → Rises low (es ++ (e ∷ [])) (high + 1)
 unfolding Rises
 rises-more low high [] e r q = (omega arith, omega arith)
 rises-more low high (d ∷ es) e r q = (r .0, rises-more (d .number + 1) high es e (r .1) q)
 
-below-more : (es : List Entry) (e : Entry) → Below es → 1 ≤ e .above → e .above < e .number → Below (es ++ (e ∷ []))
+below-more : (es : List SavedNode) (e : SavedNode) → Below es → 1 ≤ e .above → e .above < e .number → Below (es ++ (e ∷ []))
 unfolding Below
 below-more [] e b l h = (l, h, tt)
 below-more (d ∷ es) e b l h = (b .0, b .1, below-more es e (b .2) l h)
 
-named-more : (es : List Entry) (e : Entry) → Named es → goodName (e .called) ≡ true → Named (es ++ (e ∷ []))
+named-more : (es : List SavedNode) (e : SavedNode) → Named es → goodName (e .called) ≡ true → Named (es ++ (e ∷ []))
 unfolding Named
 named-more [] e n g = (g, tt)
 named-more (d ∷ es) e n g = (n .0, named-more es e (n .1) g)
 
-used-more : (es : List Entry) (d e : Entry) → used (d .above) (d .called) es ≡ false → beside e d ≡ false → used (d .above) (d .called) (es ++ (e ∷ [])) ≡ false
+used-more : (es : List SavedNode) (d e : SavedNode) → used (d .above) (d .called) es ≡ false → beside e d ≡ false → used (d .above) (d .called) (es ++ (e ∷ [])) ≡ false
 unfolding used
 used-more [] d e u f = rw f
 used-more (c ∷ es) d e u f =
     let o = or-neither (beside c d) (used (d .above) (d .called) es) u in
     rw (o .0) (used-more es d e (o .1) f)
 
-unique-more : (es : List Entry) (e : Entry) → Unique es → used (e .above) (e .called) es ≡ false → Unique (es ++ (e ∷ []))
+unique-more : (es : List SavedNode) (e : SavedNode) → Unique es → used (e .above) (e .called) es ≡ false → Unique (es ++ (e ∷ []))
 unfolding Unique used
 unique-more [] e u f = (refl, tt)
 unique-more (d ∷ es) e u f =
     let o = or-neither (beside d e) (used (e .above) (e .called) es) f in
     (used-more es d e (u .0) (beside-sym e d ∙ o .0), unique-more es e (u .1) (o .1))
 
-pub shape-more : (es : List Entry) (high : ℕ) (e : Entry) → Shape es high → e .number ≡ high → used (e .above) (e .called) es ≡ false → goodName (e .called) ≡ true
+pub shape-more : (es : List SavedNode) (high : ℕ) (e : SavedNode) → Shape es high → e .number ≡ high → used (e .above) (e .called) es ≡ false → goodName (e .called) ≡ true
     → 1 ≤ e .above → e .above < e .number → Shape (es ++ (e ∷ [])) (high + 1)
 shape-more es high e s q u g l h = record {
   rises = rises-more 2 high es e (s .rises) q;
@@ -111,55 +111,55 @@ shape-more es high e s q u g l h = record {
 
 -- ---- one less
 
-used-less : (ns : List Node) (x here : ℕ) (p : List ℕ) → used here p (entriesFor ns) ≡ false → used here p (entriesFor (without ns x)) ≡ false
-unfolding entriesFor without used
+used-less : (ns : List Node) (x here : ℕ) (p : List ℕ) → used here p (savedNodes ns) ≡ false → used here p (savedNodes (without ns x)) ≡ false
+unfolding savedNodes without used
 used-less [] x here p u = refl
 used-less (n ∷ ns) x here p u =
-    let o = or-neither (eqb (n .above) here && same (n .called) p) (used here p (entriesFor ns)) u in
+    let o = or-neither (eqb (n .above) here && same (n .called) p) (used here p (savedNodes ns)) u in
     go (eqb (n .number) x) (o .0) (o .1) (used-less ns x here p (o .1))
   where
-    go : (b : Bool) → (eqb (n .above) here && same (n .called) p) ≡ false → used here p (entriesFor ns) ≡ false → used here p (entriesFor (without ns x)) ≡ false
-        → used here p (entriesFor (cond b ns (n ∷ without ns x))) ≡ false
+    go : (b : Bool) → (eqb (n .above) here && same (n .called) p) ≡ false → used here p (savedNodes ns) ≡ false → used here p (savedNodes (without ns x)) ≡ false
+        → used here p (savedNodes (cond b ns (n ∷ without ns x))) ≡ false
     go true f g k = g
     go false f g k = rw (f, k)
 
-rises-less : (low high : ℕ) (ns : List Node) (x : ℕ) → Rises low (entriesFor ns) high → Rises low (entriesFor (without ns x)) high
-unfolding entriesFor without Rises
+rises-less : (low high : ℕ) (ns : List Node) (x : ℕ) → Rises low (savedNodes ns) high → Rises low (savedNodes (without ns x)) high
+unfolding savedNodes without Rises
 rises-less low high [] x r = r
 rises-less low high (n ∷ ns) x r = go (eqb (n .number) x) (rises-less (n .number + 1) high ns x (r .1))
   where
-    go : (b : Bool) → Rises (n .number + 1) (entriesFor (without ns x)) high → Rises low (entriesFor (cond b ns (n ∷ without ns x))) high
-    go true k = rises-lower (n .number + 1) low high (entriesFor ns) (omega (arith, r .0)) (r .1)
+    go : (b : Bool) → Rises (n .number + 1) (savedNodes (without ns x)) high → Rises low (savedNodes (cond b ns (n ∷ without ns x))) high
+    go true k = rises-lower (n .number + 1) low high (savedNodes ns) (omega (arith, r .0)) (r .1)
     go false k = (r .0, k)
 
-below-less : (ns : List Node) (x : ℕ) → Below (entriesFor ns) → Below (entriesFor (without ns x))
-unfolding entriesFor without Below
+below-less : (ns : List Node) (x : ℕ) → Below (savedNodes ns) → Below (savedNodes (without ns x))
+unfolding savedNodes without Below
 below-less [] x b = b
 below-less (n ∷ ns) x b = go (eqb (n .number) x) (below-less ns x (b .2))
   where
-    go : (t : Bool) → Below (entriesFor (without ns x)) → Below (entriesFor (cond t ns (n ∷ without ns x)))
+    go : (t : Bool) → Below (savedNodes (without ns x)) → Below (savedNodes (cond t ns (n ∷ without ns x)))
     go true k = b .2
     go false k = (b .0, b .1, k)
 
-named-less : (ns : List Node) (x : ℕ) → Named (entriesFor ns) → Named (entriesFor (without ns x))
-unfolding entriesFor without Named
+named-less : (ns : List Node) (x : ℕ) → Named (savedNodes ns) → Named (savedNodes (without ns x))
+unfolding savedNodes without Named
 named-less [] x h = h
 named-less (n ∷ ns) x h = go (eqb (n .number) x) (named-less ns x (h .1))
   where
-    go : (t : Bool) → Named (entriesFor (without ns x)) → Named (entriesFor (cond t ns (n ∷ without ns x)))
+    go : (t : Bool) → Named (savedNodes (without ns x)) → Named (savedNodes (cond t ns (n ∷ without ns x)))
     go true k = h .1
     go false k = (h .0, k)
 
-unique-less : (ns : List Node) (x : ℕ) → Unique (entriesFor ns) → Unique (entriesFor (without ns x))
-unfolding entriesFor without Unique
+unique-less : (ns : List Node) (x : ℕ) → Unique (savedNodes ns) → Unique (savedNodes (without ns x))
+unfolding savedNodes without Unique
 unique-less [] x u = u
 unique-less (n ∷ ns) x u = go (eqb (n .number) x) (unique-less ns x (u .1))
   where
-    go : (t : Bool) → Unique (entriesFor (without ns x)) → Unique (entriesFor (cond t ns (n ∷ without ns x)))
+    go : (t : Bool) → Unique (savedNodes (without ns x)) → Unique (savedNodes (cond t ns (n ∷ without ns x)))
     go true k = u .1
     go false k = (used-less ns x (n .above) (n .called) (u .0), k)
 
-pub shape-less : (ns : List Node) (x high : ℕ) → Shape (entriesFor ns) high → Shape (entriesFor (without ns x)) high
+pub shape-less : (ns : List Node) (x high : ℕ) → Shape (savedNodes ns) high → Shape (savedNodes (without ns x)) high
 shape-less ns x high s = record {
   rises = rises-less 2 high ns x (s .rises);
   below = below-less ns x (s .below);

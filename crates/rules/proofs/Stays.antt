@@ -12,8 +12,8 @@ use Rattle.rules.specs.Instance.{Tree, Instance, setMount}
 use Rattle.rules.specs.Outcome.{nothing, Outcome, refused, says}
 use Rattle.rules.specs.Mount.{Request, placed, allocation, stepped, walkedTo, ended, mountAs, restoreAs}
 use Rattle.rules.specs.Unmount.{taken, unmounts}
-use Rattle.rules.specs.Saved.{Entry, stateOf}
-use Rattle.rules.specs.Restore.{entriesFor, nodesFrom, fresh, restoredTo}
+use Rattle.rules.specs.Saved.{SavedNode, stateOf}
+use Rattle.rules.specs.Restore.{savedNodes, nodesFrom, fresh, restoredTo}
 use Rattle.rules.specs.Calls.{Call, mount, restore-mount, umount, restore}
 use Rattle.rules.specs.Driven.{Rises}
 use Rattle.rules.specs.Stays.{mountsIn, mountsOf, NoMounting, Stays, EveryStays, Absent, Distinct, NumbersOnce}
@@ -88,7 +88,7 @@ still-stays i c o s = record {
   next = λ n. omega (arith, ap (λ (j : Instance). j .tree .next) s);
 }
 
-no-mounts : (es : List Entry) → mountsIn (nodesFrom es) ≡ []
+no-mounts : (es : List SavedNode) → mountsIn (nodesFrom es) ≡ []
 unfolding mountsIn nodesFrom
 no-mounts [] = refl
 no-mounts (e ∷ es) = no-mounts es
@@ -119,13 +119,13 @@ stays = every-call Stays (record {
 
 -- ---- numbers
 
-absent : (ns : List Node) (x low high : ℕ) → x < low → Rises low (entriesFor ns) high → Absent x ns
-unfolding Absent entriesFor Rises
+absent : (ns : List Node) (x low high : ℕ) → x < low → Rises low (savedNodes ns) high → Absent x ns
+unfolding Absent savedNodes Rises
 absent [] x low high l r = tt
 absent (n ∷ ns) x low high l r = (λ e. omega (arith, r .0), absent ns x (n .number + 1) high (omega (arith, r .0)) (r .1))
 
-distinct : (ns : List Node) (low high : ℕ) → 2 ≤ low → Rises low (entriesFor ns) high → Distinct ns
-unfolding Distinct entriesFor Rises
+distinct : (ns : List Node) (low high : ℕ) → 2 ≤ low → Rises low (savedNodes ns) high → Distinct ns
+unfolding Distinct savedNodes Rises
 distinct [] low high l r = tt
 distinct (n ∷ ns) low high l r =
     (λ e. omega (arith, r .0), absent ns (n .number) (n .number + 1) high (omega arith) (r .1), distinct ns (n .number + 1) high (omega (arith, r .0)) (r .1))

@@ -17,7 +17,7 @@ use Rattle.rules.specs.Utf8.{wellFormed}
 use Rattle.rules.specs.Tree.{Node, Made, bare, isChild, childIn, nodeIn, aboveOf, parentIn, onward, walk, orMake, step, makes, atRoot}
 use Rattle.rules.specs.Instance.{Tree, Instance}
 use Rattle.rules.specs.Saved.{goodName}
-use Rattle.rules.specs.Restore.{entryFor, entriesFor}
+use Rattle.rules.specs.Restore.{savedNode, savedNodes}
 use Rattle.rules.specs.Mount.{planned}
 use Rattle.rules.specs.Unmount.{reached}
 use Rattle.rules.specs.Driven.{Rises, Shape, Rooted, top, under}
@@ -46,8 +46,8 @@ up ns x (under y n e r) = go (eqb x rootNumber)
 abbrev Place : List Node → ℕ → ℕ → ℕ → ℕ → Type 0
 Place ns low high here x = (n : Node) × (nodeIn ns x ≡ some n) × (n .above ≡ here) × (low ≤ x) × (x < high)
 
-child-place : (ns : List Node) (low high here : ℕ) (p : List ℕ) (x : ℕ) → Rises low (entriesFor ns) high → childIn ns here p ≡ some x → Place ns low high here x
-unfolding childIn isChild nodeIn entriesFor Rises
+child-place : (ns : List Node) (low high here : ℕ) (p : List ℕ) (x : ℕ) → Rises low (savedNodes ns) high → childIn ns here p ≡ some x → Place ns low high here x
+unfolding childIn isChild nodeIn savedNodes Rises
 child-place [] low high here p x r e = absurd (Option·none-ne-some x e)
 child-place (n ∷ ns) low high here p x r e =
     go (eqb (n .above) here) refl (same (n .called) p) e (child-place ns (n .number + 1) high here p x (r .1))
@@ -59,11 +59,11 @@ child-place (n ∷ ns) low high here p x r e =
         → (childIn ns here p ≡ some x → Place ns (n .number + 1) high here x) → Place (n ∷ ns) low high here x
     go true q true f k =
         let s : n .number ≡ x = cc in
-        (n, rw (eq-eqb (n .number) x s), eqb-true (n .above) here q, omega (arith, r .0), omega (arith, rises-end (n .number + 1) high (entriesFor ns) (r .1)))
+        (n, rw (eq-eqb (n .number) x s), eqb-true (n .above) here q, omega (arith, r .0), omega (arith, rises-end (n .number + 1) high (savedNodes ns) (r .1)))
     go true q false f k = later (k f)
     go false q b f k = later (k f)
 
-down : (ns : List Node) (high here : ℕ) (p : List ℕ) (x : ℕ) → Rises 2 (entriesFor ns) high → childIn ns here p ≡ some x → Rooted ns here → Rooted ns x
+down : (ns : List Node) (high here : ℕ) (p : List ℕ) (x : ℕ) → Rises 2 (savedNodes ns) high → childIn ns here p ≡ some x → Rooted ns here → Rooted ns x
 down ns high here p x r e h = go (child-place ns 2 high here p x r e)
   where
     go : Place ns 2 high here x → Rooted ns x
@@ -71,7 +71,7 @@ down ns high here p x r e h = go (child-place ns 2 high here p x r e)
 
 -- ---- the walk
 
-walk-rooted : (ns : List Node) (high : ℕ) → Rises 2 (entriesFor ns) high → (ps : List Part) (here x : ℕ) → Rooted ns here → walk ns here ps ≡ some x → Rooted ns x
+walk-rooted : (ns : List Node) (high : ℕ) → Rises 2 (savedNodes ns) high → (ps : List Part) (here x : ℕ) → Rooted ns here → walk ns here ps ≡ some x → Rooted ns x
 unfolding walk
 walk-rooted ns high r [] here x h e = subst (Rooted ns) (Option·some-injective here x e) h
 walk-rooted ns high r (parent at ∷ ps) here x h e = walk-rooted ns high r ps (parentIn ns here) x (up ns here h) e
@@ -82,7 +82,7 @@ walk-rooted ns high r (name at p ∷ ps) here x h e = go (childIn ns here p) ref
     go (some y) q f on = on y (down ns high here p y r q h) f
 
 -- the walk along a path
-pub path-rooted : (i : Instance) (high : ℕ) → Rises 2 (entriesFor (i .tree .nodes)) high → (path : List ℕ) (x : ℕ) → reached i path ≡ some x → Rooted (i .tree .nodes) x
+pub path-rooted : (i : Instance) (high : ℕ) → Rises 2 (savedNodes (i .tree .nodes)) high → (path : List ℕ) (x : ℕ) → reached i path ≡ some x → Rooted (i .tree .nodes) x
 unfolding reached
 path-rooted i high r path x e = walk-rooted (i .tree .nodes) high r (components 0 path) rootNumber x top e
 
@@ -111,29 +111,29 @@ reached-append ns ms x top = top
 reached-append ns ms x (under y n e r) = under y n (node-append ns ms y n e) (reached-append ns ms (n .above) r)
 
 -- a new number is that of the last node
-node-last : (ns : List Node) (low high : ℕ) (n : Node) → Rises low (entriesFor ns) high → n .number ≡ high → nodeIn (ns ++ (n ∷ [])) high ≡ some n
-unfolding nodeIn entriesFor Rises
+node-last : (ns : List Node) (low high : ℕ) (n : Node) → Rises low (savedNodes ns) high → n .number ≡ high → nodeIn (ns ++ (n ∷ [])) high ≡ some n
+unfolding nodeIn savedNodes Rises
 node-last [] low high n r e = rw (eq-eqb (n .number) high e)
 node-last (m ∷ ns) low high n r e =
-    let l = rises-end (m .number + 1) high (entriesFor ns) (r .1) in
+    let l = rises-end (m .number + 1) high (savedNodes ns) (r .1) in
     rw (ne-eqb (m .number) high (λ q. omega arith)) (node-last ns (m .number + 1) high n (r .1) e)
 
 -- the bounds of what is reached
-node-bounds : (ns : List Node) (low high x : ℕ) (n : Node) → Rises low (entriesFor ns) high → nodeIn ns x ≡ some n → (low ≤ x) × (x < high)
-unfolding nodeIn entriesFor Rises
+node-bounds : (ns : List Node) (low high x : ℕ) (n : Node) → Rises low (savedNodes ns) high → nodeIn ns x ≡ some n → (low ≤ x) × (x < high)
+unfolding nodeIn savedNodes Rises
 node-bounds [] low high x n r e = absurd (Option·none-ne-some n e)
 node-bounds (m ∷ ns) low high x n r e = go (eqb (m .number) x) refl e (node-bounds ns (m .number + 1) high x n (r .1))
   where
     go : (b : Bool) → eqb (m .number) x ≡ b → cond b (some m) (nodeIn ns x) ≡ some n → (nodeIn ns x ≡ some n → (m .number + 1 ≤ x) × (x < high)) → (low ≤ x) × (x < high)
     go true q f k =
         let s = eqb-true (m .number) x q in
-        (omega (arith, r .0), omega (arith, rises-end (m .number + 1) high (entriesFor ns) (r .1)))
+        (omega (arith, r .0), omega (arith, rises-end (m .number + 1) high (savedNodes ns) (r .1)))
     go false q f k =
         let b = k f in
         (omega (arith, r .0, b .0), b .1)
 
-reached-bounds : (ns : List Node) (high x : ℕ) → Rises 2 (entriesFor ns) high → Rooted ns x → (1 ≤ x) × (x < high)
-reached-bounds ns high x r top = (omega arith, omega (arith, rises-end 2 high (entriesFor ns) r))
+reached-bounds : (ns : List Node) (high x : ℕ) → Rises 2 (savedNodes ns) high → Rooted ns x → (1 ≤ x) × (x < high)
+reached-bounds ns high x r top = (omega arith, omega (arith, rises-end 2 high (savedNodes ns) r))
 reached-bounds ns high x r (under y n e h) =
     let b = node-bounds ns 2 high x n r e in
     (omega (arith, b .0), b .1)
@@ -159,17 +159,17 @@ module _ (P : List Node → Type 0) (t : Tree) (more : (ns : List Node) (n : Nod
   planned-all path h = makes-all (components 0 path) atRoot (rw (append-nil (t .nodes)) h)
 
 pub record Walking (live : List Node) (next : ℕ) (m : Made) : Type 0 where
-  pub shape : Shape (entriesFor (live ++ m .nodes)) (next + length (m .nodes))
+  pub shape : Shape (savedNodes (live ++ m .nodes)) (next + length (m .nodes))
   pub reached : Rooted (live ++ m .nodes) (m .here)
 
 module _ (live : List Node) (next : ℕ) where
   makes-one : (m : Made) (p : List ℕ) → goodName p ≡ true → Walking live next m → childIn (live ++ m .nodes) (m .here) p ≡ none → Walking live next (orMake next m p none)
-  unfolding entriesFor
+  unfolding savedNodes
   makes-one m p g w e =
       let x = next + length (m .nodes) in
       let n = bare x (m .here) p in
       let b = reached-bounds (live ++ m .nodes) x (m .here) (w .shape .rises) (w .reached) in
-      let grown : Shape (entriesFor ((live ++ m .nodes) ++ (n ∷ []))) (x + 1) = rw (entries-append (live ++ m .nodes) (n ∷ [])) (shape-more (entriesFor (live ++ m .nodes)) x (entryFor n) (w .shape) refl (child-unused (live ++ m .nodes) (m .here) p e) g (b .0) (b .1)) in
+      let grown : Shape (savedNodes ((live ++ m .nodes) ++ (n ∷ []))) (x + 1) = rw (entries-append (live ++ m .nodes) (n ∷ [])) (shape-more (savedNodes (live ++ m .nodes)) x (savedNode n) (w .shape) refl (child-unused (live ++ m .nodes) (m .here) p e) g (b .0) (b .1)) in
       let size : next + length (m .nodes ++ (n ∷ [])) ≡ x + 1 = omega (arith, length-append (m .nodes) (n ∷ [])) in
       let found = node-last (live ++ m .nodes) 2 x n (w .shape .rises) refl in
       record {
@@ -192,7 +192,7 @@ module _ (live : List Node) (next : ℕ) where
   makes-walking m (p ∷ ps) g w = makes-walking (step live next m p) ps (rest-names GoodName p ps g) (step-walking m p ps g w)
 
 -- the theorem: of a path that rows 1 and 2 of a mount let pass
-pub planned-walking : (t : Tree) (path : List ℕ) → Shape (entriesFor (t .nodes)) (t .next) → tooLong path ≡ false → wellFormed path ≡ true
+pub planned-walking : (t : Tree) (path : List ℕ) → Shape (savedNodes (t .nodes)) (t .next) → tooLong path ≡ false → wellFormed path ≡ true
     → Walking (t .nodes) (t .next) (planned t path)
 unfolding planned
 planned-walking t path s l u =

@@ -13,8 +13,8 @@ use Rattle.rules.specs.Tree.{Mount, Node, nodeIn, isKnown}
 use Rattle.rules.specs.Instance.{Tree, Instance, heldIn, live, counterOf}
 use Rattle.rules.specs.Create.{Creation, unknown, newInstance, createRule}
 use Rattle.rules.specs.Unmount.{reached}
-use Rattle.rules.specs.Saved.{Entry, used, goodName}
-use Rattle.rules.specs.Restore.{entriesFor}
+use Rattle.rules.specs.Saved.{SavedNode, used, goodName}
+use Rattle.rules.specs.Restore.{savedNodes}
 use Rattle.rules.specs.RoundTrip.{OptionsFit}
 use Rattle.rules.specs.Calls.{Call, restore, rule}
 
@@ -30,27 +30,27 @@ pub data Driven : Instance → Type 0 where
 -- ---- the nodes, their mounts left aside
 
 -- numbers rise, from low on, below high (R49, R126)
-unfoldable pub Rises : ℕ → List Entry → ℕ → Type 0
+unfoldable pub Rises : ℕ → List SavedNode → ℕ → Type 0
 Rises low [] high = low ≤ high
 Rises low (e ∷ es) high = (low ≤ e .number) × Rises (e .number + 1) es high
 
 -- each parent's number is from 1 up and below the node's (R48)
-unfoldable pub Below : List Entry → Type 0
+unfoldable pub Below : List SavedNode → Type 0
 Below [] = Unit {0}
 Below (e ∷ es) = (1 ≤ e .above) × (e .above < e .number) × Below es
 
 -- each name has 1 to 255 bytes, is UTF-8, has no slash, and is not `.` or `..` (R10, R37)
-unfoldable pub Named : List Entry → Type 0
+unfoldable pub Named : List SavedNode → Type 0
 Named [] = Unit {0}
 Named (e ∷ es) = (goodName (e .called) ≡ true) × Named es
 
 -- no name stands twice under one parent (R45, R48)
-unfoldable pub Unique : List Entry → Type 0
+unfoldable pub Unique : List SavedNode → Type 0
 Unique [] = Unit {0}
 Unique (e ∷ es) = (used (e .above) (e .called) es ≡ false) × Unique es
 
 -- what holds of the nodes
-pub record Shape (es : List Entry) (next : ℕ) : Type 0 where
+pub record Shape (es : List SavedNode) (next : ℕ) : Type 0 where
   pub rises : Rises 2 es next
   pub below : Below es
   pub named : Named es
@@ -76,7 +76,7 @@ Mounted k t = IsAt k (t .root) ⊎ MountIn k (t .nodes)
 
 -- tree (R9, R10, R48, R49, R67), mask and options (R28, R29), mapping in force (R30), slots and counter (R31), and a mount for each held slot (R76, R98)
 pub record Facts (i : Instance) : Type 0 where
-  pub shape : Shape (entriesFor (i .tree .nodes)) (i .tree .next)
+  pub shape : Shape (savedNodes (i .tree .nodes)) (i .tree .next)
   pub top : i .tree .next ≤ topNumber
   pub room : live i ≤ i .fixed .capacity
   pub capacity : i .fixed .capacity ≤ maxNodes

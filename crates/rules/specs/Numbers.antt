@@ -24,6 +24,22 @@ topNumber = 2 ^ 56
 abbrev pub maxNodes : ℕ
 maxNodes = 1024
 
+-- the bytes of the longest name (R10)
+abbrev pub maxName : ℕ
+maxName = 255
+
+-- the bytes of the longest mount path (R10)
+abbrev pub maxPath : ℕ
+maxPath = 4096
+
+-- the bytes of the longest line of a session (R150)
+abbrev pub maxLine : ℕ
+maxLine = 8192
+
+-- the bytes of the longest saved state (R124)
+abbrev pub maxSaved : ℕ
+maxSaved = 279335
+
 -- the number of index slots (R31)
 abbrev pub slotCount : ℕ
 slotCount = 256

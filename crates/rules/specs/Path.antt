@@ -4,6 +4,7 @@ use mathlib.Core.Bool.{Bool, false, cond, _||_}
 use mathlib.Core.List.{List, [], _∷_}
 use lib.ListN.{length}
 use lib.Dec.{eqb, ltb}
+use Rattle.rules.specs.Numbers.{maxName, maxPath}
 use Rattle.rules.specs.Bytes.{same, holds}
 
 -- the byte `/`
@@ -66,7 +67,7 @@ anyLonger n (p ∷ ps) = ltb n (length p) || anyLonger n ps
 
 -- over a limit: 4,096 bytes, or 255 between slashes; on raw bytes (R10, R40)
 unfoldable pub tooLong : List ℕ → Bool
-tooLong s = ltb 4096 (length s) || anyLonger 255 (pieces s)
+tooLong s = ltb maxPath (length s) || anyLonger maxName (pieces s)
 
 -- what `validate_path_component` refuses: `.`, `..`, any slash, any byte 0; no other name, the empty one included (R24, R61, R62)
 unfoldable pub badComponent : List ℕ → Bool

@@ -5,11 +5,11 @@ use mathlib.Core.Logic.{_↔_, _⊎_}
 use mathlib.Core.List.{List, [], _∷_}
 use mathlib.Core.Path.{_≡_}
 use lib.ListN.{length}
-use Rattle.rules.specs.Numbers.{BADSAVE}
+use Rattle.rules.specs.Numbers.{maxName, BADSAVE}
 use Rattle.rules.specs.Bytes.{Bytes}
 use Rattle.rules.specs.Sequences.{Text}
 use Rattle.rules.specs.Instance.{Instance}
-use Rattle.rules.specs.Saved.{Entry, State, encode, valid, accepted}
+use Rattle.rules.specs.Saved.{SavedNode, State, encode, valid, accepted}
 use Rattle.rules.specs.Restore.{saved, fresh, restoreRule}
 use Rattle.rules.specs.RoundTrip.{Fits}
 use Rattle.rules.specs.Driven.{Driven}
@@ -23,7 +23,7 @@ At (d ∷ ds) (suc k) e = At ds k e
 -- 1 to 255 bytes of UTF-8, 47 (`/`) at no place, and neither 46 (`.`) alone nor twice 46 (R10, R35, R129 j)
 pub record Name (p : List ℕ) : Type 0 where
   pub not-empty : 1 ≤ length p
-  pub short : length p ≤ 255
+  pub short : length p ≤ maxName
   pub text : Text p
   pub no-slash : (k : ℕ) → At p k 47 → ⊥
   pub no-dot : p ≡ 46 ∷ [] → ⊥
@@ -35,21 +35,21 @@ pub record Tidy (s : State) : Type 0 where
   pub least-next : 2 ≤ s .next
   pub most-next : s .next ≤ 2 ^ 56
   -- each number is from 2 up (g) and below the next one (h); of two records the later has the larger (g)
-  pub least : (k : ℕ) (e : Entry) → At (s .nodes) k e → 2 ≤ e .number
-  pub under : (k : ℕ) (e : Entry) → At (s .nodes) k e → e .number < s .next
-  pub rises : (j k : ℕ) (d e : Entry) → j < k → At (s .nodes) j d → At (s .nodes) k e → d .number < e .number
+  pub least : (k : ℕ) (e : SavedNode) → At (s .nodes) k e → 2 ≤ e .number
+  pub under : (k : ℕ) (e : SavedNode) → At (s .nodes) k e → e .number < s .next
+  pub rises : (j k : ℕ) (d e : SavedNode) → j < k → At (s .nodes) j d → At (s .nodes) k e → d .number < e .number
   -- each has a name (j); no two have the same parent and the same name (k)
-  pub named : (k : ℕ) (e : Entry) → At (s .nodes) k e → Name (e .called)
-  pub apart : (j k : ℕ) (d e : Entry) → j < k → At (s .nodes) j d → At (s .nodes) k e → d .above ≡ e .above → d .called ≡ e .called → ⊥
+  pub named : (k : ℕ) (e : SavedNode) → At (s .nodes) k e → Name (e .called)
+  pub apart : (j k : ℕ) (d e : SavedNode) → j < k → At (s .nodes) j d → At (s .nodes) k e → d .above ≡ e .above → d .called ≡ e .called → ⊥
 
 -- a record before the place k has the number x (R129 i)
-abbrev pub Earlier : List Entry → ℕ → ℕ → Type 0
-Earlier es k x = (j : ℕ) × (d : Entry) × (j < k) × At es j d × (d .number ≡ x)
+abbrev pub Earlier : List SavedNode → ℕ → ℕ → Type 0
+Earlier es k x = (j : ℕ) × (d : SavedNode) × (j < k) × At es j d × (d .number ≡ x)
 
 -- tidy, and each parent is 1 or the number of an earlier record (R129 i)
 pub record Proper (s : State) : Type 0 where
   pub tidy : Tidy s
-  pub parents : (k : ℕ) (e : Entry) → At (s .nodes) k e → (e .above ≡ 1) ⊎ Earlier (s .nodes) k (e .above)
+  pub parents : (k : ℕ) (e : SavedNode) → At (s .nodes) k e → (e .above ≡ 1) ⊎ Earlier (s .nodes) k (e .above)
 
 -- the valid states are the proper ones (R129 g to k)
 abbrev pub EveryValid : Type 0

@@ -9,26 +9,26 @@ use Rattle.rules.specs.Numbers.{BADSAVE, BADOPT, NOROOM, NOTFRESH, SMALL
 use Rattle.rules.specs.Tree.{Node, bare, isNone}
 use Rattle.rules.specs.Instance.{Instance}
 use Rattle.rules.specs.Create.{unknown}
-use Rattle.rules.specs.Saved.{Entry, State, encode, accepted, stateOf}
+use Rattle.rules.specs.Saved.{SavedNode, State, encode, accepted, stateOf}
 use Rattle.rules.specs.Outcome.{nothing, Outcome, refused, says, writes, _⇒_, firstOf}
 
 -- a node as it is saved, its mount left out (R127)
-abbrev pub entryFor : Node → Entry
-entryFor n = record { number = n .number; above = n .above; called = n .called }
+abbrev pub savedNode : Node → SavedNode
+savedNode n = record { number = n .number; above = n .above; called = n .called }
 
 -- in table order (R126)
-unfoldable pub entriesFor : List Node → List Entry
-entriesFor [] = []
-entriesFor (n ∷ ns) = entryFor n ∷ entriesFor ns
+unfoldable pub savedNodes : List Node → List SavedNode
+savedNodes [] = []
+savedNodes (n ∷ ns) = savedNode n ∷ savedNodes ns
 
 -- the nodes of the records, without mounts (R127, R134)
-unfoldable pub nodesFrom : List Entry → List Node
+unfoldable pub nodesFrom : List SavedNode → List Node
 nodesFrom [] = []
 nodesFrom (e ∷ es) = bare (e .number) (e .above) (e .called) ∷ nodesFrom es
 
 -- what an instance saves: tree, options, next number, counter (R119, R127)
 unfoldable pub saved : Instance → State
-saved i = record { nodes = entriesFor (i .tree .nodes); options = i .options; next = i .tree .next; counter = i .indexes .counter }
+saved i = record { nodes = savedNodes (i .tree .nodes); options = i .options; next = i .tree .next; counter = i .indexes .counter }
 
 -- into a lent buffer of that length: SMALL, or the bytes; the instance stays (R125)
 unfoldable pub saveRule : Instance → ℕ → Outcome

@@ -5,17 +5,17 @@ use mathlib.Core.List.{List}
 use mathlib.Core.Option.{none}
 use mathlib.Core.Path.{_≡_}
 use lib.ListN.{length}
-use Rattle.rules.specs.Numbers.{BADSAVE}
+use Rattle.rules.specs.Numbers.{maxSaved, BADSAVE}
 use Rattle.rules.specs.Bytes.{Bytes}
 use Rattle.rules.specs.Instance.{Tree, Instance, counterOf, live}
 use Rattle.rules.specs.Outcome.{Outcome, refused}
 use Rattle.rules.specs.Saved.{encode}
-use Rattle.rules.specs.Restore.{entriesFor, nodesFrom, saved, fresh, restoreRule}
+use Rattle.rules.specs.Restore.{savedNodes, nodesFrom, saved, fresh, restoreRule}
 use Rattle.rules.specs.Driven.{Driven, Present}
 
 -- the tree without its mounts (R127)
 abbrev pub bareTree : Tree → Tree
-bareTree t = record { next = t .next; root = none; nodes = nodesFrom (entriesFor (t .nodes)) }
+bareTree t = record { next = t .next; root = none; nodes = nodesFrom (savedNodes (t .nodes)) }
 
 -- a restore is done, and gives back tree and next number, counter, and options (R135)
 pub record GivesBack (i : Instance) (o : Outcome) : Type 0 where
@@ -39,4 +39,4 @@ RestoreThenSave = (j : Instance) (b : List ℕ) → Bytes b → restoreRule j b 
 
 -- no state is longer (R124)
 abbrev pub NoLonger : Type 0
-NoLonger = (i : Instance) → Driven i → length (encode (saved i)) ≤ 279335
+NoLonger = (i : Instance) → Driven i → length (encode (saved i)) ≤ maxSaved

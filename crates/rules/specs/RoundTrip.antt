@@ -4,24 +4,25 @@ use mathlib.Core.Bool.{true}
 use mathlib.Core.List.{List, [], _∷_}
 use mathlib.Core.Path.{_≡_}
 use lib.ListN.{length}
+use Rattle.rules.specs.Numbers.{maxName, maxSaved}
 use Rattle.rules.specs.Bytes.{Bytes}
 use Rattle.rules.specs.Instance.{Options}
 use Rattle.rules.specs.Create.{Creation, newInstance}
-use Rattle.rules.specs.Saved.{Entry, State, nodesBytes, encode, stateOf, valid, accepted}
+use Rattle.rules.specs.Saved.{SavedNode, State, nodesBytes, encode, stateOf, valid, accepted}
 use Rattle.rules.specs.Restore.{saved}
 
 -- ---- each field within its width
 
 -- the fields of a record (R120)
-pub record EntryFits (n : Entry) : Type 0 where
+pub record SavedNodeFits (n : SavedNode) : Type 0 where
   pub number : n .number < 2 ^ 64
   pub above : n .above < 2 ^ 64
   pub called : length (n .called) < 2 ^ 16
 
 -- of every record (R120)
-unfoldable pub EntriesFit : List Entry → Type 0
-EntriesFit [] = Unit {0}
-EntriesFit (n ∷ ns) = EntryFits n × EntriesFit ns
+unfoldable pub SavedNodesFit : List SavedNode → Type 0
+SavedNodesFit [] = Unit {0}
+SavedNodesFit (n ∷ ns) = SavedNodeFits n × SavedNodesFit ns
 
 -- the fields of the options; flags 6 and 7 are unset (R121, R129 f)
 pub record OptionsFit (o : Options) : Type 0 where
@@ -34,7 +35,7 @@ pub record OptionsFit (o : Options) : Type 0 where
 
 -- the fields of the whole (R120, R121, R123)
 pub record Fits (s : State) : Type 0 where
-  pub nodes : EntriesFit (s .nodes)
+  pub nodes : SavedNodesFit (s .nodes)
   pub options : OptionsFit (s .options)
   pub offset : length (nodesBytes (s .nodes)) < 2 ^ 32
   pub count : length (s .nodes) < 2 ^ 32
@@ -62,16 +63,16 @@ abbrev pub FreshLength : Type 0
 FreshLength = (q : Creation) → length (encode (saved (newInstance q))) ≡ 56
 
 -- each name has at most n bytes
-unfoldable pub NamesTo : ℕ → List Entry → Type 0
+unfoldable pub NamesTo : ℕ → List SavedNode → Type 0
 NamesTo n [] = Unit {0}
 NamesTo n (e ∷ es) = (length (e .called) ≤ n) × NamesTo n es
 
 -- each name has n bytes
-unfoldable pub NamesOf : ℕ → List Entry → Type 0
+unfoldable pub NamesOf : ℕ → List SavedNode → Type 0
 NamesOf n [] = Unit {0}
 NamesOf n (e ∷ es) = (length (e .called) ≡ n) × NamesOf n es
 
 -- 1,023 nodes and the root, with names of 255 bytes, are the longest (R124)
 pub record Longest : Type 0 where
-  pub most : (s : State) → length (s .nodes) ≤ 1023 → NamesTo 255 (s .nodes) → length (encode s) ≤ 279335
-  pub exact : (s : State) → length (s .nodes) ≡ 1023 → NamesOf 255 (s .nodes) → length (encode s) ≡ 279335
+  pub most : (s : State) → length (s .nodes) ≤ 1023 → NamesTo maxName (s .nodes) → length (encode s) ≤ maxSaved
+  pub exact : (s : State) → length (s .nodes) ≡ 1023 → NamesOf maxName (s .nodes) → length (encode s) ≡ maxSaved

@@ -4,7 +4,7 @@ use mathlib.Core.Bool.{Bool, true, false, not, _&&_, _||_}
 use mathlib.Core.List.{List, [], _∷_, _++_}
 use lib.ListN.{length}
 use lib.Dec.{leb, ltb, eqb}
-use Rattle.rules.specs.Numbers.{rootNumber, topNumber}
+use Rattle.rules.specs.Numbers.{rootNumber, firstNumber, topNumber, maxName}
 use Rattle.rules.specs.Bytes.{same, holds}
 use Rattle.rules.specs.Utf8.{wellFormed}
 use Rattle.rules.specs.Path.{slash, isDot, isDots}
@@ -12,14 +12,14 @@ use Rattle.rules.specs.Fields.{read, get, fields}
 use Rattle.rules.specs.Instance.{Options}
 
 -- a node, as it is saved (R120)
-pub record Entry : Type 0 where
+pub record SavedNode : Type 0 where
   pub number : ℕ
   pub above : ℕ
   pub called : List ℕ
 
 -- the nodes, root left out, in table order; mounts are not saved (R126, R127)
 pub record State : Type 0 where
-  pub nodes : List Entry
+  pub nodes : List SavedNode
   pub options : Options
   pub next : ℕ
   pub counter : ℕ
@@ -39,11 +39,11 @@ abbrev pub trailerRow : List ℕ
 trailerRow = 4 ∷ 4 ∷ 8 ∷ 1 ∷ 1 ∷ 6 ∷ []
 
 -- a node record (R120)
-unfoldable pub nodeBytes : Entry → List ℕ
+unfoldable pub nodeBytes : SavedNode → List ℕ
 nodeBytes n = fields nodeRow (n .number ∷ n .above ∷ length (n .called) ∷ []) ++ n .called
 
 -- the node records, one behind the other (R120)
-unfoldable pub nodesBytes : List Entry → List ℕ
+unfoldable pub nodesBytes : List SavedNode → List ℕ
 nodesBytes [] = []
 nodesBytes (n ∷ ns) = nodeBytes n ++ nodesBytes ns
 
@@ -65,7 +65,7 @@ encode s =
 -- ---- read: any bytes
 
 -- the record at a place (R120)
-unfoldable pub nodeAt : List ℕ → ℕ → Entry
+unfoldable pub nodeAt : List ℕ → ℕ → SavedNode
 nodeAt b at = record { number = get 8 b at; above = get 8 b (at + 8); called = read b (at + 18) (get 2 b (at + 16)) }
 
 -- where the record at a place ends
@@ -73,7 +73,7 @@ abbrev pub behind : List ℕ → ℕ → ℕ
 behind b at = at + 18 + get 2 b (at + 16)
 
 -- the k records from a place on
-unfoldable pub nodesAt : List ℕ → ℕ → ℕ → List Entry
+unfoldable pub nodesAt : List ℕ → ℕ → ℕ → List SavedNode
 nodesAt b zero at = []
 nodesAt b (suc k) at = nodeAt b at ∷ nodesAt b k (behind b at)
 
@@ -92,32 +92,32 @@ optionsAt b at = record {
 }
 
 -- where the options stand: they and the trailer are the last 56 bytes (R119, R121)
-abbrev pub optionsIn : List ℕ → ℕ
-optionsIn b = length b - 56
+abbrev pub optionsStart : List ℕ → ℕ
+optionsStart b = length b - 56
 
 -- where the trailer stands: it is the last 24 bytes (R123)
-abbrev pub trailerIn : List ℕ → ℕ
-trailerIn b = length b - 24
+abbrev pub trailerStart : List ℕ → ℕ
+trailerStart b = length b - 24
 
 -- the offset of the options, as the trailer says it (R123)
 unfoldable pub offsetOf : List ℕ → ℕ
-offsetOf b = get 4 b (trailerIn b)
+offsetOf b = get 4 b (trailerStart b)
 
 -- the number of node records, as the trailer says it (R123)
 unfoldable pub recordsOf : List ℕ → ℕ
-recordsOf b = get 4 b (trailerIn b + 4)
+recordsOf b = get 4 b (trailerStart b + 4)
 
 -- the next number (R123)
 unfoldable pub nextOf : List ℕ → ℕ
-nextOf b = get 8 b (trailerIn b + 8)
+nextOf b = get 8 b (trailerStart b + 8)
 
 -- the counter (R123)
 unfoldable pub counterIn : List ℕ → ℕ
-counterIn b = get 1 b (trailerIn b + 16)
+counterIn b = get 1 b (trailerStart b + 16)
 
 -- the state that any bytes spell
 unfoldable pub stateOf : List ℕ → State
-stateOf b = record { nodes = nodesAt b (recordsOf b) 0; options = optionsAt b (optionsIn b); next = nextOf b; counter = counterIn b }
+stateOf b = record { nodes = nodesAt b (recordsOf b) 0; options = optionsAt b (optionsStart b); next = nextOf b; counter = counterIn b }
 
 -- ---- judged
 
@@ -130,38 +130,38 @@ every (t ∷ ts) = t && every ts
 abbrev pub frame : List ℕ → List Bool
 frame b =
     leb 56 (length b)
-    ∷ eqb (offsetOf b) (optionsIn b)
-    ∷ eqb (get 1 b (trailerIn b + 17)) 1
-    ∷ eqb (get 6 b (trailerIn b + 18)) 0
-    ∷ eqb (get 3 b (optionsIn b + 29)) 0
-    ∷ ltb (get 1 b (optionsIn b + 28)) 64
+    ∷ eqb (offsetOf b) (optionsStart b)
+    ∷ eqb (get 1 b (trailerStart b + 17)) 1
+    ∷ eqb (get 6 b (trailerStart b + 18)) 0
+    ∷ eqb (get 3 b (optionsStart b + 29)) 0
+    ∷ ltb (get 1 b (optionsStart b + 28)) 64
     ∷ []
 
 -- and the records fill the bytes exactly (R129 c)
 unfoldable pub laidOut : List ℕ → Bool
-laidOut b = every (frame b ++ (eqb (endAt b (recordsOf b) 0) (optionsIn b) ∷ []))
+laidOut b = every (frame b ++ (eqb (endAt b (recordsOf b) 0) (optionsStart b) ∷ []))
 
 -- a record is judged among those before it, the nearest first; the root stands before all (R129 g)
-unfoldable pub lastNumber : List Entry → ℕ
+unfoldable pub lastNumber : List SavedNode → ℕ
 lastNumber [] = rootNumber
 lastNumber (m ∷ ms) = m .number
 
 -- the parent is 1 or an earlier record (R129 i)
-unfoldable pub present : ℕ → List Entry → Bool
+unfoldable pub present : ℕ → List SavedNode → Bool
 present x [] = eqb x rootNumber
 present x (m ∷ ms) = eqb (m .number) x || present x ms
 
 -- the name is there already under that parent (R129 k)
-unfoldable pub used : ℕ → List ℕ → List Entry → Bool
+unfoldable pub used : ℕ → List ℕ → List SavedNode → Bool
 used x p [] = false
 used x p (m ∷ ms) = (eqb (m .above) x && same (m .called) p) || used x p ms
 
 -- not empty, at most 255 bytes, no slash, not `.` or `..` itself, UTF-8 (R10, R129 j)
 unfoldable pub goodName : List ℕ → Bool
-goodName p = every (leb 1 (length p) ∷ leb (length p) 255 ∷ not (holds slash p) ∷ not (isDot p) ∷ not (isDots p) ∷ wellFormed p ∷ [])
+goodName p = every (leb 1 (length p) ∷ leb (length p) maxName ∷ not (holds slash p) ∷ not (isDot p) ∷ not (isDots p) ∷ wellFormed p ∷ [])
 
 -- strictly rising from 2 up (R129 g), below the next number (h), with a good name (j), a parent that is there (i), no equal name beside it (k)
-unfoldable pub goodNode : ℕ → List Entry → Entry → Bool
+unfoldable pub goodNode : ℕ → List SavedNode → SavedNode → Bool
 goodNode next before n =
     every
     (ltb (lastNumber before) (n .number)
@@ -172,13 +172,13 @@ goodNode next before n =
     ∷ [])
 
 -- each record, among those before it (R129 g to k)
-unfoldable pub goodNodes : ℕ → List Entry → List Entry → Bool
+unfoldable pub goodNodes : ℕ → List SavedNode → List SavedNode → Bool
 goodNodes next before [] = true
 goodNodes next before (n ∷ ns) = goodNode next before n && goodNodes next (n ∷ before) ns
 
 -- the next number is from 2 to 2^56 (R129 h), and the records are good
 unfoldable pub valid : State → Bool
-valid s = every (leb 2 (s .next) ∷ leb (s .next) topNumber ∷ goodNodes (s .next) [] (s .nodes) ∷ [])
+valid s = every (leb firstNumber (s .next) ∷ leb (s .next) topNumber ∷ goodNodes (s .next) [] (s .nodes) ∷ [])
 
 -- what BADSAVE refuses is what is not accepted (R129)
 unfoldable pub accepted : List ℕ → Bool

@@ -5,7 +5,7 @@ use mathlib.Core.List.{List, [], _∷_, _++_}
 use mathlib.Core.Option.{Option, none, some}
 use lib.ListN.{length}
 use lib.Dec.{leb, ltb}
-use Rattle.rules.specs.Numbers.{dirMode, orZero}
+use Rattle.rules.specs.Numbers.{maxLine, dirMode, orZero}
 use Rattle.rules.specs.Bytes.{same, ascii}
 use Rattle.rules.specs.Path.{partsBy}
 use Rattle.rules.specs.Tree.{onward}
@@ -82,7 +82,7 @@ lineOf (v ∷ a ∷ b ∷ c ∷ d ∷ e ∷ fs) = none
 
 -- over 8,192 bytes, or of another form: none (R145, R150)
 unfoldable pub parsed : List ℕ → Option Line
-parsed s = cond (ltb 8192 (length s) || anyEmpty (words s)) none (lineOf (words s))
+parsed s = cond (ltb maxLine (length s) || anyEmpty (words s)) none (lineOf (words s))
 
 -- ---- a line out
 

@@ -10,8 +10,8 @@ use borrow.Rule.Slice.PartMut.{putMid}
 use Rattle.rules.specs.Fields.{bytesOf, fields}
 use Rattle.rules.specs.Tree.{Node}
 use Rattle.rules.specs.Instance.{Options}
-use Rattle.rules.specs.Saved.{Entry, nodeBytes, nodesBytes, optionsBytes, trailerBytes}
-use Rattle.rules.specs.Restore.{entryFor, entriesFor}
+use Rattle.rules.specs.Saved.{SavedNode, nodeBytes, nodesBytes, optionsBytes, trailerBytes}
+use Rattle.rules.specs.Restore.{savedNode, savedNodes}
 use Rattle.rules.proofs.Encoded.{node-length}
 use Rattle.le.specs.Mem.{write, put}
 use Rattle.le.proofs.Lens.{length-write, write-append, put-write, put-add}
@@ -62,7 +62,7 @@ trailer-put mem at offset count next counter =
     simp (field-put, e₁, e₂, e₃, e₄, put-add 2 4, e₅)
 
 -- number, parent and length of a node, and its name behind them
-module _ (n : Entry) (d : List ℕ) where
+module _ (n : SavedNode) (d : List ℕ) where
   record-put : write (put 2 (put 8 (put 8 d 0 (n .number)) 8 (n .above)) 16 (length (n .called))) 18 (n .called) ≡ write d 0 (nodeBytes n)
   unfolding nodeBytes fields
   record-put = simp (append-assoc, field-put)
@@ -82,26 +82,26 @@ module _ (mem : List ℕ) where
 
   -- the records of all rows
   abbrev pub records : List ℕ
-  records = nodesBytes (entriesFor (nodesOf mem))
+  records = nodesBytes (savedNodes (nodesOf mem))
 
   -- those of the rows from i on
   abbrev pub later : ℕ → ℕ → List ℕ
-  later c i = nodesBytes (entriesFor (left mem c i))
+  later c i = nodesBytes (savedNodes (left mem c i))
 
   later-all : (c : ℕ) → c ≡ countOf mem → later c 0 ≡ records
-  later-all c e = sym (ap (λ (ns : List Node). nodesBytes (entriesFor ns)) (none-looked mem c e))
+  later-all c e = sym (ap (λ (ns : List Node). nodesBytes (savedNodes ns)) (none-looked mem c e))
 
   later-none : (c i : ℕ) → c ≤ i → later c i ≡ []
-  unfolding nodesBytes entriesFor
+  unfolding nodesBytes savedNodes
   later-none c i h = rw (tab-done (nodeAt (capacityOf mem) mem) i c h)
 
   module _ (c i : ℕ) (h : i < c) where
-    later-next : later c i ≡ nodeBytes (entryFor (node i)) ++ later c (i + 1)
-    unfolding nodesBytes entriesFor
+    later-next : later c i ≡ nodeBytes (savedNode (node i)) ++ later c (i + 1)
+    unfolding nodesBytes savedNodes
     later-next = rw (tab-next (nodeAt (capacityOf mem) mem) i c h)
 
     later-size : length (later c i) ≡ 18 + length (node i .called) + length (later c (i + 1))
-    later-size = omega (arith, ap length later-next, length-append (nodeBytes (entryFor (node i))) (later c (i + 1)), node-length (entryFor (node i)))
+    later-size = omega (arith, ap length later-next, length-append (nodeBytes (savedNode (node i))) (later c (i + 1)), node-length (savedNode (node i)))
 
 -- ---- their size: i of c rows were counted
 
@@ -172,17 +172,17 @@ module _ (mem : List ℕ) (c : ℕ) (d₀ d : List ℕ) (at i : ℕ) (p : Puttin
     putting-room = omega (arith, rest-length, p .count, p .fits, p .long, later-size mem c i h)
 
     -- the record of row i is put there
-    pub putting-on : (n : ℕ) (ys : List ℕ) → Copied (nodeBytes (entryFor (node mem i))) rest 0 n ys → Putting mem c d₀ (putMid at (length d - at) d ys) (at + n) (i + 1)
+    pub putting-on : (n : ℕ) (ys : List ℕ) → Copied (nodeBytes (savedNode (node mem i))) rest 0 n ys → Putting mem c d₀ (putMid at (length d - at) d ys) (at + n) (i + 1)
     putting-on n ys w =
-        let r : List ℕ = nodeBytes (entryFor (node mem i)) in
+        let r : List ℕ = nodeBytes (savedNode (node mem i)) in
         let now : putMid at (length d - at) d ys ≡ write d at r =
         ap (putMid at (length d - at) d) (w .bytes)
-        ∙ write-part d at (length d - at) r putting-within (omega (arith, putting-room, node-length (entryFor (node mem i)))) in
+        ∙ write-part d at (length d - at) r putting-within (omega (arith, putting-room, node-length (savedNode (node mem i)))) in
         rw (now, w .count)
         (record {
           rows = omega arith;
           long = length-write d at r ∙ p .long;
           fits = p .fits;
-          count = omega (arith, p .count, later-size mem c i h, node-length (entryFor (node mem i)));
+          count = omega (arith, p .count, later-size mem c i h, node-length (savedNode (node mem i)));
           bytes = sym (write-append d at r (later mem c (i + 1))) ∙ ap (write d at) (sym (later-next mem c i h)) ∙ p .bytes;
         })

@@ -1,13 +1,14 @@
 -- What the parts of a save answer.
-use Prim.Native.Nat.{ℕ, _≤_}
+use Prim.Native.Nat.{ℕ, _+_, _≤_}
 use mathlib.Core.Path.{_≡_}
 use mathlib.Core.List.{List}
 use lib.ListN.{length}
+use Rattle.rules.specs.Numbers.{maxSaved}
 use Rattle.rules.specs.Saved.{nodesBytes}
-use Rattle.rules.specs.Restore.{entriesFor}
+use Rattle.rules.specs.Restore.{savedNodes}
 use Rattle.tables.specs.View.{nodesOf}
 
 -- how many bytes the node records take, and that they are few (R120, R124)
 pub record Sizes (mem : List ℕ) (n : ℕ) : Type 0 where
-  pub count : n ≡ length (nodesBytes (entriesFor (nodesOf mem)))
-  pub most : n ≤ 279279
+  pub count : n ≡ length (nodesBytes (savedNodes (nodesOf mem)))
+  pub most : n + 56 ≤ maxSaved

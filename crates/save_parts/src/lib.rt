@@ -4,7 +4,7 @@ ghost use Prim.Native.Nat.{_+_, _≤_, _<_};
 ghost use lib.ListN.{length};
 ghost use Rattle.le.specs.Mem.{write};
 ghost use Rattle.rules.specs.Saved.{nodeBytes, nodesBytes, optionsBytes, trailerBytes};
-ghost use Rattle.rules.specs.Restore.{entryFor, entriesFor};
+ghost use Rattle.rules.specs.Restore.{savedNode, savedNodes};
 ghost use Rattle.tables.specs.Layout.{capacityOf, countOf};
 ghost use Rattle.tables.specs.View.{optionsFrom, headOf, nodeAt, nodesOf};
 ghost use Rattle.tables.specs.Rule.{Bounds};
@@ -39,7 +39,7 @@ fn put_record(s: &[u8], i: usize, out: &mut [u8]) -> usize
     requires { ⌜ Bounds (now s) ⌝ }
     requires { ⌜ i < countOf (now s) ⌝ }
     requires { ⌜ 18 + length (nodeAt (capacityOf (now s)) (now s) i .called) ≤ length (now out) ⌝ }
-    ensures { λ r. ⌜ Copied (nodeBytes (entryFor (nodeAt (capacityOf (now (s .entry))) (now (s .entry)) i))) (now (out .entry)) 0 r (now (out .exit)) ⌝ }
+    ensures { λ r. ⌜ Copied (nodeBytes (savedNode (nodeAt (capacityOf (now (s .entry))) (now (s .entry)) i))) (now (out .entry)) 0 r (now (out .exit)) ⌝ }
 {
     put_u64(out, 0, tables::rows::number(s, i));
     put_u64(out, 8, tables::rows::parent(s, i));
@@ -50,8 +50,8 @@ fn put_record(s: &[u8], i: usize, out: &mut [u8]) -> usize
 // Puts the records of all rows, in table order, each into the rest that is unwritten (R120, R126).
 pub fn put_records(s: &[u8], out: &mut [u8])
     requires { ⌜ Bounds (now s) ⌝ }
-    requires { ⌜ length (nodesBytes (entriesFor (nodesOf (now s)))) ≤ length (now out) ⌝ }
-    ensures { λ _. ⌜ now (out .exit) ≡ write (now (out .entry)) 0 (nodesBytes (entriesFor (nodesOf (now (s .entry))))) ⌝ }
+    requires { ⌜ length (nodesBytes (savedNodes (nodesOf (now s)))) ≤ length (now out) ⌝ }
+    ensures { λ _. ⌜ now (out .exit) ≡ write (now (out .entry)) 0 (nodesBytes (savedNodes (nodesOf (now (s .entry))))) ⌝ }
 {
     let c = tables::header::count(s);
     let mut at = 0;

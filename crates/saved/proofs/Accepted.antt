@@ -5,7 +5,7 @@ use mathlib.Core.List.{List, []}
 use Prim.Native.Nat.{ℕ, _≤_, _<_}
 use native.Mathlib.Omega.{arith}
 use lib.ListN.{length}
-use Rattle.rules.specs.Saved.{nodesAt, behind, optionsIn, recordsOf, nextOf, accepted}
+use Rattle.rules.specs.Saved.{nodesAt, behind, optionsStart, recordsOf, nextOf, accepted}
 use Rattle.rules.proofs.Tests.{and-both}
 use Rattle.saved.specs.Scan.{startOf, framed, soundTo, allPlaced}
 use Rattle.saved.proofs.Split.{accepted-split}
@@ -13,14 +13,14 @@ use Rattle.saved.proofs.Frame.{frame-long}
 use Rattle.saved.proofs.Walk.{within, sound-ends}
 
 module _ (b : List ℕ) (a : accepted b ≡ true) where
-  groups : (framed b ≡ true) × ((soundTo b (nextOf b) (optionsIn b) (recordsOf b) 0 1 && allPlaced [] (nodesAt b (recordsOf b) 0)) ≡ true)
+  groups : (framed b ≡ true) × ((soundTo b (nextOf b) (optionsStart b) (recordsOf b) 0 1 && allPlaced [] (nodesAt b (recordsOf b) 0)) ≡ true)
   groups = and-both (framed b) _ (sym (accepted-split b) ∙ a)
 
   pub accepted-long : 56 ≤ length b
   accepted-long = frame-long b (groups .0)
 
-  pub accepted-ends : startOf b (recordsOf b) ≡ optionsIn b
-  accepted-ends = sound-ends b (nextOf b) (optionsIn b) (recordsOf b) 1 (and-both (soundTo b (nextOf b) (optionsIn b) (recordsOf b) 0 1) _ (groups .1) .0)
+  pub accepted-ends : startOf b (recordsOf b) ≡ optionsStart b
+  accepted-ends = sound-ends b (nextOf b) (optionsStart b) (recordsOf b) 1 (and-both (soundTo b (nextOf b) (optionsStart b) (recordsOf b) 0 1) _ (groups .1) .0)
 
   -- record i is whole
   pub accepted-within : (i at : ℕ) → at ≡ startOf b i → i < recordsOf b → behind b at ≤ length b

@@ -11,7 +11,7 @@ use borrow.Author.Tests.{eq-eqb, ne-eqb, le-leb, lt-leb, le-ltb, lt-ltb, leb-tru
 use Rattle.rules.specs.Numbers.{topNumber}
 use Rattle.rules.specs.Bytes.{Bytes}
 use Rattle.rules.specs.Fields.{get}
-use Rattle.rules.specs.Saved.{optionsIn, trailerIn, offsetOf, nextOf, every}
+use Rattle.rules.specs.Saved.{optionsStart, trailerStart, offsetOf, nextOf, every}
 use Rattle.rules.proofs.Tests.{known, passed, fails}
 use Rattle.rules.proofs.Fields.{get-fits}
 use Rattle.le.proofs.Lens.{get-add, get-split}
@@ -19,10 +19,10 @@ use Rattle.saved.specs.Scan.{framed}
 
 module _ (b : List ℕ) where
   abbrev t : ℕ
-  t = trailerIn b
+  t = trailerStart b
 
   abbrev o : ℕ
-  o = optionsIn b
+  o = optionsStart b
 
   -- counter, version and six zeros are one number of eight bytes; flags and three zeros one of four
   eight : Bytes b → get 8 b (t + 16) / 256 ≡ get 1 b (t + 17) + 256 * get 6 b (t + 18)

@@ -11,7 +11,7 @@ use Rattle.rules.specs.Bytes.{holds}
 use Rattle.rules.specs.Utf8.{wellFormed}
 use Rattle.rules.specs.Path.{slash, isDot, isDots}
 use Rattle.rules.specs.Fields.{get}
-use Rattle.rules.specs.Saved.{Entry, nodeAt, behind, nodesAt, endAt, every, goodName}
+use Rattle.rules.specs.Saved.{SavedNode, nodeAt, behind, nodesAt, endAt, every, goodName}
 use Rattle.rules.proofs.Tests.{fails}
 use Rattle.rules.proofs.Fields.{read-slice}
 use Rattle.rules.proofs.Accepted.{ends-on}
@@ -51,7 +51,7 @@ name-is b at end e h =
     let d : end - (at + 18) ≡ get 2 b (at + 16) = omega arith in
     rw d (sym (read-slice b (at + 18) (get 2 b (at + 16)) (omega arith)))
 
-module _ (next last : ℕ) (n : Entry) where
+module _ (next last : ℕ) (n : SavedNode) where
   pub sound-low : n .number ≤ last → sound next last n ≡ false
   unfolding sound
   sound-low h = fails 0 _ (le-ltb last (n .number) h)

@@ -5,7 +5,7 @@ use mathlib.Core.List.{List, [], _∷_, _++_}
 use Prim.Native.Nat.{ℕ}
 use lib.Dec.{leb, ltb, eqb}
 use Rattle.rules.specs.Numbers.{topNumber}
-use Rattle.rules.specs.Saved.{Entry, nodesAt, endAt, optionsIn, recordsOf, nextOf, stateOf, every, frame, laidOut, lastNumber, present, used, goodName, goodNode, goodNodes, valid, accepted}
+use Rattle.rules.specs.Saved.{SavedNode, nodesAt, endAt, optionsStart, recordsOf, nextOf, stateOf, every, frame, laidOut, lastNumber, present, used, goodName, goodNode, goodNodes, valid, accepted}
 use Rattle.saved.specs.Scan.{framed, sound, allSound, soundTo, placed, allPlaced}
 
 every-append : (xs ys : List Bool) → every (xs ++ ys) ≡ (every xs && every ys)
@@ -25,14 +25,14 @@ middle true true S P = refl
 
 -- ---- records
 
-node-split : (next : ℕ) (before : List Entry) (n : Entry) → goodNode next before n ≡ (sound next (lastNumber before) n && placed before n)
+node-split : (next : ℕ) (before : List SavedNode) (n : SavedNode) → goodNode next before n ≡ (sound next (lastNumber before) n && placed before n)
 unfolding goodNode sound placed
 node-split next before n =
     every-append (ltb (lastNumber before) (n .number) ∷ ltb (n .number) next ∷ goodName (n .called) ∷ [])
     (present (n .above) before ∷ not (used (n .above) (n .called) before) ∷ [])
 
 -- the law: all pass the one group and all pass the other
-nodes-split : (next : ℕ) (before ns : List Entry) → goodNodes next before ns ≡ (allSound next (lastNumber before) ns && allPlaced before ns)
+nodes-split : (next : ℕ) (before ns : List SavedNode) → goodNodes next before ns ≡ (allSound next (lastNumber before) ns && allPlaced before ns)
 unfolding goodNodes allSound allPlaced lastNumber
 nodes-split next before [] = refl
 nodes-split next before (n ∷ ns) =
@@ -53,9 +53,9 @@ module _ (b : List ℕ) where
   bounds = leb 2 (nextOf b) ∷ leb (nextOf b) topNumber ∷ []
 
   abbrev filled : Bool
-  filled = eqb (endAt b (recordsOf b) 0) (optionsIn b)
+  filled = eqb (endAt b (recordsOf b) 0) (optionsStart b)
 
-  abbrev records : List Entry
+  abbrev records : List SavedNode
   records = nodesAt b (recordsOf b) 0
 
   laid-split : laidOut b ≡ (every (frame b) && filled)
@@ -70,11 +70,11 @@ module _ (b : List ℕ) where
   unfolding framed
   framed-split = every-append (frame b) bounds
 
-  sound-split : soundTo b (nextOf b) (optionsIn b) (recordsOf b) 0 1 ≡ (filled && allSound (nextOf b) 1 records)
+  sound-split : soundTo b (nextOf b) (optionsStart b) (recordsOf b) 0 1 ≡ (filled && allSound (nextOf b) 1 records)
   unfolding soundTo
   sound-split = every-append (filled ∷ []) (allSound (nextOf b) 1 records ∷ []) ∙ rw (every-one filled, every-one (allSound (nextOf b) 1 records))
 
-  pub accepted-split : accepted b ≡ (framed b && (soundTo b (nextOf b) (optionsIn b) (recordsOf b) 0 1 && allPlaced [] records))
+  pub accepted-split : accepted b ≡ (framed b && (soundTo b (nextOf b) (optionsStart b) (recordsOf b) 0 1 && allPlaced [] records))
   unfolding accepted
   accepted-split =
       rw (laid-split, valid-split, framed-split, sound-split)
@@ -84,13 +84,13 @@ module _ (b : List ℕ) where
   pub not-framed : framed b ≡ false → accepted b ≡ false
   not-framed e = rw (accepted-split, e)
 
-  pub not-sound : soundTo b (nextOf b) (optionsIn b) (recordsOf b) 0 1 ≡ false → accepted b ≡ false
+  pub not-sound : soundTo b (nextOf b) (optionsStart b) (recordsOf b) 0 1 ≡ false → accepted b ≡ false
   not-sound e = rw (accepted-split, e, and-false)
 
-  pub by-pairs : framed b ≡ true → soundTo b (nextOf b) (optionsIn b) (recordsOf b) 0 1 ≡ true → allPlaced [] records ≡ accepted b
+  pub by-pairs : framed b ≡ true → soundTo b (nextOf b) (optionsStart b) (recordsOf b) 0 1 ≡ true → allPlaced [] records ≡ accepted b
   by-pairs e f = rw (accepted-split, e, f)
 
   -- the answer of the one pass, for the next number and the count that were read
-  pub sound-by : (next count : ℕ) (r : Bool) → next ≡ nextOf b → count ≡ recordsOf b → r ≡ soundTo b next (optionsIn b) count 0 1
-      → soundTo b (nextOf b) (optionsIn b) (recordsOf b) 0 1 ≡ r
+  pub sound-by : (next count : ℕ) (r : Bool) → next ≡ nextOf b → count ≡ recordsOf b → r ≡ soundTo b next (optionsStart b) count 0 1
+      → soundTo b (nextOf b) (optionsStart b) (recordsOf b) 0 1 ≡ r
   sound-by next count r e f g = sym (g ∙ rw (e, f))

@@ -9,7 +9,7 @@ use native.Mathlib.Numerals.{add-one}
 use lib.ListN.{getD}
 use lib.Dec.{eqb}
 use borrow.Author.Tests.{eq-eqb, ne-eqb, eqb-true}
-use Rattle.rules.specs.Saved.{Entry, nodeAt, behind, nodesAt, endAt, every, present, used}
+use Rattle.rules.specs.Saved.{SavedNode, nodeAt, behind, nodesAt, endAt, every, present, used}
 use Rattle.rules.proofs.Tests.{passed, fails}
 use Rattle.saved.specs.Scan.{startOf, earlier, soundTo, twin, placed, allPlaced}
 use Rattle.saved.specs.Columns.{Column, listed}
@@ -55,7 +55,7 @@ unfolding earlier
 earlier-next b j p e = rw (add-one, e)
 
 -- going up: one more is passed
-module _ (b : List ℕ) (n : Entry) (j p : ℕ) (e : p ≡ startOf b j) where
+module _ (b : List ℕ) (n : SavedNode) (j p : ℕ) (e : p ≡ startOf b j) where
   pub present-here : nodeAt b p .number ≡ n .above → present (n .above) (earlier b (j + 1)) ≡ true
   unfolding present
   present-here h = rw (earlier-next b j p e, eq-eqb (nodeAt b p .number) (n .above) h)
@@ -77,13 +77,13 @@ unfolding used earlier
 used-stays b x q j zero t = rw add-zero t
 used-stays b x q j (suc k) t = rw (add-suc, used-stays b x q j k t, or-true)
 
-pub used-among : (b : List ℕ) (n : Entry) (i j p : ℕ) → p ≡ startOf b j → j < i → twin (nodeAt b p) n ≡ true → used (n .above) (n .called) (earlier b i) ≡ true
+pub used-among : (b : List ℕ) (n : SavedNode) (i j p : ℕ) → p ≡ startOf b j → j < i → twin (nodeAt b p) n ≡ true → used (n .above) (n .called) (earlier b i) ≡ true
 used-among b n i j p e h t =
     let s : j + 1 + (i - (j + 1)) ≡ i = omega arith in
     rw s at (used-stays b (n .above) (n .called) (j + 1) (i - (j + 1)) (used-here b n j p e t))
 
 -- going down: the last of the first j is passed
-module _ (b : List ℕ) (n : Entry) where
+module _ (b : List ℕ) (n : SavedNode) where
   pub used-down : (j m p : ℕ) → j ≡ m + 1 → p ≡ startOf b m → twin (nodeAt b p) n ≡ false → used (n .above) (n .called) (earlier b j) ≡ used (n .above) (n .called) (earlier b m)
   used-down j m p e q t = rw e (used-on b n m p q t)
 
@@ -93,7 +93,7 @@ module _ (b : List ℕ) (n : Entry) where
 
 -- ---- a record is placed, or not
 
-module _ (before : List Entry) (n : Entry) where
+module _ (before : List SavedNode) (n : SavedNode) where
   pub not-present : present (n .above) before ≡ false → placed before n ≡ false
   unfolding placed
   not-present h = fails 0 _ h
@@ -110,7 +110,7 @@ module _ (before : List Entry) (n : Entry) where
   unfolding placed every
   if-unused h = rw (h, and-true)
 
-pub scanned : (b : List ℕ) (n : Entry) (i j : ℕ) (found : Bool) → i ≤ j → j ≤ i → found ≡ present (n .above) (earlier b j) → used (n .above) (n .called) (earlier b j) ≡ false
+pub scanned : (b : List ℕ) (n : SavedNode) (i j : ℕ) (found : Bool) → i ≤ j → j ≤ i → found ≡ present (n .above) (earlier b j) → used (n .above) (n .called) (earlier b j) ≡ false
     → found ≡ placed (earlier b i) n
 scanned b n i j found h g f u =
     let s : i ≡ j = omega arith in

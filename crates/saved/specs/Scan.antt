@@ -4,9 +4,9 @@ use Prim.Native.Nat.{ℕ, zero, suc}
 use mathlib.Core.Bool.{Bool, true, not, _&&_}
 use mathlib.Core.List.{List, [], _∷_, _++_}
 use lib.Dec.{leb, ltb, eqb}
-use Rattle.rules.specs.Numbers.{topNumber}
+use Rattle.rules.specs.Numbers.{firstNumber, topNumber}
 use Rattle.rules.specs.Bytes.{same}
-use Rattle.rules.specs.Saved.{Entry, nodeAt, behind, nodesAt, endAt, nextOf, every, frame, present, used, goodName}
+use Rattle.rules.specs.Saved.{SavedNode, nodeAt, behind, nodesAt, endAt, nextOf, every, frame, present, used, goodName}
 
 -- where record i starts
 unfoldable pub startOf : List ℕ → ℕ → ℕ
@@ -14,20 +14,20 @@ startOf b zero = 0
 startOf b (suc i) = behind b (startOf b i)
 
 -- the first i records, the nearest first
-unfoldable pub earlier : List ℕ → ℕ → List Entry
+unfoldable pub earlier : List ℕ → ℕ → List SavedNode
 earlier b zero = []
 earlier b (suc i) = nodeAt b (startOf b i) ∷ earlier b i
 
 -- of the length and the last 56 bytes (R129 a, b, d, e, f, h)
 unfoldable pub framed : List ℕ → Bool
-framed b = every (frame b ++ (leb 2 (nextOf b) ∷ leb (nextOf b) topNumber ∷ []))
+framed b = every (frame b ++ (leb firstNumber (nextOf b) ∷ leb (nextOf b) topNumber ∷ []))
 
 -- of one record, behind one with the number `last` (R129 g, h, j)
-unfoldable pub sound : ℕ → ℕ → Entry → Bool
+unfoldable pub sound : ℕ → ℕ → SavedNode → Bool
 sound next last n = every (ltb last (n .number) ∷ ltb (n .number) next ∷ goodName (n .called) ∷ [])
 
 -- of each record, behind the one before it
-unfoldable pub allSound : ℕ → ℕ → List Entry → Bool
+unfoldable pub allSound : ℕ → ℕ → List SavedNode → Bool
 allSound next last [] = true
 allSound next last (n ∷ ns) = sound next last n && allSound next (n .number) ns
 
@@ -36,14 +36,14 @@ unfoldable pub soundTo : List ℕ → ℕ → ℕ → ℕ → ℕ → ℕ → Bo
 soundTo b next to k at last = every (eqb (endAt b k at) to ∷ allSound next last (nodesAt b k at) ∷ [])
 
 -- one parent, equal names (R129 k)
-unfoldable pub twin : Entry → Entry → Bool
+unfoldable pub twin : SavedNode → SavedNode → Bool
 twin m n = eqb (m .above) (n .above) && same (m .called) (n .called)
 
 -- of a record and those before it (R129 i, k)
-unfoldable pub placed : List Entry → Entry → Bool
+unfoldable pub placed : List SavedNode → SavedNode → Bool
 placed before n = every (present (n .above) before ∷ not (used (n .above) (n .called) before) ∷ [])
 
 -- of each record and those before it
-unfoldable pub allPlaced : List Entry → List Entry → Bool
+unfoldable pub allPlaced : List SavedNode → List SavedNode → Bool
 allPlaced before [] = true
 allPlaced before (n ∷ ns) = placed before n && allPlaced (n ∷ before) ns

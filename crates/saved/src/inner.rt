@@ -3,7 +3,7 @@ ghost use mathlib.Core.Path.{_≡_};
 ghost use Prim.Native.Nat.{_+_, _≤_};
 ghost use lib.ListN.{length};
 ghost use Rattle.rules.specs.Fields.{get};
-ghost use Rattle.rules.specs.Saved.{nodeAt, behind, optionsAt, optionsIn, recordsOf, nextOf, counterIn};
+ghost use Rattle.rules.specs.Saved.{nodeAt, behind, optionsAt, optionsStart, recordsOf, nextOf, counterIn};
 ghost use Rattle.saved.specs.Options.{meant};
 
 // The options, as they are saved (R121).
@@ -43,7 +43,7 @@ pub fn counter_of(b: &[u8]) -> u8
 // The options (R121).
 pub fn options_of(b: &[u8]) -> SavedOptions
     requires { ⌜ 56 ≤ length (now b) ⌝ }
-    ensures { λ r. ⌜ meant r ≡ optionsAt (now (b .entry)) (optionsIn (now (b .entry))) ⌝ }
+    ensures { λ r. ⌜ meant r ≡ optionsAt (now (b .entry)) (optionsStart (now (b .entry))) ⌝ }
 {
     let o = b.len() - rules::TAIL;
     SavedOptions {

@@ -5,6 +5,7 @@ use mathlib.Core.List.{List, [], _∷_, _++_}
 use mathlib.Core.Path.{_≡_}
 use lib.ListN.{length}
 use lib.Dec.{eqb, leb, ltb}
+use Rattle.rules.specs.Numbers.{maxLine}
 use Rattle.rules.specs.Instance.{Instance}
 use Rattle.le.specs.Mem.{write}
 use Rattle.tables.specs.View.{view}
@@ -44,7 +45,7 @@ fed S a room (b ∷ bs) g = cond (ltb (room - length (g .text)) 64) g (fed S a r
 
 -- the carry has room for a line, and the number kept is at most 8,193, which says that the line is over the limit (R150)
 unfoldable pub accepts : List ℕ → ℕ → Bool
-accepts carry kept = leb 8192 (length carry) && leb kept 8193
+accepts carry kept = leb maxLine (length carry) && leb kept (maxLine + 1)
 
 -- where the piece leads; refused, it leads nowhere
 unfoldable pub goes : (S : Type 0) → Answers S → S → List ℕ → ℕ → List ℕ → ℕ → Going S

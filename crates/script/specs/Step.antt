@@ -5,6 +5,7 @@ use mathlib.Core.List.{List, [], _∷_, _++_}
 use mathlib.Core.Path.{_≡_}
 use lib.ListN.{take, set}
 use lib.Dec.{eqb, ltb}
+use Rattle.rules.specs.Numbers.{maxLine}
 use Rattle.rules.specs.Bytes.{ascii}
 use Rattle.rules.specs.Instance.{Instance}
 use Rattle.rules.specs.Session.{replyTo}
@@ -32,11 +33,11 @@ byRules = record { text = λ (i : Instance) (l : List ℕ). replyTo i l .text; n
 
 -- its answer, with the line end
 unfoldable pub endText : (S : Type 0) → Answers S → S → List ℕ → ℕ → List ℕ
-endText S a s carry kept = cond (ltb 8192 kept) (ascii "?") (a .text s (take kept carry)) ++ (lineEnd ∷ [])
+endText S a s carry kept = cond (ltb maxLine kept) (ascii "?") (a .text s (take kept carry)) ++ (lineEnd ∷ [])
 
 -- what it leaves
 unfoldable pub endNext : (S : Type 0) → Answers S → S → List ℕ → ℕ → S
-endNext S a s carry kept = cond (ltb 8192 kept) s (a .next s (take kept carry))
+endNext S a s carry kept = cond (ltb maxLine kept) s (a .next s (take kept carry))
 
 -- ---- one more byte
 
@@ -50,11 +51,11 @@ byteNext S a s carry kept b = cond (eqb b lineEnd) (endNext S a s carry kept) s
 
 -- a byte over the limit is not kept (R150)
 unfoldable pub byteCarry : List ℕ → ℕ → ℕ → List ℕ
-byteCarry carry kept b = cond (eqb b lineEnd) carry (cond (ltb kept 8192) (set carry kept b) carry)
+byteCarry carry kept b = cond (eqb b lineEnd) carry (cond (ltb kept maxLine) (set carry kept b) carry)
 
 -- how many bytes are kept then; 8,193 says that the line is over the limit (R150)
 unfoldable pub byteKept : ℕ → ℕ → ℕ
-byteKept kept b = cond (eqb b lineEnd) 0 (cond (ltb kept 8192) (kept + 1) 8193)
+byteKept kept b = cond (eqb b lineEnd) 0 (cond (ltb kept maxLine) (kept + 1) (maxLine + 1))
 
 -- ---- contracts
 
