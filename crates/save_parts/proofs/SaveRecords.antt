@@ -7,6 +7,7 @@ use native.Mathlib.Omega.{arith}
 use lib.ListN.{length, take, drop, length-append, length-drop}
 use lib.Seq.{length-take-le}
 use borrow.Rule.Slice.PartMut.{putMid}
+use Rattle.rules.specs.Numbers.{maxSaved}
 use Rattle.rules.specs.Fields.{bytesOf, fields}
 use Rattle.rules.specs.Tree.{Node}
 use Rattle.rules.specs.Instance.{Options}
@@ -129,7 +130,7 @@ module _ (mem : List ℕ) (c size i : ℕ) (s : Sized mem c size i) where
   }
 
   -- what is counted stays small
-  pub sized-small : size ≤ 279279
+  pub sized-small : size + 56 ≤ maxSaved
   sized-small = omega (arith, s .rows, s .most, s .few)
 
   pub sized-done : c ≤ i → Sizes mem size
