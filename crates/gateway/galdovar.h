@@ -3,6 +3,7 @@
  *
  * R1 to R183 are the rules of docs/RULES.md. `tools/check_header` holds this file to the source in crates/gateway/src.
  * The library is for x86-64 with the C calling convention of Linux. It calls memcpy, memmove and memset, and nothing else.
+ * A call needs stack; how deep is not proved.
  *
  * Slices. A slice is two arguments: a pointer to its first byte, then its length in bytes. A pointer to const is only read.
  * - Slices of one call must not overlap: no byte that a call may write stands in another of its slices.

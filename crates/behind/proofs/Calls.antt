@@ -55,9 +55,9 @@ module _ (rest : List ℕ) where
     alloc-front = ap (λ (i : Instance). setCounter (allocation i .counter) (mem ++ rest)) (view-front rest mem (laid-is mem e)) ∙ counter-front mem e (allocation (view mem) .counter)
 
     -- rows 7 and 8
-    finish-front : (k : ℕ) (r : Request) (x : ℕ) → k < 256 → InSlots (mountOf (view mem .tree) x) → LeavesRest (endMem k r x) mem rest
+    end-front : (k : ℕ) (r : Request) (x : ℕ) → k < 256 → InSlots (mountOf (view mem .tree) x) → LeavesRest (endMem k r x) mem rest
     unfolding endMem
-    finish-front k r x h old = go (ltb maxIno (r .root))
+    end-front k r x h old = go (ltb maxIno (r .root))
       where
         go : (b : Bool) → cond b (mem ++ rest) (placeMem (mountOn k r) (r .tag) x (mem ++ rest)) ≡ cond b mem (placeMem (mountOn k r) (r .tag) x mem) ++ rest
         go true = refl
@@ -77,7 +77,7 @@ module _ (rest : List ℕ) where
         let t′ : TreeIn (view m′ .tree) = subst (λ (i : Instance). TreeIn (i .tree)) (sym (view-walked mem p e s n)) (grown-in (nextOf mem) ns (view mem .tree) f t) in
         ap (λ (i : Instance). endMem k r (ended i p) (appendAll (planned (i .tree) p .nodes) (mem ++ rest))) (view-front rest mem (laid-is mem e))
         ∙ ap (endMem k r (ended (view mem) p)) (grown-front rest ns mem e f (left .0) (left .1))
-        ∙ finish-front m′ k′ k r (ended (view mem) p) h (mount-in (view m′ .tree) (ended (view mem) p) t′)
+        ∙ end-front m′ k′ k r (ended (view mem) p) h (mount-in (view m′ .tree) (ended (view mem) p) t′)
 
   module _ (mem : List ℕ) (e : laid mem ≡ true) (b : Bytes mem) (r : Request) (s : tooLong (r .path) ≡ false) where
     abbrev i : Instance

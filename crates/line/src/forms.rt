@@ -14,7 +14,7 @@ use line_calls::umount_line;
 use line_calls::walk_line;
 use line_text::put_question;
 
-// The largest tag (R148).
+// The largest tag (R149).
 const MAX_TAG: u64 = u32::MAX as u64;
 
 // The three numbers of a mount line, where each is one.

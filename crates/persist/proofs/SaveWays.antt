@@ -16,7 +16,7 @@ use Rattle.rules.specs.Restore.{savedNodes, saved, saveRule}
 use Rattle.rules.specs.RoundTrip.{NamesTo}
 use Rattle.rules.proofs.Encoded.{options-length, encode-length}
 use Rattle.rules.proofs.RoundTrip.{longest}
-use Rattle.rules.proofs.Shape.{entries-length}
+use Rattle.rules.proofs.Shape.{saved-length}
 use Rattle.le.specs.Mem.{get, write}
 use Rattle.le.proofs.Lens.{write-append}
 use Rattle.le.proofs.Writes.{write-over}
@@ -93,7 +93,7 @@ module _ (mem d : List ℕ) where
       saves-whole h d₁ d₂ d₃ c x k f g j p q r =
           let os : List ℕ = optionsBytes (optionsFrom (headOf mem)) in
           let ts : List ℕ = trailerBytes end (countOf mem) (nextOf mem) (counterByte mem) in
-          let all : state ≡ records mem ++ (os ++ ts) = parts end e ∙ rw (entries-length (nodesOf mem), nodes-count mem) in
+          let all : state ≡ records mem ++ (os ++ ts) = parts end e ∙ rw (saved-length (nodesOf mem), nodes-count mem) in
           let a : 0 + length (records mem) ≡ end = zero-add (length (records mem)) ∙ sym e in
           let w : write d 0 state ≡ write (write (write d 0 (records mem)) end os) (end + 32) ts =
           ap (write d 0) all ∙ write-append d 0 (records mem) (os ++ ts) ∙ write-append (write d 0 (records mem)) (0 + length (records mem)) os ts
@@ -153,7 +153,7 @@ at-most : (mem : List ℕ) → laid mem ≡ true → length (encode (saved (view
 unfolding saved view
 at-most mem l =
     let r = laid-is mem l in
-    let few : length (savedNodes (nodesOf mem)) ≤ 1023 = omega (arith, entries-length (nodesOf mem), nodes-count mem, r .live, r .few-nodes) in
+    let few : length (savedNodes (nodesOf mem)) ≤ 1023 = omega (arith, saved-length (nodesOf mem), nodes-count mem, r .live, r .few-nodes) in
     let short : NamesTo 255 (savedNodes (nodesOf mem)) =
     rw (nodes-of mem) (names-to (nodeAt (capacityOf mem) mem) (λ j. name-short (capacityOf mem) mem j _ refl) 0 (countOf mem)) in
     longest .most (saved (view mem)) few short

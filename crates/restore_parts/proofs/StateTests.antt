@@ -1,6 +1,6 @@
 -- What the tests of a state restore say, and what one record writes. Assumes nothing.
 use mathlib.Core.Path.{_≡_, refl, sym, ap, _∙_}
-use mathlib.Core.Bool.{Bool, true, false, _||_, and-false}
+use mathlib.Core.Bool.{Bool, true, false, and-false}
 use mathlib.Core.Logic.{⊎-elim}
 use mathlib.Core.List.{List, [], _∷_}
 use Prim.Native.Nat.{ℕ, _+_, _-_, _≤_, _<_}
@@ -10,16 +10,17 @@ use lib.Dec.{leb, ltb}
 use borrow.Author.Tests.{eq-eqb, ne-eqb, le-leb, lt-leb, lt-ltb, le-ltb}
 use Rattle.le.specs.Mem.{get, put}
 use Rattle.rules.specs.Tree.{Node, isNone}
-use Rattle.rules.specs.Create.{outside, unknown}
+use Rattle.rules.specs.Create.{unknown}
 use Rattle.rules.specs.Saved.{nodeAt, behind, optionsAt, optionsStart, recordsOf, nextOf, counterIn, stateOf}
 use Rattle.rules.specs.Restore.{noNodes, fresh}
 use Rattle.rules.proofs.Tests.{le-or-lt}
-use Rattle.saved.specs.Options.{meant}
-use Rattle.saved.specs.declared.inner.SavedOptions.{SavedOptions}
+use Rattle.id_map.specs.Mapping.{mappingOf}
+use Rattle.storage.specs.Answers.{optionsIn}
+use Rattle.storage.specs.declared.VfsOptions.{VfsOptions}
 use Rattle.saved.proofs.Naming.{name-is}
 use Rattle.tables.specs.Table.{row}
 use Rattle.tables.specs.Layout.{capacityOf, countOf}
-use Rattle.tables.specs.View.{nodesOf, view}
+use Rattle.tables.specs.View.{mappingAt, nodesOf, view}
 use Rattle.tables.specs.Rule.{laid}
 use Rattle.tables.specs.Write.{yesByte, setNext, appendNode}
 use Rattle.tables.specs.Answer.{mountIn}
@@ -70,12 +71,23 @@ module _ (mem : List ℕ) where
         let z : isNone (view mem .tree .root) ≡ true = ap isNone (sym is ∙ ap mountIn e) in
         rw (none-there (nodesOf mem) (omega (arith, nodes-count mem)), z)
 
+-- ---- the options
+
+pub options-read : (b : List ℕ) (o : ℕ) (r : VfsOptions) → r .«in_opts» ≡ get 8 b o → r .«out_opts» ≡ get 8 b (o + 8) → mappingOf (r .«id_mapping») ≡ mappingAt b (o + 16)
+    → r .flags ≡ get 1 b (o + 28) → optionsIn r ≡ optionsAt b o
+unfolding optionsAt
+options-read b o r i u m f =
+    let e : o + 16 + 4 ≡ o + 20 = omega arith in
+    let g : o + 16 + 8 ≡ o + 24 = omega arith in
+    let n : mappingOf (r .«id_mapping») ≡ optionsAt b o .mapping = m ∙ (λ t. record { internal = get 4 b (o + 16); external = get 4 b (e t); range = get 4 b (g t) }) in
+    λ t. record { inOpts = i t; outOpts = u t; mapping = n t; flags = f t }
+
 -- ---- the mask, and room
 
-pub bits-by : (mem b : List ℕ) (known : ℕ) (o : SavedOptions) (r : Bool) → known ≡ get 8 mem 32 → meant o ≡ optionsAt b (optionsStart b)
-    → r ≡ (outside known (o .«in_opts») || outside known (o .«out_opts»)) → r ≡ unknown (view mem .fixed .known) (stateOf b .options)
-unfolding unknown view row get stateOf
-bits-by mem b known o r k m e = e ∙ (λ t. outside (k t) (m t .inOpts) || outside (k t) (m t .outOpts))
+pub bits-by : (mem b : List ℕ) (known : ℕ) (o : VfsOptions) (r : Bool) → known ≡ get 8 mem 32 → optionsIn o ≡ optionsAt b (optionsStart b)
+    → r ≡ unknown known (optionsIn o) → r ≡ unknown (view mem .fixed .known) (stateOf b .options)
+unfolding view row get stateOf
+bits-by mem b known o r k m e = e ∙ (λ t. unknown (k t) (m t))
 
 no-less : (n k : ℕ) → leb n k ≡ ltb n (1 + k)
 no-less n k = ⊎-elim (λ (h : n ≤ k). le-leb n k h ∙ sym (lt-ltb n (1 + k) (omega arith))) (λ (h : k < n). lt-leb n k h ∙ sym (le-ltb n (1 + k) (omega arith))) (le-or-lt n k)
@@ -105,7 +117,7 @@ short-name b at end e w f = rw (name-is b at end e w) (f .short)
 
 -- ---- all of it
 
-pub saved-put : (mem b : List ℕ) (next counter : ℕ) (o : SavedOptions) (m′ after : List ℕ) → next ≡ nextOf b → counter ≡ counterIn b → meant o ≡ optionsAt b (optionsStart b)
-    → m′ ≡ loadNodes (stateOf b .nodes) mem → after ≡ setState next counter (meant o) m′ → after ≡ stateMem (stateOf b) mem
+pub saved-put : (mem b : List ℕ) (next counter : ℕ) (o : VfsOptions) (m′ after : List ℕ) → next ≡ nextOf b → counter ≡ counterIn b → optionsIn o ≡ optionsAt b (optionsStart b)
+    → m′ ≡ loadNodes (stateOf b .nodes) mem → after ≡ setState next counter (optionsIn o) m′ → after ≡ stateMem (stateOf b) mem
 unfolding stateMem stateOf
 saved-put mem b next counter o m′ after n k p l h = h ∙ (λ t. setState (n t) (k t) (p t) (l t))

@@ -5,15 +5,15 @@ ghost use Prim.Native.Nat.{_+_, _≤_, _<_};
 ghost use lib.ListN.{length};
 ghost use lib.Dec.{ltb};
 ghost use Rattle.rules.specs.Create.{unknown};
-ghost use Rattle.rules.specs.Saved.{nodeAt, behind, recordsOf, stateOf, accepted};
+ghost use Rattle.rules.specs.Saved.{nodeAt, behind, optionsAt, optionsStart, recordsOf, stateOf, accepted};
 ghost use Rattle.rules.specs.Restore.{fresh};
-ghost use Rattle.saved.specs.Options.{meant};
+ghost use Rattle.storage.specs.Answers.{optionsIn};
 ghost use Rattle.tables.specs.Layout.{capacityOf, countOf};
 ghost use Rattle.tables.specs.View.{view};
 ghost use Rattle.tables.specs.Rule.{laid, Bounds};
 ghost use Rattle.tables.specs.Write.{yesByte};
 ghost use Rattle.restore_parts.specs.Parts.{hasBits, Loads, loadNode, loadNodes, setOptions, setState, stateMem};
-use saved::inner::SavedOptions;
+use storage::VfsOptions;
 use tables::mounts::MountOn;
 
 // Whether there is no node besides the root, and no mount (R132).
@@ -30,6 +30,20 @@ pub fn is_fresh(s: &[u8]) -> bool
     }
 }
 
+// The options of the state (R121).
+fn options_of(b: &[u8]) -> VfsOptions
+    requires { ⌜ 56 ≤ length (now b) ⌝ }
+    ensures { λ r. ⌜ optionsIn r ≡ optionsAt (now (b .entry)) (optionsStart (now (b .entry))) ⌝ }
+{
+    let o = b.len() - rules::TAIL;
+    VfsOptions {
+        in_opts: le::fields::get_u64(b, o),
+        out_opts: le::fields::get_u64(b, o + 8),
+        id_mapping: tables::header::mapping_at(b, o + 16),
+        flags: le::fields::get_u8(b, o + 28),
+    }
+}
+
 // Whether an option bit of the state is outside the mask of the instance (R130).
 pub fn has_unknown(s: &[u8], b: &[u8]) -> bool
     requires { ⌜ 8192 ≤ length (now s) ⌝ }
@@ -37,8 +51,7 @@ pub fn has_unknown(s: &[u8], b: &[u8]) -> bool
     ensures { λ r. ⌜ r ≡ unknown (view (now (s .entry)) .fixed .known) (stateOf (now (b .entry)) .options) ⌝ }
 {
     let known = le::fields::get_u64(s, tables::header::KNOWN_AT);
-    let o = saved::inner::options_of(b);
-    storage::inner::is_unknown(known, o.in_opts, o.out_opts)
+    storage::inner::is_unknown(known, options_of(b))
 }
 
 // Whether the records and the root are more than N (R131).
@@ -85,15 +98,13 @@ fn load_records(s: &mut [u8], b: &[u8])
 }
 
 // The options, with their own mapping and flags (R134).
-fn put_options(s: &mut [u8], o: SavedOptions)
+fn put_options(s: &mut [u8], o: VfsOptions)
     requires { ⌜ 8192 ≤ length (now s) ⌝ }
-    ensures { λ _. ⌜ now (s .exit) ≡ setOptions (meant o) (now (s .entry)) ⌝ }
+    ensures { λ _. ⌜ now (s .exit) ≡ setOptions (optionsIn o) (now (s .entry)) ⌝ }
 {
     le::fields::put_u64(s, tables::header::IN_OPTS_AT, o.in_opts);
     le::fields::put_u64(s, tables::header::OUT_OPTS_AT, o.out_opts);
-    le::fields::put_u32(s, tables::header::OWN_INTERNAL_AT, o.internal);
-    le::fields::put_u32(s, tables::header::OWN_EXTERNAL_AT, o.external);
-    le::fields::put_u32(s, tables::header::OWN_RANGE_AT, o.range);
+    tables::header::put_mapping(s, tables::header::OWN_MAPPING_AT, o.id_mapping);
     le::fields::put_u8(s, tables::header::FLAGS_AT, o.flags);
 }
 
@@ -108,9 +119,9 @@ fn initialized_byte(in_opts: u64) -> u8
 }
 
 // Next number, options and counter are the state's, and `initialized` says whether in_opts has a bit (R134).
-fn put_state(s: &mut [u8], next: u64, counter: u8, o: SavedOptions)
+fn put_state(s: &mut [u8], next: u64, counter: u8, o: VfsOptions)
     requires { ⌜ 8192 ≤ length (now s) ⌝ }
-    ensures { λ _. ⌜ now (s .exit) ≡ setState next counter (meant o) (now (s .entry)) ⌝ }
+    ensures { λ _. ⌜ now (s .exit) ≡ setState next counter (optionsIn o) (now (s .entry)) ⌝ }
 {
     let initialized = initialized_byte(o.in_opts);
     le::fields::put_u64(s, tables::header::NEXT_AT, next);
@@ -128,7 +139,7 @@ pub fn put_saved(s: &mut [u8], b: &[u8])
 {
     let next = saved::inner::next_of(b);
     let counter = saved::inner::counter_of(b);
-    let o = saved::inner::options_of(b);
+    let o = options_of(b);
     load_records(s, b);
     put_state(s, next, counter, o);
 }

@@ -27,7 +27,7 @@ use Rattle.rules.proofs.Ids.{within}
 use Rattle.rules.proofs.Walk.{path-rooted}
 use Rattle.rules.proofs.Ways.{Restorable, every-call}
 use Rattle.rules.proofs.Accepted.{clauses, fits}
-use Rattle.rules.proofs.Shape.{entries-from, entries-length}
+use Rattle.rules.proofs.Shape.{saved-from, saved-length}
 use Rattle.rules.proofs.Create.{large-enough, options-known}
 use Rattle.rules.proofs.Good.{valid-shape}
 use Rattle.rules.proofs.MountFacts.{Keeps, mount-as, restored-as, unmounted}
@@ -66,8 +66,8 @@ module _ (i : Instance) (b : List ℕ) (f : Facts i) (bytes : Bytes b) (ok : Res
       let s = stateOf b in
       let v = valid-shape s (clauses b (ok .is-accepted) .1) in
       let w = fits b bytes (ok .is-accepted) in
-      let shape : Shape (savedNodes (nodesFrom (s .nodes))) (s .next) = rw (entries-from (s .nodes)) (v .2) in
-      let size : length (nodesFrom (s .nodes)) ≡ length (s .nodes) = sym (entries-length (nodesFrom (s .nodes))) ∙ ap length (entries-from (s .nodes)) in
+      let shape : Shape (savedNodes (nodesFrom (s .nodes))) (s .next) = rw (saved-from (s .nodes)) (v .2) in
+      let size : length (nodesFrom (s .nodes)) ≡ length (s .nodes) = sym (saved-length (nodesFrom (s .nodes))) ∙ ap length (saved-from (s .nodes)) in
       record {
         shape = shape;
         top = v .1;

@@ -7,7 +7,7 @@ use mathlib.Core.Option.{Option, none, some, Option·none-ne-some}
 use Prim.Native.Nat.{ℕ, _≤_, _<_}
 use native.Mathlib.Omega.{arith}
 use borrow.Author.Tests.{ne-eqb}
-use Rattle.rules.specs.Numbers.{indexOf, numberOf, NOENT}
+use Rattle.rules.specs.Numbers.{before, indexOf, numberOf, NOENT}
 use Rattle.rules.specs.Round.{allocate}
 use Rattle.rules.specs.Instance.{Slot, Instance, counterOf, emptySlot, slotOf, tagInSlot, tagOf}
 use Rattle.rules.specs.Outcome.{refused, says, toBackend}
@@ -16,11 +16,12 @@ use Rattle.rules.specs.Lookup.{routeTag, routeRule}
 use Rattle.rules.specs.Calls.{Call, mount, route, rule}
 use Rattle.rules.specs.Laps.{Step, Going, total, lastFound, Has}
 use Rattle.rules.specs.Trace.{Unrestored, afterAll, stepsOf}
-use Rattle.rules.specs.Kept.{named, before, namedIn, handedOut, Ungiven, LeadsTo, MountedAt, EveryNew, EveryStanding, EveryOwn, EveryKept, EveryJudged}
+use Rattle.rules.specs.Kept.{named, namedIn, handedOut, Ungiven, LeadsTo, MountedAt, EveryNew, EveryStanding, EveryGone, EveryOwn, EveryKept, EveryJudged}
 use Rattle.rules.proofs.Allocation.{found-bounds}
 use Rattle.rules.proofs.Laps.{last-of}
 use Rattle.rules.proofs.Turn.{mounts-allocate}
 use Rattle.rules.proofs.Trace.{searches, steps-going, low-after, laps-from}
+use Rattle.rules.proofs.Gone.{gone-slot}
 use Rattle.rules.proofs.Given.{ungiven-slot, standing-slot}
 
 -- ---- lists of indexes
@@ -89,6 +90,16 @@ every-new i r k m x e =
     let t = mounted-tag i r k m in
     let a = rule i (mount r) .after in
     leads-on a x (r .tag) (omega (arith, t .0)) (ap (tagOf a) e ∙ t .1)
+
+-- the theorem: once it is taken off
+pub every-gone : EveryGone
+unfolding Ungiven afterAll
+every-gone i c x p z o cs u =
+    let k = indexOf x in
+    let a = rule i c .after in
+    let empty : tagOf a k ≡ none = ap tagInSlot (gone-slot i k c z o (u .0)) in
+    leads-off (afterAll a cs) x p
+    (⊎-elim (λ (s : slotOf (afterAll a cs) k ≡ slotOf a k). ap tagInSlot s ∙ empty) (λ (s : slotOf (afterAll a cs) k ≡ emptySlot). ap tagInSlot s) (ungiven-slot cs a k (u .1)))
 
 -- the theorem: until its index is given away
 pub every-own : EveryOwn

@@ -35,6 +35,7 @@ pub mod Stays
 pub mod Again
 pub mod Others
 pub mod Slots
+pub mod Gone
 pub mod Given
 pub mod Kept
 pub mod Wait

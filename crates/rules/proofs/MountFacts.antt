@@ -22,7 +22,7 @@ use Rattle.rules.specs.Driven.{Shape, Facts, Rooted}
 use Rattle.rules.proofs.Tests.{and-rest, or-neither}
 use Rattle.rules.proofs.Rows.{first-of, either}
 use Rattle.rules.proofs.Ways.{Passed}
-use Rattle.rules.proofs.Shape.{entries-mount, shape-less, length-less, length-mount}
+use Rattle.rules.proofs.Shape.{saved-mount, shape-less, length-less, length-mount}
 use Rattle.rules.proofs.Walk.{Walking, planned-walking}
 use Rattle.rules.proofs.Slots.{freed-slots}
 use Rattle.rules.proofs.Held.{Held, held-grown, held-placed, held-taken}
@@ -42,7 +42,7 @@ set-fine : (cap : ℕ) (t : Tree) (x : ℕ) (m : Option Mount) → FineTree cap 
 unfolding setMount
 set-fine cap t x m f =
     either (FineTree cap) (eqb x rootNumber) (λ e. record { shape = f .shape; top = f .top; room = f .room })
-    (λ e. record { shape = rw (entries-mount m (t .nodes) x) (f .shape); top = f .top; room = omega (arith, f .room, length-mount m (t .nodes) x) })
+    (λ e. record { shape = rw (saved-mount m (t .nodes) x) (f .shape); top = f .top; room = omega (arith, f .room, length-mount m (t .nodes) x) })
 
 cut-fine : (cap : ℕ) (t : Tree) (x : ℕ) → FineTree cap t → FineTree cap (cut x t)
 cut-fine cap t x f = record { shape = shape-less (t .nodes) x (t .next) (f .shape); top = f .top; room = omega (arith, f .room, length-less (t .nodes) x) }

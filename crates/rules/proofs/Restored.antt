@@ -25,7 +25,7 @@ use Rattle.rules.proofs.Rows.{first-of}
 use Rattle.rules.proofs.Encoded.{state-read}
 use Rattle.rules.proofs.Accepted.{clauses}
 use Rattle.rules.proofs.RoundTrip.{there-and-back, no-other, longest, most-bytes}
-use Rattle.rules.proofs.Shape.{entries-from, entries-length, rises-end}
+use Rattle.rules.proofs.Shape.{saved-from, saved-length, rises-end}
 use Rattle.rules.proofs.Good.{HasNumber, Parents, shape-good}
 use Rattle.rules.proofs.Driven.{facts}
 use Rattle.rules.proofs.Proper.{proper-parents, every-valid, is-bad-save}
@@ -71,12 +71,12 @@ pub name-length : (p : List ℕ) → goodName p ≡ true → length p ≤ 255
 unfolding goodName
 name-length p g = leb-true (length p) 255 (passed _ g .1 .0)
 
-entries-fit : (low next : ℕ) (es : List SavedNode) → next ≤ topNumber → Rises low es next → Below es → Named es → SavedNodesFit es
+saved-fit : (low next : ℕ) (es : List SavedNode) → next ≤ topNumber → Rises low es next → Below es → Named es → SavedNodesFit es
 unfolding Rises Below Named SavedNodesFit
-entries-fit low next [] t r b n = tt
-entries-fit low next (e ∷ es) t r b n =
+saved-fit low next [] t r b n = tt
+saved-fit low next (e ∷ es) t r b n =
     let l = rises-end (e .number + 1) next es (r .1) in
-    (record { number = omega arith; above = omega (arith, b .1); called = omega (arith, name-length (e .called) (n .0)) }, entries-fit (e .number + 1) next es t (r .1) (b .2) (n .1))
+    (record { number = omega arith; above = omega (arith, b .1); called = omega (arith, name-length (e .called) (n .0)) }, saved-fit (e .number + 1) next es t (r .1) (b .2) (n .1))
 
 names-to : (es : List SavedNode) → Named es → NamesTo 255 es
 unfolding Named NamesTo
@@ -85,14 +85,14 @@ names-to (e ∷ es) n = (name-length (e .called) (n .0), names-to es (n .1))
 
 module _ (i : Instance) (f : Facts i) where
   few : length (savedNodes (i .tree .nodes)) ≤ 1023
-  few = omega (arith, entries-length (i .tree .nodes), f .room, f .capacity)
+  few = omega (arith, saved-length (i .tree .nodes), f .room, f .capacity)
 
   pub saved-fits : Fits (saved i)
   unfolding saved
   saved-fits =
       let es = savedNodes (i .tree .nodes) in
       record {
-        nodes = entries-fit 2 (i .tree .next) es (f .top) (f .shape .rises) (f .shape .below) (f .shape .named);
+        nodes = saved-fit 2 (i .tree .next) es (f .top) (f .shape .rises) (f .shape .below) (f .shape .named);
         options = f .options;
         offset = omega (arith, few, most-bytes es (names-to es (f .shape .named)));
         count = omega (arith, few);
@@ -135,7 +135,7 @@ save-then-restore i j d p fr mask room =
     let back : stateOf (encode (saved i)) ≡ saved i = both .1 in
     let bits : unknown (j .fixed .known) (stateOf (encode (saved i)) .options) ≡ false = rw (back, mask) (f .within) in
     let size : ltb (j .fixed .capacity) (1 + length (stateOf (encode (saved i)) .nodes)) ≡ false =
-    rw back (le-ltb (j .fixed .capacity) (1 + length (savedNodes (i .tree .nodes))) (omega (arith, entries-length (i .tree .nodes), room))) in
+    rw back (le-ltb (j .fixed .capacity) (1 + length (savedNodes (i .tree .nodes))) (omega (arith, saved-length (i .tree .nodes), room))) in
     rw (fr, ok, bits, size, back) (record { done = refl; tree = refl; counter = refl; options = refl })
 
 -- the theorem: where a parent is gone it is BADSAVE
@@ -159,7 +159,7 @@ unfolding saved restoredTo
 restore-then-save j b h e =
     let d = restore-done j b e in
     let s = stateOf b in
-    let ns : savedNodes (nodesFrom (s .nodes)) ≡ s .nodes = entries-from (s .nodes) in
+    let ns : savedNodes (nodesFrom (s .nodes)) ≡ s .nodes = saved-from (s .nodes) in
     ap (λ (i : Instance). encode (saved i)) (d .1)
     ∙ ap encode (λ t. record { nodes = ns t; options = s .options; next = s .next; counter = s .counter })
     ∙ sym (no-other b h (d .0) .bytes)

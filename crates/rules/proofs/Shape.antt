@@ -15,31 +15,31 @@ use Rattle.rules.specs.Driven.{Rises, Below, Named, Unique, Shape}
 use Rattle.rules.proofs.Tests.{or-neither}
 use Rattle.rules.proofs.Same.{eqb-sym, same-sym}
 
--- ---- nodes and entries
+-- ---- nodes, and as they are saved
 
-pub entries-append : (xs ys : List Node) → savedNodes (xs ++ ys) ≡ savedNodes xs ++ savedNodes ys
+pub saved-append : (xs ys : List Node) → savedNodes (xs ++ ys) ≡ savedNodes xs ++ savedNodes ys
 unfolding savedNodes
-entries-append [] ys = refl
-entries-append (x ∷ xs) ys = ap (λ (l : List SavedNode). savedNode x ∷ l) (entries-append xs ys)
+saved-append [] ys = refl
+saved-append (x ∷ xs) ys = ap (λ (l : List SavedNode). savedNode x ∷ l) (saved-append xs ys)
 
-pub entries-mount : (m : Option Mount) (ns : List Node) (x : ℕ) → savedNodes (mountAt m ns x) ≡ savedNodes ns
+pub saved-mount : (m : Option Mount) (ns : List Node) (x : ℕ) → savedNodes (mountAt m ns x) ≡ savedNodes ns
 unfolding savedNodes mountAt
-entries-mount m [] x = refl
-entries-mount m (n ∷ ns) x = go (eqb (n .number) x) (entries-mount m ns x)
+saved-mount m [] x = refl
+saved-mount m (n ∷ ns) x = go (eqb (n .number) x) (saved-mount m ns x)
   where
     go : (b : Bool) → savedNodes (mountAt m ns x) ≡ savedNodes ns → savedNodes (cond b (withMount m n ∷ ns) (n ∷ mountAt m ns x)) ≡ savedNode n ∷ savedNodes ns
     go true e = refl
     go false e = ap (λ (l : List SavedNode). savedNode n ∷ l) e
 
-pub entries-from : (es : List SavedNode) → savedNodes (nodesFrom es) ≡ es
+pub saved-from : (es : List SavedNode) → savedNodes (nodesFrom es) ≡ es
 unfolding savedNodes nodesFrom
-entries-from [] = refl
-entries-from (e ∷ es) = ap (λ (l : List SavedNode). e ∷ l) (entries-from es)
+saved-from [] = refl
+saved-from (e ∷ es) = ap (λ (l : List SavedNode). e ∷ l) (saved-from es)
 
-pub entries-length : (ns : List Node) → length (savedNodes ns) ≡ length ns
+pub saved-length : (ns : List Node) → length (savedNodes ns) ≡ length ns
 unfolding savedNodes
-entries-length [] = refl
-entries-length (n ∷ ns) = ap suc (entries-length ns)
+saved-length [] = refl
+saved-length (n ∷ ns) = ap suc (saved-length ns)
 
 -- a missing child is a name that is not used
 pub child-unused : (ns : List Node) (here : ℕ) (p : List ℕ) → childIn ns here p ≡ none → used here p (savedNodes ns) ≡ false
@@ -177,4 +177,4 @@ length-less (n ∷ ns) x = go (eqb (n .number) x) (length-less ns x)
     go false k = omega arith
 
 pub length-mount : (m : Option Mount) (ns : List Node) (x : ℕ) → length (mountAt m ns x) ≡ length ns
-length-mount m ns x = sym (entries-length (mountAt m ns x)) ∙ (ap length (entries-mount m ns x) ∙ entries-length ns)
+length-mount m ns x = sym (saved-length (mountAt m ns x)) ∙ (ap length (saved-mount m ns x) ∙ saved-length ns)

@@ -23,7 +23,7 @@ use Rattle.rules.specs.Unmount.{reached}
 use Rattle.rules.specs.Driven.{Rises, Shape, Rooted, top, under}
 use Rattle.rules.proofs.Parts.{EachName, rest-names}
 use Rattle.rules.proofs.Names.{GoodName, components-good}
-use Rattle.rules.proofs.Shape.{entries-append, child-unused, shape-more, rises-end}
+use Rattle.rules.proofs.Shape.{saved-append, child-unused, shape-more, rises-end}
 
 -- the root, or a live node
 pub reached-live : (ns : List Node) (x : ℕ) → Rooted ns x → (x ≡ rootNumber) ⊎ ((n : Node) × (nodeIn ns x ≡ some n))
@@ -169,7 +169,7 @@ module _ (live : List Node) (next : ℕ) where
       let x = next + length (m .nodes) in
       let n = bare x (m .here) p in
       let b = reached-bounds (live ++ m .nodes) x (m .here) (w .shape .rises) (w .reached) in
-      let grown : Shape (savedNodes ((live ++ m .nodes) ++ (n ∷ []))) (x + 1) = rw (entries-append (live ++ m .nodes) (n ∷ [])) (shape-more (savedNodes (live ++ m .nodes)) x (savedNode n) (w .shape) refl (child-unused (live ++ m .nodes) (m .here) p e) g (b .0) (b .1)) in
+      let grown : Shape (savedNodes ((live ++ m .nodes) ++ (n ∷ []))) (x + 1) = rw (saved-append (live ++ m .nodes) (n ∷ [])) (shape-more (savedNodes (live ++ m .nodes)) x (savedNode n) (w .shape) refl (child-unused (live ++ m .nodes) (m .here) p e) g (b .0) (b .1)) in
       let size : next + length (m .nodes ++ (n ∷ [])) ≡ x + 1 = omega (arith, length-append (m .nodes) (n ∷ [])) in
       let found = node-last (live ++ m .nodes) 2 x n (w .shape .rises) refl in
       record {

@@ -5,7 +5,7 @@ use mathlib.Core.List.{List, [], _∷_}
 use mathlib.Core.Option.{Option, none, some}
 use mathlib.Core.Path.{_≡_}
 use lib.ListN.{length}
-use Rattle.rules.specs.Numbers.{indexOf, numberOf, NOENT}
+use Rattle.rules.specs.Numbers.{before, indexOf, numberOf, NOENT}
 use Rattle.rules.specs.Instance.{Instance, counterOf, emptySlot, slotOf}
 use Rattle.rules.specs.Outcome.{toBackend, Outcome, refused, says}
 use Rattle.rules.specs.Tree.{Mount}
@@ -33,11 +33,6 @@ named options = none
 named initialized = none
 named (save buffer) = none
 named (restore b) = none
-
--- a number before others, if there is one
-abbrev pub before : Option ℕ → List ℕ → List ℕ
-before none ks = ks
-before (some k) ks = k ∷ ks
 
 -- the indexes that the calls name in restored mounts, one after another
 unfoldable pub namedIn : List Call → List ℕ
@@ -123,10 +118,15 @@ abbrev pub EveryNew : Type 0
 EveryNew = (i : Instance) (r : Request) (k : ℕ) → MountedAt i r k → (x : ℕ) → indexOf x ≡ k
     → rule (rule i (mount r) .after) (route x) ≡ says (toBackend (r .tag) (indexOf x) (numberOf x)) (rule i (mount r) .after)
 
--- a number that leads into the backend of the tag t does so as long as its mount stands: on any tables, over any calls, however many (R76, R93, R98, R106)
+-- a number with an index from 1 on that leads into the backend of the tag t does so as long as its mount stands: on any tables, over any calls, however many (R76, R93, R98, R106)
 abbrev pub EveryStanding : Type 0
 EveryStanding = (i : Instance) (x t : ℕ) → 0 < indexOf x → rule i (route x) .answer ≡ toBackend t (indexOf x) (numberOf x)
     → (cs : List Call) → Standing (indexOf x) i cs → rule (afterAll i cs) (route x) ≡ says (toBackend t (indexOf x) (numberOf x)) (afterAll i cs)
+
+-- a done call takes a mount of the number's index off; then the number is refused as long as no call, that one included, gives the index away (R76, R93, R98, R106)
+abbrev pub EveryGone : Type 0
+EveryGone = (i : Instance) (c : Call) (x : ℕ) → 0 < indexOf x → rule i c .code ≡ 0 → indexIn (oldMount i c) ≡ some (indexOf x)
+    → (cs : List Call) → Ungiven (indexOf x) i (c ∷ cs) → rule (afterAll i (c ∷ cs)) (route x) ≡ refused NOENT (afterAll i (c ∷ cs))
 
 -- a number of its index leads into that mount's backend or nowhere, as long as no call gives the index away (R76, R85, R93, R106)
 abbrev pub EveryOwn : Type 0
@@ -139,8 +139,8 @@ EveryKept = (i : Instance) (r : Request) (k : ℕ) → MountedAt i r k → (cs :
     → (Has k (namedIn cs) → ⊥) → total (stepsOf (rule i (mount r) .after) cs) < 256
     → (x : ℕ) → indexOf x ≡ k → LeadsTo (afterAll (rule i (mount r) .after) cs) x (r .tag)
 
--- a number that led into the backend of the tag t, and whose index no call gave away since, leads there still if it leads anywhere; on any tables, over any calls, state
--- restores among them: a gateway that marks an index anew at each call that gives it away can judge a number by the mark (R76, R85, R93, R106)
+-- a number with an index from 1 on that led into the backend of the tag t, and whose index no call gave away since, leads there still if it leads anywhere; on any
+-- tables, over any calls, state restores among them: a gateway that marks an index anew at each call that gives it away can judge a number by the mark (R76, R85, R93, R106)
 abbrev pub EveryJudged : Type 0
 EveryJudged = (i : Instance) (x t : ℕ) → 0 < indexOf x → rule i (route x) .answer ≡ toBackend t (indexOf x) (numberOf x)
     → (cs : List Call) → Ungiven (indexOf x) i cs → rule (afterAll i cs) (route x) .code ≡ 0

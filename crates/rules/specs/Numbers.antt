@@ -1,6 +1,7 @@
 -- The numbers of the trade, inode numbers, and the numbers of the refusals.
 use Prim.Native.Nat.{ℕ, _+_, _*_, _-_, _/_, _%_, _^_}
 use mathlib.Core.Bool.{cond}
+use mathlib.Core.List.{List, _∷_}
 use mathlib.Core.Option.{Option, none, some}
 use lib.Dec.{eqb, ltb}
 
@@ -60,6 +61,11 @@ storageFor n = 512 * n + 8192
 abbrev pub orZero : Option ℕ → ℕ
 orZero none = 0
 orZero (some x) = x
+
+-- a number before others, if there is one
+abbrev pub before : Option ℕ → List ℕ → List ℕ
+before none ks = ks
+before (some k) ks = k ∷ ks
 
 -- ---- full inode numbers
 

@@ -5,7 +5,7 @@ use mathlib.Core.Logic.{_↔_, _⊎_}
 use mathlib.Core.List.{List, [], _∷_}
 use mathlib.Core.Path.{_≡_}
 use lib.ListN.{length}
-use Rattle.rules.specs.Numbers.{maxName, BADSAVE}
+use Rattle.rules.specs.Numbers.{BADSAVE}
 use Rattle.rules.specs.Bytes.{Bytes}
 use Rattle.rules.specs.Sequences.{Text}
 use Rattle.rules.specs.Instance.{Instance}
@@ -23,7 +23,7 @@ At (d ∷ ds) (suc k) e = At ds k e
 -- 1 to 255 bytes of UTF-8, 47 (`/`) at no place, and neither 46 (`.`) alone nor twice 46 (R10, R35, R129 j)
 pub record Name (p : List ℕ) : Type 0 where
   pub not-empty : 1 ≤ length p
-  pub short : length p ≤ maxName
+  pub short : length p ≤ 255
   pub text : Text p
   pub no-slash : (k : ℕ) → At p k 47 → ⊥
   pub no-dot : p ≡ 46 ∷ [] → ⊥

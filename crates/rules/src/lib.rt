@@ -43,6 +43,9 @@ pub const RECORD: usize = 18;
 // The bytes of the options (R121).
 pub const OPTIONS: usize = 32;
 
+// The version of saved state (R123).
+pub const VERSION: u8 = 1;
+
 // The bytes of the trailer (R123).
 pub const TRAILER: usize = 24;
 

@@ -20,6 +20,7 @@ use Rattle.le.proofs.Writes.{write-part}
 use Rattle.tables.specs.Layout.{capacityOf, countOf}
 use Rattle.tables.specs.View.{nodeAt, nodesOf}
 use Rattle.tables.specs.Rule.{Bounds}
+use Rattle.tables.specs.Write.{putMapping}
 use Rattle.tables.proofs.Tab.{tab-next, tab-done}
 use Rattle.tables.proofs.Find.{left, none-looked}
 use Rattle.row_name.specs.Copied.{Copied}
@@ -33,22 +34,20 @@ field-put : (w v : ℕ) (mem bs : List ℕ) (at : ℕ) → write mem at (bytesOf
 field-put w v mem bs at = sym (put-write w mem at v bs)
 
 options-put : (mem : List ℕ) (at : ℕ) (o : Options)
-    → put 2 (put 1 (put 1 (put 4 (put 4 (put 4 (put 8 (put 8 mem at (o .inOpts)) (at + 8) (o .outOpts)) (at + 16) (o .mapping .internal)) (at + 20) (o .mapping .external)) (at + 24) (o .mapping .range)) (at + 28) (o .flags)) (at + 29) 0) (at + 30) 0
+    → put 2 (put 1 (put 1 (putMapping (o .mapping) (at + 16) (put 8 (put 8 mem at (o .inOpts)) (at + 8) (o .outOpts))) (at + 28) (o .flags)) (at + 29) 0) (at + 30) 0
     ≡ write mem at (optionsBytes o)
 unfolding optionsBytes fields
 options-put mem at o =
     let e₁ : at + 8 + 8 ≡ at + 16 = omega arith in
-    let e₂ : at + 16 + 4 ≡ at + 20 = omega arith in
-    let e₃ : at + 20 + 4 ≡ at + 24 = omega arith in
-    let e₄ : at + 24 + 4 ≡ at + 28 = omega arith in
-    let e₅ : at + 28 + 1 ≡ at + 29 = omega arith in
-    let e₆ : at + 29 + 1 ≡ at + 30 = omega arith in
-    simp (field-put, e₁, e₂, e₃, e₄, e₅, put-add 1 2, e₆)
+    let e₂ : at + 16 + 4 + 4 ≡ at + 16 + 8 = omega arith in
+    let e₃ : at + 16 + 8 + 4 ≡ at + 28 = omega arith in
+    let e₄ : at + 28 + 1 ≡ at + 29 = omega arith in
+    let e₅ : at + 29 + 1 ≡ at + 30 = omega arith in
+    simp (field-put, e₁, e₂, e₃, e₄, put-add 1 2, e₅)
 
-pub options-puts : (mem : List ℕ) (at : ℕ) (o : Options) (e₁ e₂ e₃ e₄ e₅ e₆ e₇ e₈ : List ℕ) → e₁ ≡ put 8 mem at (o .inOpts) → e₂ ≡ put 8 e₁ (at + 8) (o .outOpts)
-    → e₃ ≡ put 4 e₂ (at + 16) (o .mapping .internal) → e₄ ≡ put 4 e₃ (at + 20) (o .mapping .external) → e₅ ≡ put 4 e₄ (at + 24) (o .mapping .range)
-    → e₆ ≡ put 1 e₅ (at + 28) (o .flags) → e₇ ≡ put 1 e₆ (at + 29) 0 → e₈ ≡ put 2 e₇ (at + 30) 0 → e₈ ≡ write mem at (optionsBytes o)
-options-puts mem at o e₁ e₂ e₃ e₄ e₅ e₆ e₇ e₈ p₁ p₂ p₃ p₄ p₅ p₆ p₇ p₈ = p₈ ∙ rw (p₇, p₆, p₅, p₄, p₃, p₂, p₁) (options-put mem at o)
+pub options-puts : (mem : List ℕ) (at : ℕ) (o : Options) (e₁ e₂ e₃ e₄ e₅ e₆ : List ℕ) → e₁ ≡ put 8 mem at (o .inOpts) → e₂ ≡ put 8 e₁ (at + 8) (o .outOpts)
+    → e₃ ≡ putMapping (o .mapping) (at + 16) e₂ → e₄ ≡ put 1 e₃ (at + 28) (o .flags) → e₅ ≡ put 1 e₄ (at + 29) 0 → e₆ ≡ put 2 e₅ (at + 30) 0 → e₆ ≡ write mem at (optionsBytes o)
+options-puts mem at o e₁ e₂ e₃ e₄ e₅ e₆ p₁ p₂ p₃ p₄ p₅ p₆ = p₆ ∙ rw (p₅, p₄, p₃, p₂, p₁) (options-put mem at o)
 
 pub trailer-put : (mem : List ℕ) (at offset count next counter : ℕ)
     → put 4 (put 2 (put 1 (put 1 (put 8 (put 4 (put 4 mem at offset) (at + 4) count) (at + 8) next) (at + 16) counter) (at + 17) 1) (at + 18) 0) (at + 20) 0

@@ -18,6 +18,7 @@ use le::fields::put_u64;
 use row_name::copy_name;
 use row_name::name_len;
 use storage::VfsOptions;
+use tables::header::put_mapping;
 
 // How many bytes the node records take (R120).
 pub fn records_size(s: &[u8]) -> usize
@@ -70,9 +71,7 @@ fn put_fields(out: &mut [u8], at: usize, o: VfsOptions)
 {
     put_u64(out, at, o.in_opts);
     put_u64(out, at + 8, o.out_opts);
-    put_u32(out, at + 16, o.id_mapping.internal);
-    put_u32(out, at + 20, o.id_mapping.external);
-    put_u32(out, at + 24, o.id_mapping.range);
+    put_mapping(out, at + 16, o.id_mapping);
     put_u8(out, at + 28, o.flags);
     put_u8(out, at + 29, 0);
     put_u16(out, at + 30, 0);
@@ -97,7 +96,7 @@ pub fn put_trailer(out: &mut [u8], at: usize, offset: u32, count: u32, next: u64
     put_u32(out, at + 4, count);
     put_u64(out, at + 8, next);
     put_u8(out, at + 16, counter);
-    put_u8(out, at + 17, 1);
+    put_u8(out, at + 17, rules::VERSION);
     put_u16(out, at + 18, 0);
     put_u32(out, at + 20, 0);
 }

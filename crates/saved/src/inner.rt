@@ -3,18 +3,7 @@ ghost use mathlib.Core.Path.{_≡_};
 ghost use Prim.Native.Nat.{_+_, _≤_};
 ghost use lib.ListN.{length};
 ghost use Rattle.rules.specs.Fields.{get};
-ghost use Rattle.rules.specs.Saved.{nodeAt, behind, optionsAt, optionsStart, recordsOf, nextOf, counterIn};
-ghost use Rattle.saved.specs.Options.{meant};
-
-// The options, as they are saved (R121).
-pub struct SavedOptions {
-    pub in_opts: u64,
-    pub out_opts: u64,
-    pub internal: u32,
-    pub external: u32,
-    pub range: u32,
-    pub flags: u8,
-}
+ghost use Rattle.rules.specs.Saved.{nodeAt, behind, recordsOf, nextOf, counterIn};
 
 // How many records there are (R123).
 pub fn count_of(b: &[u8]) -> usize
@@ -38,22 +27,6 @@ pub fn counter_of(b: &[u8]) -> u8
     ensures { λ r. ⌜ r ≡ counterIn (now (b .entry)) ⌝ }
 {
     le::fields::get_u8(b, b.len() - rules::TRAILER + 16)
-}
-
-// The options (R121).
-pub fn options_of(b: &[u8]) -> SavedOptions
-    requires { ⌜ 56 ≤ length (now b) ⌝ }
-    ensures { λ r. ⌜ meant r ≡ optionsAt (now (b .entry)) (optionsStart (now (b .entry))) ⌝ }
-{
-    let o = b.len() - rules::TAIL;
-    SavedOptions {
-        in_opts: le::fields::get_u64(b, o),
-        out_opts: le::fields::get_u64(b, o + 8),
-        internal: le::fields::get_u32(b, o + 16),
-        external: le::fields::get_u32(b, o + 20),
-        range: le::fields::get_u32(b, o + 24),
-        flags: le::fields::get_u8(b, o + 28),
-    }
 }
 
 // The number of the record at a place (R120).

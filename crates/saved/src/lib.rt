@@ -27,7 +27,7 @@ fn is_framed(b: &[u8]) -> bool
     if le::fields::get_u32(b, t) as usize != o {
         return false;
     }
-    if le::fields::get_u64(b, t + 16) / 256 != 1 {
+    if le::fields::get_u64(b, t + 16) / 256 != rules::VERSION as u64 {
         return false;
     }
     if (rules::FLAGS as u32) <= le::fields::get_u32(b, o + 28) {

@@ -29,7 +29,7 @@ struct Next {
 // Says of a begun line that it is over the limit already (R150).
 const OVER: usize = rules::MAX_LINE + 1;
 
-// An answer with its line end has at most 46 bytes; so many are asked for (D85).
+// The room in the output that one more line asks for; an answer with its line end has at most 46 bytes (D85).
 const ROOM: usize = 64;
 
 // The byte that ends a line (R151).

@@ -12,9 +12,6 @@ const NODES: usize = 64;
 // The bytes that they need (R20).
 const STORAGE: usize = 512 * NODES + 8192;
 
-// The bytes of the longest line (R150).
-const MAX_LINE: usize = 8192;
-
 // Writes the first `wrote` bytes of the output; the contracts of a feed and of a finish say that there are so many.
 fn write(out: &[u8], wrote: usize) {
     if wrote <= out.len() {
@@ -99,7 +96,7 @@ fn run(storage: &mut [u8], carry: &mut [u8], input: &mut [u8], out: &mut [u8]) {
 // The instance of a session has no option bits, no mapping, and keeps its nodes (R137).
 fn main() {
     let mut storage = [0u8; STORAGE];
-    let mut carry = [0u8; MAX_LINE];
+    let mut carry = [0u8; rules::MAX_LINE];
     let mut input = [0u8; 65536];
     let mut out = [0u8; 65536];
     let id_mapping = id_map::IdMapping {

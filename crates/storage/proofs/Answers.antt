@@ -6,10 +6,11 @@ use Prim.Native.Nat.{ℕ}
 use native.Mathlib.Omega.{arith}
 use lib.Dec.{eqb}
 use Rattle.le.specs.Mem.{get}
+use Rattle.id_map.specs.Mapping.{mappingOf}
 use Rattle.rules.specs.Outcome.{settings}
 use Rattle.rules.specs.Calls.{rule}
 use Rattle.tables.specs.Table.{row}
-use Rattle.tables.specs.View.{optionsFrom, headOf, view}
+use Rattle.tables.specs.View.{optionsFrom, mappingAt, headOf, view}
 use Rattle.tables.specs.Rule.{laid}
 use Rattle.tables.specs.Write.{setRemoval}
 use Rattle.tables.specs.Call.{tells, answeredBy, Does}
@@ -36,10 +37,10 @@ module _ (mem : List ℕ) where
   unfolding optionsTold
   options-small e = sym (told-small mem optionsCall e)
 
-  pub options-by : (o : VfsOptions) → o .«in_opts» ≡ get 8 mem 40 → o .«out_opts» ≡ get 8 mem 48 → o .«id_mapping» .internal ≡ get 4 mem 68 → o .«id_mapping» .external ≡ get 4 mem 72
-      → o .«id_mapping» .range ≡ get 4 mem 76 → o .flags ≡ get 1 mem 80 → optionsIn o ≡ optionsFrom (headOf mem)
+  pub options-by : (o : VfsOptions) → o .«in_opts» ≡ get 8 mem 40 → o .«out_opts» ≡ get 8 mem 48 → mappingOf (o .«id_mapping») ≡ mappingAt mem 68
+      → o .flags ≡ get 1 mem 80 → optionsIn o ≡ optionsFrom (headOf mem)
   unfolding row get
-  options-by o a b c d f g = λ t. record { inOpts = a t; outOpts = b t; mapping = record { internal = c t; external = d t; range = f t }; flags = g t }
+  options-by o a b m g = λ t. record { inOpts = a t; outOpts = b t; mapping = m t; flags = g t }
 
   pub options-are : laid mem ≡ true → (o : VfsOptions) → optionsIn o ≡ optionsFrom (headOf mem) → optionsTold (OptionsAre o) ≡ answeredBy mem optionsCall
   unfolding optionsTold rule view

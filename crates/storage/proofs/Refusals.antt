@@ -1,6 +1,6 @@
 -- The tests of creation, and the number of its answer by them. Assumes nothing.
 use mathlib.Core.Path.{_≡_}
-use mathlib.Core.Bool.{true, false, not, _||_}
+use mathlib.Core.Bool.{true, false, not}
 use Prim.Native.Nat.{ℕ, _+_, _*_, _≤_, _<_}
 use lib.Bits.{bitAnd}
 use lib.Dec.{eqb, leb, ltb}
@@ -26,22 +26,21 @@ module _ (bytes n : ℕ) where
   unfolding tooSmall
   by-bytes h g = rw (le-ltb n 1 h, le-ltb 1024 n g)
 
-module _ (known ins outs : ℕ) where
-  pub in-unknown : (bitAnd ins known ≡ ins → ⊥) → (outside known ins || outside known outs) ≡ true
-  unfolding outside
-  in-unknown h = rw (ne-eqb (bitAnd ins known) ins h)
-
-  pub by-out : bitAnd ins known ≡ ins → not (eqb (bitAnd outs known) outs) ≡ (outside known ins || outside known outs)
-  unfolding outside
-  by-out h = rw (eq-eqb (bitAnd ins known) ins h)
-
 module _ (known : ℕ) (o : Options) where
-  pub bad-bits : (outside known (o .inOpts) || outside known (o .outOpts)) ≡ true → badOptions known o ≡ true
-  unfolding badOptions unknown
+  pub in-unknown : (bitAnd (o .inOpts) known ≡ o .inOpts → ⊥) → unknown known o ≡ true
+  unfolding unknown outside
+  in-unknown h = rw (ne-eqb (bitAnd (o .inOpts) known) (o .inOpts) h)
+
+  pub by-out : bitAnd (o .inOpts) known ≡ o .inOpts → not (eqb (bitAnd (o .outOpts) known) (o .outOpts)) ≡ unknown known o
+  unfolding unknown outside
+  by-out h = rw (eq-eqb (bitAnd (o .inOpts) known) (o .inOpts) h)
+
+  pub bad-bits : unknown known o ≡ true → badOptions known o ≡ true
+  unfolding badOptions
   bad-bits e = rw e
 
-  pub by-flags : (outside known (o .inOpts) || outside known (o .outOpts)) ≡ false → leb 64 (o .flags) ≡ badOptions known o
-  unfolding badOptions unknown
+  pub by-flags : unknown known o ≡ false → leb 64 (o .flags) ≡ badOptions known o
+  unfolding badOptions
   by-flags e = rw e
 
 module _ (bytes : ℕ) (q : Creation) where

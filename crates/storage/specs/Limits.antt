@@ -43,7 +43,7 @@ pub record Limits (i : Instance) : Type 0 where
   pub top : i .tree .next ≤ topNumber
   pub within : unknown (i .fixed .known) (i .options) ≡ false
   pub mapping : badMapping (i .fixed .mapping) ≡ false
-  -- 256 slots, and the widths of the cells
+  -- the flags (R22), 256 slots, and the widths of the cells
   pub mask : i .fixed .known < 2 ^ 64
   pub options : OptionsFit (i .options)
   pub counter : i .indexes .counter < 256

@@ -4,7 +4,7 @@ ghost use mathlib.Core.Bool.{cond};
 ghost use mathlib.Core.List.{[], _∷_};
 ghost use Prim.Native.Nat.{_+_, _*_, _≤_};
 ghost use lib.ListN.{length};
-ghost use Rattle.le.specs.Mem.{write, bytesOf, put};
+ghost use Rattle.le.specs.Mem.{write, bytesOf};
 ghost use Rattle.rules.specs.Create.{tooSmall, badOptions};
 ghost use Rattle.tables.specs.Layout.{mark};
 ghost use Rattle.tables.specs.Rule.{laid};
@@ -69,7 +69,7 @@ fn is_small(bytes: usize, n: u64) -> bool
 fn has_bad_options(known: u64, o: VfsOptions) -> bool
     ensures { λ r. ⌜ r ≡ badOptions known (optionsIn o) ⌝ }
 {
-    if inner::is_unknown(known, o.in_opts, o.out_opts) {
+    if inner::is_unknown(known, o) {
         return true;
     }
     rules::FLAGS <= o.flags
@@ -144,16 +144,6 @@ fn put_words(s: &mut [u8], n: u64, known: u64, in_opts: u64, out_opts: u64)
     le::fields::put_u64(s, tables::header::OUT_OPTS_AT, out_opts);
 }
 
-// A mapping at a place: internal, external, range.
-fn put_mapping(s: &mut [u8], at: usize, m: id_map::IdMapping)
-    requires { ⌜ at + 12 ≤ length (now s) ⌝ }
-    ensures { λ _. ⌜ now (s .exit) ≡ put 4 (put 4 (put 4 (now (s .entry)) at (m .internal)) (at + 4) (m .external)) (at + 8) (m .range) ⌝ }
-{
-    le::fields::put_u32(s, at, m.internal);
-    le::fields::put_u32(s, at + 4, m.external);
-    le::fields::put_u32(s, at + 8, m.range);
-}
-
 // The flags, counter 1, removal unset, not initialized, no mount on the root.
 fn put_rest(s: &mut [u8], flags: u8)
     requires { ⌜ 8192 ≤ length (now s) ⌝ }
@@ -174,8 +164,8 @@ fn put_new(s: &mut [u8], n: usize, known: u64, o: VfsOptions)
     let id_mapping = o.id_mapping;
     put_slots(s);
     put_words(s, n as u64, known, o.in_opts, o.out_opts);
-    put_mapping(s, tables::header::INTERNAL_AT, id_mapping);
-    put_mapping(s, tables::header::OWN_INTERNAL_AT, id_mapping);
+    tables::header::put_mapping(s, tables::header::MAPPING_AT, id_mapping);
+    tables::header::put_mapping(s, tables::header::OWN_MAPPING_AT, id_mapping);
     put_rest(s, o.flags);
 }
 

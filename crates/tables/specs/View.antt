@@ -5,7 +5,7 @@ use mathlib.Core.List.{List, [], _∷_, _++_}
 use mathlib.Core.Option.{Option, none, some}
 use lib.ListN.{getD, take}
 use lib.Dec.{eqb}
-use Rattle.le.specs.Mem.{value}
+use Rattle.le.specs.Mem.{value, get}
 use Rattle.rules.specs.Ids.{Mapping}
 use Rattle.rules.specs.Tree.{Mount, Node}
 use Rattle.rules.specs.Instance.{Options, Slot, Instance}
@@ -50,6 +50,10 @@ slotFrom r = record { held = flag 0 r; tag = field 1 r }
 -- the mapping in three fields from the k-th on (R27)
 abbrev pub mappingFrom : ℕ → List (List ℕ) → Mapping
 mappingFrom k h = record { internal = field k h; external = field (k + 1) h; range = field (k + 2) h }
+
+-- the mapping at a place (R27)
+abbrev pub mappingAt : List ℕ → ℕ → Mapping
+mappingAt mem at = record { internal = get 4 mem at; external = get 4 mem (at + 4); range = get 4 mem (at + 8) }
 
 -- the options, with their own mapping (R27, R34)
 abbrev pub optionsFrom : List (List ℕ) → Options

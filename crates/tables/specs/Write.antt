@@ -4,7 +4,8 @@ use mathlib.Core.Bool.{Bool, true, false}
 use mathlib.Core.List.{List, [], _∷_, _++_}
 use mathlib.Core.Option.{Option, none, some}
 use lib.ListN.{length, take, drop, replicate}
-use Rattle.le.specs.Mem.{bytesOf}
+use Rattle.le.specs.Mem.{bytesOf, put}
+use Rattle.rules.specs.Ids.{Mapping}
 use Rattle.rules.specs.Tree.{Mount}
 use Rattle.tables.specs.Table.{putRow, closeUp}
 use Rattle.tables.specs.Layout.{header, slotTable, nodeTable, capacityOf, countOf, nextOf}
@@ -34,6 +35,10 @@ setCounter c mem = putHeader 14 (bytesOf 1 c ∷ []) mem
 -- the remove flag is set (R32)
 unfoldable pub setRemoval : List ℕ → List ℕ
 setRemoval mem = putHeader 15 (bytesOf 1 1 ∷ []) mem
+
+-- a mapping at a place (R27)
+abbrev pub putMapping : Mapping → ℕ → List ℕ → List ℕ
+putMapping m at mem = put 4 (put 4 (put 4 mem at (m .internal)) (at + 4) (m .external)) (at + 8) (m .range)
 
 -- ---- a slot
 

@@ -1,12 +1,12 @@
 // The header: N, the number of nodes, the next number, the counter, the remove flag, and the mapping in force.
 ghost use mathlib.Core.Path.{_≡_};
-ghost use Prim.Native.Nat.{_≤_};
+ghost use Prim.Native.Nat.{_+_, _≤_};
 ghost use lib.ListN.{length};
 ghost use Rattle.id_map.specs.Mapping.{mappingOf};
 ghost use Rattle.tables.specs.Layout.{capacityOf, countOf, nextOf, counterByte};
-ghost use Rattle.tables.specs.View.{flag, mappingFrom, headOf};
+ghost use Rattle.tables.specs.View.{flag, mappingFrom, mappingAt, headOf};
 ghost use Rattle.tables.specs.Rule.{Bounds};
-ghost use Rattle.tables.specs.Write.{setCounter, setRemoval};
+ghost use Rattle.tables.specs.Write.{setCounter, setRemoval, putMapping};
 
 // Where each number stands (docs/LAYOUT.md).
 pub const MARK_AT: usize = 0;
@@ -32,17 +32,9 @@ pub const REMOVAL_AT: usize = 82;
 pub const INITIALIZED_AT: usize = 83;
 
 // The mapping in force, and the options' own (R34).
-pub const INTERNAL_AT: usize = 56;
+pub const MAPPING_AT: usize = 56;
 
-pub const EXTERNAL_AT: usize = 60;
-
-pub const RANGE_AT: usize = 64;
-
-pub const OWN_INTERNAL_AT: usize = 68;
-
-pub const OWN_EXTERNAL_AT: usize = 72;
-
-pub const OWN_RANGE_AT: usize = 76;
+pub const OWN_MAPPING_AT: usize = 68;
 
 // The root's mount.
 pub const ROOT_CELL_AT: usize = 88;
@@ -109,14 +101,32 @@ pub fn set_removes(s: &mut [u8])
     le::fields::put_u8(s, REMOVAL_AT, 1);
 }
 
+// The mapping at a place: internal, external, range (R27).
+pub fn mapping_at(s: &[u8], at: usize) -> id_map::IdMapping
+    requires { ⌜ at + 12 ≤ length (now s) ⌝ }
+    ensures { λ r. ⌜ mappingOf r ≡ mappingAt (now (s .entry)) at ⌝ }
+{
+    id_map::IdMapping {
+        internal: le::fields::get_u32(s, at),
+        external: le::fields::get_u32(s, at + 4),
+        range: le::fields::get_u32(s, at + 8),
+    }
+}
+
+// The mapping stands at the place then (R27).
+pub fn put_mapping(s: &mut [u8], at: usize, m: id_map::IdMapping)
+    requires { ⌜ at + 12 ≤ length (now s) ⌝ }
+    ensures { λ _. ⌜ now (s .exit) ≡ putMapping (mappingOf m) at (now (s .entry)) ⌝ }
+{
+    le::fields::put_u32(s, at, m.internal);
+    le::fields::put_u32(s, at + 4, m.external);
+    le::fields::put_u32(s, at + 8, m.range);
+}
+
 // The mapping in force (R34).
 pub fn mapping(s: &[u8]) -> id_map::IdMapping
     requires { ⌜ 8192 ≤ length (now s) ⌝ }
     ensures { λ r. ⌜ mappingOf r ≡ mappingFrom 7 (headOf (now (s .entry))) ⌝ }
 {
-    id_map::IdMapping {
-        internal: le::fields::get_u32(s, INTERNAL_AT),
-        external: le::fields::get_u32(s, EXTERNAL_AT),
-        range: le::fields::get_u32(s, RANGE_AT),
-    }
+    mapping_at(s, MAPPING_AT)
 }

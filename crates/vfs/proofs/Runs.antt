@@ -16,16 +16,16 @@ use Rattle.rules.specs.Calls.{Call, mount, restore-mount, umount, route, restor
 use Rattle.rules.specs.Driven.{call as by-call}
 use Rattle.rules.specs.Laps.{total, lastFound, LapsBy, Laps}
 use Rattle.rules.specs.Trace.{Unrestored, afterAll, stepsOf}
-use Rattle.rules.specs.Kept.{Standing, LeadsTo, MountedAt}
+use Rattle.rules.specs.Kept.{Ungiven, Standing, LeadsTo, MountedAt}
 use Rattle.rules.proofs.Turn.{mounts-allocate}
 use Rattle.rules.proofs.Trace.{laps}
-use Rattle.rules.proofs.Kept.{least-index, every-new, every-standing, every-kept}
+use Rattle.rules.proofs.Kept.{least-index, every-new, every-standing, every-gone, every-kept}
 use Rattle.tables.specs.View.{view}
 use Rattle.tables.specs.Rule.{laid}
 use Rattle.tables.specs.Call.{Told, toldBy, tells, answeredBy, Does}
 use Rattle.tables.proofs.Indexes.{slots-count}
 use Rattle.storage.proofs.Laid.{told-by}
-use Rattle.vfs.specs.Runs.{Step, Allowed, Run, callsOf, counts, EveryLapOfBytes, EveryMountOfBytes, lastOf, EveryKeptOfBytes, EveryStandingOfBytes, StaysDriven}
+use Rattle.vfs.specs.Runs.{Step, Allowed, Run, callsOf, counts, EveryLapOfBytes, EveryMountOfBytes, lastOf, EveryKeptOfBytes, EveryStandingOfBytes, EveryGoneOfBytes, StaysDriven}
 use Rattle.vfs.proofs.MountWays.{counter-in}
 
 -- the counts that are told are those of the rules
@@ -87,13 +87,13 @@ mounted-at s a l bytes r e z k t m =
       found = sym (λ j. by j .found) ∙ (w .3 ∙ ap {B = Option ℕ} some same);
     }
 
--- a mount of the call r, steps behind it, and a route of x then
-module _ (s : Step) (a : Allowed s) (l : laid (s .before) ≡ true) (r : Request) (e : s .call ≡ mount r) (ss : List Step) (run : Run (s .after) ss) where
+-- a step that makes the call k, steps behind it, and a route of x then
+module _ (s : Step) (a : Allowed s) (l : laid (s .before) ≡ true) (k : Call) (e : s .call ≡ k) (ss : List Step) (run : Run (s .after) ss) where
   abbrev before : Instance
   before = view (s .before)
 
   abbrev first : Instance
-  first = rule before (mount r) .after
+  first = rule before k .after
 
   abbrev last : Instance
   last = afterAll first (callsOf ss)
@@ -117,11 +117,11 @@ at-index t k x e = ap (λ (j : ℕ). tells (toBackend t j (numberOf x))) e
 -- the theorem: within a lap
 pub kept-of-bytes : EveryKeptOfBytes
 kept-of-bytes s a l bytes r e z k t m ss run u n few q b at x c ix =
-    let told = told-last s a l r e ss run q b at x c in
-    let j = last s a l r e ss run in
+    let told = told-last s a l (mount r) e ss run q b at x c in
+    let j = last s a l (mount r) e ss run in
     let leads : LeadsTo j x (r .tag) =
     every-kept (view (s .before)) r k (mounted-at s a l bytes r e z k t m) (callsOf ss)
-    (subst (λ (y : Instance). Unrestored y (callsOf ss)) (stands-first s a l r e ss run) u) n (subst (λ (y : ℕ). y < 256) (same-counts s a l r e ss run) few) x ix in
+    (subst (λ (y : Instance). Unrestored y (callsOf ss)) (stands-first s a l (mount r) e ss run) u) n (subst (λ (y : ℕ). y < 256) (same-counts s a l (mount r) e ss run) few) x ix in
     ⊎-elim (λ (y : rule j (route x) ≡ refused NOENT j). inl (told ∙ ap toldBy y))
     (λ (y : rule j (route x) ≡ says (toBackend (r .tag) (indexOf x) (numberOf x)) j). inr (told ∙ (ap toldBy y ∙ at-index (r .tag) k x ix)))
     leads
@@ -131,11 +131,20 @@ pub standing-of-bytes : EveryStandingOfBytes
 standing-of-bytes s a l bytes r e z k t m ss run stand q b at x c ix =
     let i = view (s .before) in
     let d = mounted-at s a l bytes r e z k t m in
-    let f = first s a l r e ss run in
+    let f = first s a l (mount r) e ss run in
     let new : rule f (route x) ≡ says (toBackend (r .tag) (indexOf x) (numberOf x)) f = every-new i r k d x ix in
-    let on : Standing (indexOf x) f (callsOf ss) = subst (λ (j : ℕ). Standing j f (callsOf ss)) (sym ix) (subst (λ (y : Instance). Standing k y (callsOf ss)) (stands-first s a l r e ss run) stand) in
-    told-last s a l r e ss run q b at x c
+    let on : Standing (indexOf x) f (callsOf ss) = subst (λ (j : ℕ). Standing j f (callsOf ss)) (sym ix) (subst (λ (y : Instance). Standing k y (callsOf ss)) (stands-first s a l (mount r) e ss run) stand) in
+    told-last s a l (mount r) e ss run q b at x c
     ∙ (ap toldBy (every-standing f x (r .tag) (rw ix (least-index i r k d)) (λ j. new j .answer) (callsOf ss) on) ∙ at-index (r .tag) k x ix)
+
+-- the theorem: once it is taken off
+pub gone-of-bytes : EveryGoneOfBytes
+unfolding afterAll
+gone-of-bytes s a l z k p o ss run u q b at x c ix =
+    let i = view (s .before) in
+    let done : rule i (s .call) .code ≡ 0 = sym (λ j. (a .answer ∙ told-by (s .before) (λ (y : Instance). rule y (s .call)) l) j .code) ∙ z in
+    let none = every-gone i (s .call) x (rw ix p) done (rw ix o) (callsOf ss) (subst (λ (y : ℕ). Ungiven y i (s .call ∷ callsOf ss)) (sym ix) u) in
+    told-last s a l (s .call) refl ss run q b at x c ∙ ap toldBy none
 
 -- driven bytes stay driven
 pub stays-driven : StaysDriven

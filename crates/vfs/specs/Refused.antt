@@ -1,4 +1,4 @@
--- Demand 1 of the bytes: what a refused call on the mount tables leaves of the lent storage, by the number and the count that it tells.
+-- Demand 1 of the bytes: what a refused call on the mount tables leaves of the lent storage, by the number and the count that it tells, and of a restored mount by the number and its largest number.
 use Prim.Native.Nat.{ℕ, _+_, _%_, _≤_, _<_}
 use mathlib.Core.List.{List}
 use mathlib.Core.Path.{_≡_}

@@ -13,7 +13,7 @@ use Rattle.rules.specs.Calls.{Call, mount, route, rule}
 use Rattle.rules.specs.Driven.{Typed, Driven}
 use Rattle.rules.specs.Laps.{lastFound, Has, LapsBy}
 use Rattle.rules.specs.Trace.{Unrestored, stepsOf}
-use Rattle.rules.specs.Kept.{namedIn, Standing}
+use Rattle.rules.specs.Kept.{namedIn, Ungiven, oldMount, indexIn, Standing}
 use Rattle.tables.specs.View.{view}
 use Rattle.tables.specs.Rule.{laid}
 use Rattle.tables.specs.Call.{Told, tells, refuses, answeredBy}
@@ -78,6 +78,14 @@ EveryStandingOfBytes = (s : Step) → Allowed s → laid (s .before) ≡ true �
     → (ss : List Step) → Run (s .after) ss → Standing k (view (s .after)) (callsOf ss)
     → (q : Step) → Allowed q → q .before ≡ lastOf (s .after) ss → (x : ℕ) → q .call ≡ route x → indexOf x ≡ k
     → q .told ≡ tells (toBackend (r .tag) k (numberOf x))
+
+-- a step tells that it is done, and takes a mount of the index k off; no step, that one included, gives k away; then a number of that index is refused NOENT
+-- (R76, R93, R98, R106)
+abbrev pub EveryGoneOfBytes : Type 0
+EveryGoneOfBytes = (s : Step) → Allowed s → laid (s .before) ≡ true → s .told .code ≡ 0 → (k : ℕ) → 0 < k → indexIn (oldMount (view (s .before)) (s .call)) ≡ some k
+    → (ss : List Step) → Run (s .after) ss → Ungiven k (view (s .before)) (s .call ∷ callsOf ss)
+    → (q : Step) → Allowed q → q .before ≡ lastOf (s .after) ss → (x : ℕ) → q .call ≡ route x → indexOf x ≡ k
+    → q .told ≡ refuses NOENT
 
 -- a step that a contract allows, from bytes that keep the layout rule and are driven, leaves driven bytes
 abbrev pub StaysDriven : Type 0

@@ -10,7 +10,7 @@ use lib.Seq.{take-nil, drop-drop}
 use Rattle.rules.specs.Bytes.{same}
 use Rattle.rules.specs.Path.{partsBy}
 use Rattle.rules.specs.Session.{space, words, number, shown}
-use Rattle.rules.specs.Kept.{before}
+use Rattle.rules.specs.Numbers.{before}
 use Rattle.le.specs.Mem.{write}
 use Rattle.le.proofs.Writes.{write-suc}
 use Rattle.path.specs.Steps.{between, partLength, partEnd}

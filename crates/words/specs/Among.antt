@@ -2,7 +2,7 @@
 use Prim.Native.Nat.{ℕ, _%_, _^_}
 use mathlib.Core.List.{List, [], _∷_}
 use Rattle.rules.specs.Session.{number}
-use Rattle.rules.specs.Kept.{before}
+use Rattle.rules.specs.Numbers.{before}
 
 -- the words that are numbers of 64 bits, in their order
 unfoldable pub numbersOf : List (List ℕ) → List ℕ

@@ -175,8 +175,8 @@ impl<P: Side> Compare<P> {
         }
     }
 
-    /// Every two bytes behind a slash; every first byte with up to three next bytes around each limit. The longest, without
-    /// byte 0, are looked up too.
+    /// Every two bytes behind a slash; every first byte with up to three next bytes around each limit. The longest are
+    /// looked up too, changed so that no byte is 0.
     pub fn utf8(&mut self) {
         let edges = [0x00, 0x2f, 0x61, 0x7f, 0x80, 0x8f, 0x90, 0x9f, 0xa0, 0xbf, 0xc0, 0xc2, 0xe0, 0xf0, 0xff];
         self.call(&directed::new(16, (0, 0, 0)));

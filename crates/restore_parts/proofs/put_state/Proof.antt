@@ -1,7 +1,7 @@
 -- The options stand among the other fields of the header. Assumes nothing.
 use mathlib.Core.Path.{_∙_}
 use borrow.Author.Needs.{needs}
-use Rattle.saved.specs.Options.{meant}
+use Rattle.storage.specs.Answers.{optionsIn}
 use Rattle.restore_parts.proofs.StateHead.{state-put}
 use Rattle.restore_parts.proofs.put_state.Statement.{statement}
 use Rattle.restore_parts.proofs.put_state.Tie as tie
@@ -12,7 +12,7 @@ returns c =
     let u₂ = u₃ .before .before .before .before in
     let u₁ = u₂ .before .before .before .before in
     let a = u₁ .before .before .before .before .args in
-    c .before .before .put-u82 .ensures ∙ (rw (u₃ .put-u8 .ensures, u₂ .put-options .ensures, u₁ .put-u64 .ensures, u₁ .before .before .initialized-byte .ensures) (state-put (a .s .now) (a .next) (a .counter) (meant (a .o))))
+    c .before .before .put-u82 .ensures ∙ (rw (u₃ .put-u8 .ensures, u₂ .put-options .ensures, u₁ .put-u64 .ensures, u₁ .before .before .initialized-byte .ensures) (state-put (a .s .now) (a .next) (a .counter) (optionsIn (a .o))))
 
 pub put-state-spec : {M : Type 1} → statement M
 put-state-spec =

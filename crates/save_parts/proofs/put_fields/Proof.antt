@@ -7,24 +7,18 @@ use Rattle.save_parts.proofs.put_fields.Tie as tie
 
 returns : tie.Need-returns
 returns c =
-    let u₇ = c .before .before .before .before .before .before in
-    let u₆ = u₇ .before .before .before .before in
-    let u₅ = u₆ .before .before .before .before in
+    let u₅ = c .before .before .before .before .before .before in
     let u₄ = u₅ .before .before .before .before in
     let u₃ = u₄ .before .before .before .before in
     let u₂ = u₃ .before .before .before .before in
     let u₁ = u₂ .before .before .before .before in
-    options-puts _ _ (optionsIn (u₁ .before .before .before .args .o)) _ _ _ _ _ _ _ _ (u₁ .put-u64 .ensures) (u₂ .put-u642 .ensures) (u₃ .put-u32 .ensures) (u₄ .put-u322 .ensures)
-    (u₅ .put-u323 .ensures) (u₆ .put-u8 .ensures) (u₇ .put-u82 .ensures) (c .before .before .put-u16 .ensures)
+    options-puts _ _ (optionsIn (u₁ .before .before .before .args .o)) _ _ _ _ _ _ (u₁ .put-u64 .ensures) (u₂ .put-u642 .ensures) (u₃ .put-mapping .ensures)
+    (u₄ .put-u8 .ensures) (u₅ .put-u82 .ensures) (c .before .before .put-u16 .ensures)
 
 pub put-fields-spec : {M : Type 1} → statement M
 put-fields-spec =
     tie.close
     (tie.spec
-    (λ c κs. search needs)
-    (λ c. search needs)
-    (λ c κs. search needs)
-    (λ c. search needs)
     (λ c κs. search needs)
     (λ c. search needs)
     (λ c κs. search needs)

@@ -36,6 +36,7 @@ is-framed-spec =
     returns-2
     (λ c. search needs)
     (λ c κs. search needs)
+    (λ c. search needs)
     returns-3
     (λ c. search needs)
     (λ c. search needs)

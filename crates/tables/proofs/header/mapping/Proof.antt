@@ -7,11 +7,7 @@ use Rattle.tables.proofs.header.mapping.Tie as tie
 
 returns : tie.Need-returns
 unfolding get row
-returns c = λ t. record {
-  internal = c .before .before .get-u32 .ensures t;
-  external = c .before .get-u322 .ensures t;
-  range = c .get-u323 .ensures t;
-}
+returns c = c .mapping-at .ensures
 
 pub mapping-spec : {M : Type 1} → statement M
-mapping-spec = tie.close (tie.spec (λ c κs. search needs) (λ c κs. search needs) (λ c κs. search needs) returns)
+mapping-spec = tie.close (tie.spec (λ c κs. search needs) returns)

@@ -1,8 +1,8 @@
--- Three numbers are written. Assumes nothing.
+-- Three numbers are written.
 use mathlib.Core.Path.{_∙_}
 use borrow.Author.Needs.{needs}
-use Rattle.storage.proofs.put_mapping.Statement.{statement}
-use Rattle.storage.proofs.put_mapping.Tie as tie
+use Rattle.tables.proofs.header.put_mapping.Statement.{statement}
+use Rattle.tables.proofs.header.put_mapping.Tie as tie
 
 returns : tie.Need-returns
 returns c =
