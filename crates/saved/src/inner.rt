@@ -1,4 +1,4 @@
-// What saved bytes say, field by field, whether or not they are accepted (R119 to R123).
+// What saved bytes say of their records and in their trailer, whether or not they are accepted (R119, R120, R123).
 ghost use mathlib.Core.Path.{_≡_};
 ghost use Prim.Native.Nat.{_+_, _≤_};
 ghost use lib.ListN.{length};

@@ -1,4 +1,4 @@
-// The header: N, the number of nodes, the next number, the counter, the remove flag, and the mapping in force.
+// The header: N, the number of nodes, the next number, the counter, the remove flag, and the mapping in force; a mapping at any place is read and written here too.
 ghost use mathlib.Core.Path.{_≡_};
 ghost use Prim.Native.Nat.{_+_, _≤_};
 ghost use lib.ListN.{length};
