@@ -1,0 +1,6 @@
+-- What is proved of steps that contracts allow.
+pub mod Back
+pub mod Made
+pub mod Stood
+pub mod Answers
+pub mod Lives
