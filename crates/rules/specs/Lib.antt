@@ -35,3 +35,4 @@ pub mod Stays
 pub mod Kept
 pub mod Wait
 pub mod Needed
+pub mod Found
