@@ -43,3 +43,6 @@ pub mod Wait
 pub mod Needed
 pub mod Found
 pub mod Unmounted
+pub mod Putting
+pub mod PutBack
+pub mod Room

@@ -36,3 +36,4 @@ pub mod Kept
 pub mod Wait
 pub mod Needed
 pub mod Found
+pub mod PutBack
