@@ -24,7 +24,7 @@ use Rattle.rules.specs.Driven.{Typed, creation, call, Rises, Below, Name
 use Rattle.rules.proofs.Tests.{le-or-lt, and-both, or-neither}
 use Rattle.rules.proofs.Rows.{first-of}
 use Rattle.rules.proofs.Ids.{within}
-use Rattle.rules.proofs.Walk.{path-rooted}
+use Rattle.rules.proofs.Leads.{path-rooted}
 use Rattle.rules.proofs.Ways.{Restorable, every-call}
 use Rattle.rules.proofs.Accepted.{clauses, fits}
 use Rattle.rules.proofs.Shape.{saved-from, saved-length}
@@ -51,7 +51,7 @@ fresh-bare i e =
     (no-nodes (i .tree .nodes) (b .0), no-root (i .tree .root) (b .1))
 
 -- and so it holds no slot
-none-held : (i : Instance) → Facts i → fresh i ≡ true → (k : ℕ) → heldIn i k ≡ true → ⊥
+pub none-held : (i : Instance) → Facts i → fresh i ≡ true → (k : ℕ) → heldIn i k ≡ true → ⊥
 unfolding MountIn
 none-held i f e k h =
     let b = fresh-bare i e in

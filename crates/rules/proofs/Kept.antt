@@ -52,15 +52,15 @@ ungiven (c ∷ cs) i k h n = (
 -- ---- where a number leads
 
 -- by what stands in the slot of its index
-by-tag : (i : Instance) (x : ℕ) → 0 < indexOf x → rule i (route x) ≡ routeTag i (indexOf x) (numberOf x) (tagOf i (indexOf x))
+pub by-tag : (i : Instance) (x : ℕ) → 0 < indexOf x → rule i (route x) ≡ routeTag i (indexOf x) (numberOf x) (tagOf i (indexOf x))
 unfolding rule routeRule
 by-tag i x p = rw (ne-eqb (indexOf x) 0 (λ z. omega arith))
 
-leads-on : (i : Instance) (x t : ℕ) → 0 < indexOf x → tagOf i (indexOf x) ≡ some t → rule i (route x) ≡ says (toBackend t (indexOf x) (numberOf x)) i
+pub leads-on : (i : Instance) (x t : ℕ) → 0 < indexOf x → tagOf i (indexOf x) ≡ some t → rule i (route x) ≡ says (toBackend t (indexOf x) (numberOf x)) i
 unfolding routeTag
 leads-on i x t p e = by-tag i x p ∙ ap (routeTag i (indexOf x) (numberOf x)) e
 
-leads-off : (i : Instance) (x : ℕ) → 0 < indexOf x → tagOf i (indexOf x) ≡ none → rule i (route x) ≡ refused NOENT i
+pub leads-off : (i : Instance) (x : ℕ) → 0 < indexOf x → tagOf i (indexOf x) ≡ none → rule i (route x) ≡ refused NOENT i
 unfolding routeTag
 leads-off i x p e = by-tag i x p ∙ ap (routeTag i (indexOf x) (numberOf x)) e
 

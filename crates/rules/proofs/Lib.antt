@@ -23,6 +23,7 @@ pub mod Names
 pub mod Shape
 pub mod Good
 pub mod Walk
+pub mod Leads
 pub mod Held
 pub mod MountFacts
 pub mod Create
@@ -40,3 +41,8 @@ pub mod Given
 pub mod Kept
 pub mod Wait
 pub mod Needed
+pub mod Found
+pub mod Unmounted
+pub mod Putting
+pub mod PutBack
+pub mod Room

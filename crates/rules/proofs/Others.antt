@@ -23,37 +23,37 @@ use Rattle.rules.proofs.Walk.{planned-all}
 use Rattle.rules.proofs.Ways.{every-call}
 
 -- the mount on the first node of a number, or none
-abbrev on : List Node → ℕ → Option Mount
+abbrev pub on : List Node → ℕ → Option Mount
 on ns y = mountIn (nodeIn ns y)
 
 -- ---- lists of nodes
-
-behind-first : (b : Bool) (n : Node) (p q : Option Node) → mountIn p ≡ mountIn q → mountIn (cond b (some n) p) ≡ mountIn (cond b (some n) q)
-behind-first true n p q e = refl
-behind-first false n p q e = e
 
 module _ (x y : ℕ) (apart : x ≡ y → ⊥) where
   -- a node of the number x is none of the number y
   other : (n : Node) → eqb (n .number) x ≡ true → eqb (n .number) y ≡ false
   other n e = ne-eqb (n .number) y (λ q. apart (sym (eqb-true (n .number) x e) ∙ q))
 
-  on-mounted : (m : Option Mount) (ns : List Node) → on (mountAt m ns x) y ≡ on ns y
+  pub node-mounted : (m : Option Mount) (ns : List Node) → nodeIn (mountAt m ns x) y ≡ nodeIn ns y
   unfolding nodeIn mountAt
-  on-mounted m [] = refl
-  on-mounted m (n ∷ ns) = go (eqb (n .number) x) refl (on-mounted m ns)
+  node-mounted m [] = refl
+  node-mounted m (n ∷ ns) = go (eqb (n .number) x) refl (node-mounted m ns)
     where
-      go : (b : Bool) → eqb (n .number) x ≡ b → on (mountAt m ns x) y ≡ on ns y → on (cond b (withMount m n ∷ ns) (n ∷ mountAt m ns x)) y ≡ on (n ∷ ns) y
+      go : (b : Bool) → eqb (n .number) x ≡ b → nodeIn (mountAt m ns x) y ≡ nodeIn ns y → nodeIn (cond b (withMount m n ∷ ns) (n ∷ mountAt m ns x)) y ≡ nodeIn (n ∷ ns) y
       go true e k = rw (other n e)
-      go false e k = behind-first (eqb (n .number) y) n _ _ k
+      go false e k = rw k
 
-  on-without : (ns : List Node) → on (without ns x) y ≡ on ns y
+  pub node-without : (ns : List Node) → nodeIn (without ns x) y ≡ nodeIn ns y
   unfolding nodeIn without
-  on-without [] = refl
-  on-without (n ∷ ns) = go (eqb (n .number) x) refl (on-without ns)
+  node-without [] = refl
+  node-without (n ∷ ns) = go (eqb (n .number) x) refl (node-without ns)
     where
-      go : (b : Bool) → eqb (n .number) x ≡ b → on (without ns x) y ≡ on ns y → on (cond b ns (n ∷ without ns x)) y ≡ on (n ∷ ns) y
+      go : (b : Bool) → eqb (n .number) x ≡ b → nodeIn (without ns x) y ≡ nodeIn ns y → nodeIn (cond b ns (n ∷ without ns x)) y ≡ nodeIn (n ∷ ns) y
       go true e k = rw (other n e)
-      go false e k = behind-first (eqb (n .number) y) n _ _ k
+      go false e k = rw k
+
+behind-first : (b : Bool) (n : Node) (p q : Option Node) → mountIn p ≡ mountIn q → mountIn (cond b (some n) p) ≡ mountIn (cond b (some n) q)
+behind-first true n p q e = refl
+behind-first false n p q e = e
 
 -- a new node has no mount
 on-more : (ns : List Node) (n : Node) (y : ℕ) → n .mount ≡ none → on (ns ++ (n ∷ [])) y ≡ on ns y
@@ -68,7 +68,7 @@ on-more (m ∷ ns) n y e = behind-first (eqb (m .number) y) m _ _ (on-more ns n 
 -- ---- trees
 
 -- by the mounts on the nodes
-of-nodes : (r : Option Mount) (y : ℕ) (p q : Option Mount) → p ≡ q → cond (eqb y rootNumber) r p ≡ cond (eqb y rootNumber) r q
+pub of-nodes : (r : Option Mount) (y : ℕ) (p q : Option Mount) → p ≡ q → cond (eqb y rootNumber) r p ≡ cond (eqb y rootNumber) r q
 of-nodes r y p q e = rw e
 
 grown-same : (t : Tree) (path : List ℕ) (y : ℕ) → mountOf (grown (planned t path .nodes) t) y ≡ mountOf t y
@@ -76,18 +76,18 @@ unfolding mountOf
 grown-same t path y = of-nodes (t .root) y _ _ (planned-all (λ (ns : List Node). on ns y ≡ on (t .nodes) y) t (λ ns n l m e. on-more ns n y m ∙ e) path refl)
 
 module _ (x y : ℕ) (apart : x ≡ y → ⊥) where
-  set-same : (t : Tree) (m : Option Mount) → mountOf (setMount t x m) y ≡ mountOf t y
+  pub set-same : (t : Tree) (m : Option Mount) → mountOf (setMount t x m) y ≡ mountOf t y
   unfolding mountOf setMount
   set-same t m = go (eqb x rootNumber) refl
     where
       go : (b : Bool) → eqb x rootNumber ≡ b
           → mountOf (cond b (record { next = t .next; root = m; nodes = t .nodes }) (record { next = t .next; root = t .root; nodes = mountAt m (t .nodes) x })) y ≡ mountOf t y
       go true e = rw (ne-eqb y rootNumber (λ q. apart (eqb-true x rootNumber e ∙ sym q)))
-      go false e = of-nodes (t .root) y _ _ (on-mounted x y apart m (t .nodes))
+      go false e = of-nodes (t .root) y _ _ (ap mountIn (node-mounted x y apart m (t .nodes)))
 
   cut-same : (t : Tree) → mountOf (cut x t) y ≡ mountOf t y
   unfolding mountOf
-  cut-same t = of-nodes (t .root) y _ _ (on-without x y apart (t .nodes))
+  cut-same t = of-nodes (t .root) y _ _ (ap mountIn (node-without x y apart (t .nodes)))
 
   taken-same : (i : Instance) → mountOf (taken i x) y ≡ mountOf (i .tree) y
   unfolding taken
@@ -138,7 +138,7 @@ unfolding unmounts
 unmounted i path x m q y =
     elim (ℕ-discrete x y) [ yes e ↦ by-unmount path refl refl (q ∙ ap {B = Option ℕ} some e) | no n ↦ same-mount (taken-same x y n i) ]
 
-bare-nodes : (es : List SavedNode) (y : ℕ) → on (nodesFrom es) y ≡ none
+pub bare-nodes : (es : List SavedNode) (y : ℕ) → on (nodesFrom es) y ≡ none
 unfolding nodesFrom nodeIn
 bare-nodes [] y = refl
 bare-nodes (e ∷ es) y = go (eqb (e .number) y) (bare-nodes es y)

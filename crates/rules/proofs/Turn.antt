@@ -31,7 +31,7 @@ placed-counter k r x i = refl
 moves : (i j : Instance) (r : Request) (code : ℕ) (a : Answer) → counterOf j ≡ counterOf (stepped i) → Moves i (mount r) (allocated i code a j) r
 moves i j r code a e = record { call = refl; visits = refl; found = refl; counter = e }
 
-placed-tag : (k : ℕ) (r : Request) (x : ℕ) (i : Instance) → k < length (i .indexes .slots) → tagOf (placed k r x i) k ≡ some (r .tag)
+pub placed-tag : (k : ℕ) (r : Request) (x : ℕ) (i : Instance) → k < length (i .indexes .slots) → tagOf (placed k r x i) k ≡ some (r .tag)
 unfolding placed
 placed-tag k r x i h =
     let j = freed (mountOf (i .tree) x) i in

@@ -3,7 +3,7 @@ use mathlib.Core.Path.{_≡_, refl, subst}
 use mathlib.Core.Bool.{Bool, true, false, cond, _&&_}
 use mathlib.Core.Logic.{_⊎_, inl, inr}
 use mathlib.Core.List.{List, [], _∷_, _++_, append-assoc, append-nil}
-use mathlib.Core.Option.{Option, none, some, Option·some-injective, Option·none-ne-some, Option·some-ne-none}
+use mathlib.Core.Option.{Option, none, some, Option·none-ne-some, Option·some-ne-none}
 use Prim.Native.Nat.{ℕ, _+_, _≤_, _<_}
 use native.Mathlib.Nat.{add-zero}
 use native.Mathlib.Omega.{arith}
@@ -14,12 +14,11 @@ use Rattle.rules.specs.Numbers.{rootNumber}
 use Rattle.rules.specs.Bytes.{same}
 use Rattle.rules.specs.Path.{Part, name, parent, components, tooLong}
 use Rattle.rules.specs.Utf8.{wellFormed}
-use Rattle.rules.specs.Tree.{Node, Made, bare, isChild, childIn, nodeIn, aboveOf, parentIn, onward, walk, orMake, step, makes, atRoot}
-use Rattle.rules.specs.Instance.{Tree, Instance}
+use Rattle.rules.specs.Tree.{Node, Made, bare, isChild, childIn, nodeIn, aboveOf, parentIn, orMake, step, makes, atRoot}
+use Rattle.rules.specs.Instance.{Tree}
 use Rattle.rules.specs.Saved.{goodName}
 use Rattle.rules.specs.Restore.{savedNode, savedNodes}
 use Rattle.rules.specs.Mount.{planned}
-use Rattle.rules.specs.Unmount.{reached}
 use Rattle.rules.specs.Driven.{Rises, Shape, Rooted, top, under}
 use Rattle.rules.proofs.Parts.{EachName, rest-names}
 use Rattle.rules.proofs.Names.{GoodName, components-good}
@@ -32,10 +31,10 @@ reached-live ns x (under y n e r) = inr (n, e)
 
 -- ---- up
 
-up : (ns : List Node) (x : ℕ) → Rooted ns x → Rooted ns (parentIn ns x)
+pub rooted-up : (ns : List Node) (x : ℕ) → Rooted ns x → Rooted ns (parentIn ns x)
 unfolding parentIn
-up ns x top = top
-up ns x (under y n e r) = go (eqb x rootNumber)
+rooted-up ns x top = top
+rooted-up ns x (under y n e r) = go (eqb x rootNumber)
   where
     go : (b : Bool) → Rooted ns (cond b rootNumber (aboveOf (nodeIn ns x)))
     go true = top
@@ -63,28 +62,11 @@ child-place (n ∷ ns) low high here p x r e =
     go true q false f k = later (k f)
     go false q b f k = later (k f)
 
-down : (ns : List Node) (high here : ℕ) (p : List ℕ) (x : ℕ) → Rises 2 (savedNodes ns) high → childIn ns here p ≡ some x → Rooted ns here → Rooted ns x
-down ns high here p x r e h = go (child-place ns 2 high here p x r e)
+pub rooted-down : (ns : List Node) (high here : ℕ) (p : List ℕ) (x : ℕ) → Rises 2 (savedNodes ns) high → childIn ns here p ≡ some x → Rooted ns here → Rooted ns x
+rooted-down ns high here p x r e h = go (child-place ns 2 high here p x r e)
   where
     go : Place ns 2 high here x → Rooted ns x
     go (n, f, g, l, k) = under x n f (rw g h)
-
--- ---- the walk
-
-walk-rooted : (ns : List Node) (high : ℕ) → Rises 2 (savedNodes ns) high → (ps : List Part) (here x : ℕ) → Rooted ns here → walk ns here ps ≡ some x → Rooted ns x
-unfolding walk
-walk-rooted ns high r [] here x h e = subst (Rooted ns) (Option·some-injective here x e) h
-walk-rooted ns high r (parent at ∷ ps) here x h e = walk-rooted ns high r ps (parentIn ns here) x (up ns here h) e
-walk-rooted ns high r (name at p ∷ ps) here x h e = go (childIn ns here p) refl e (λ y. walk-rooted ns high r ps y x)
-  where
-    go : (o : Option ℕ) → childIn ns here p ≡ o → onward o (λ (y : ℕ). walk ns y ps) ≡ some x → ((y : ℕ) → Rooted ns y → walk ns y ps ≡ some x → Rooted ns x) → Rooted ns x
-    go none q f on = absurd (Option·none-ne-some x f)
-    go (some y) q f on = on y (down ns high here p y r q h) f
-
--- the walk along a path
-pub path-rooted : (i : Instance) (high : ℕ) → Rises 2 (savedNodes (i .tree .nodes)) high → (path : List ℕ) (x : ℕ) → reached i path ≡ some x → Rooted (i .tree .nodes) x
-unfolding reached
-path-rooted i high r path x e = walk-rooted (i .tree .nodes) high r (components 0 path) rootNumber x top e
 
 -- ---- more nodes
 
@@ -142,7 +124,7 @@ reached-bounds ns high x r (under y n e h) =
 
 -- what holds of the nodes of a tree, and with a new node put last, holds with those that a mount walk makes
 module _ (P : List Node → Type 0) (t : Tree) (more : (ns : List Node) (n : Node) → t .next ≤ n .number → n .mount ≡ none → P ns → P (ns ++ (n ∷ []))) where
-  makes-all : (ps : List Part) (m : Made) → P (t .nodes ++ m .nodes) → P (t .nodes ++ makes (t .nodes) (t .next) m ps .nodes)
+  pub makes-all : (ps : List Part) (m : Made) → P (t .nodes ++ m .nodes) → P (t .nodes ++ makes (t .nodes) (t .next) m ps .nodes)
   unfolding makes step
   makes-all [] m h = h
   makes-all (parent at ∷ ps) m h = makes-all ps _ h
@@ -177,13 +159,13 @@ module _ (live : List Node) (next : ℕ) where
         reached = rw (← append-assoc live (m .nodes) (n ∷ [])) (under x n found (reached-append (live ++ m .nodes) (n ∷ []) (m .here) (w .reached)));
       }
 
-  step-walking : (m : Made) (p : Part) (ps : List Part) → EachName GoodName (p ∷ ps) → Walking live next m → Walking live next (step live next m p)
+  pub step-walking : (m : Made) (p : Part) (ps : List Part) → EachName GoodName (p ∷ ps) → Walking live next m → Walking live next (step live next m p)
   unfolding step EachName
-  step-walking m (parent at) ps g w = record { shape = w .shape; reached = up (live ++ m .nodes) (m .here) (w .reached) }
+  step-walking m (parent at) ps g w = record { shape = w .shape; reached = rooted-up (live ++ m .nodes) (m .here) (w .reached) }
   step-walking m (name at p) ps g w = go (childIn (live ++ m .nodes) (m .here) p) refl
     where
       go : (o : Option ℕ) → childIn (live ++ m .nodes) (m .here) p ≡ o → Walking live next (orMake next m p o)
-      go (some x) e = record { shape = w .shape; reached = down (live ++ m .nodes) (next + length (m .nodes)) (m .here) p x (w .shape .rises) e (w .reached) }
+      go (some x) e = record { shape = w .shape; reached = rooted-down (live ++ m .nodes) (next + length (m .nodes)) (m .here) p x (w .shape .rises) e (w .reached) }
       go none e = makes-one m p (g .0) w e
 
   makes-walking : (m : Made) (ps : List Part) → EachName GoodName ps → Walking live next m → Walking live next (makes live next m ps)
