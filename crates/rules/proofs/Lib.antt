@@ -39,4 +39,5 @@ pub mod Gone
 pub mod Given
 pub mod Kept
 pub mod Wait
-pub mod Needed
+pub mod Shown
+pub mod Stored

@@ -7,19 +7,17 @@ use Prim.Native.Nat.{ℕ, _+_, _%_, _<_}
 use native.Mathlib.Omega.{arith}
 use lib.ListN.{length}
 use lib.Seq.{getD-set-same}
-use borrow.Author.Tests.{le-ltb}
-use Rattle.rules.specs.Numbers.{maxIno}
 use Rattle.rules.specs.Round.{goingRound, untilTwice, visited, allocate}
 use Rattle.rules.specs.Tree.{Mount}
 use Rattle.rules.specs.Instance.{Instance, counterOf, emptySlot, heldBy, tagOf, mountOf}
-use Rattle.rules.specs.Outcome.{Answer, Outcome, refused, firstOf}
+use Rattle.rules.specs.Outcome.{Answer, Outcome, refused}
 use Rattle.rules.specs.Mount.{Request, freed, placed, allocation, stepped, allocated, walkedTo, ended, mountAs, mountRule, restoreAs}
 use Rattle.rules.specs.Unmount.{unmounts}
 use Rattle.rules.specs.Restore.{restoreRule}
 use Rattle.rules.specs.Calls.{Call, mount, rule}
 use Rattle.rules.specs.Trace.{NoRestore, Moves, Keeps, MountAnswers, EveryMount, OnlyMounts}
 use Rattle.rules.proofs.Rows.{each-of}
-use Rattle.rules.proofs.Ways.{every-call}
+use Rattle.rules.proofs.Ways.{mount-passed, every-call}
 use Rattle.rules.proofs.Slots.{freed-slots}
 
 -- ---- mount
@@ -66,9 +64,8 @@ answers-done i r =
 
 -- the theorem: a mount that rows 1 to 4 let pass makes its allocation, and what it finds is what is answered
 pub mounts-allocate : EveryMount
-unfolding mountRule firstOf
 mounts-allocate i r = record {
-  moves = λ l u m n. rw (l, u, le-ltb maxIno (r .largest) m, n) (mount-as i r (allocation i .found));
+  moves = λ l u m n. rw (mount-passed i r (record { short = l; utf8 = u; largest = m; room = n })) (mount-as i r (allocation i .found));
   answers = answers-done i r;
 }
 

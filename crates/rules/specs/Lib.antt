@@ -35,3 +35,5 @@ pub mod Stays
 pub mod Kept
 pub mod Wait
 pub mod Needed
+pub mod Shown
+pub mod Stored
