@@ -10,7 +10,7 @@ use lib.Seq.{getD-set-other}
 use Rattle.rules.specs.Tree.{Mount}
 use Rattle.rules.specs.Instance.{Instance, emptySlot, heldBy, slotOf, mountOf}
 use Rattle.rules.specs.Outcome.{Outcome}
-use Rattle.rules.specs.Mount.{Request, freedSlots, placed, allocation, walkedTo, stepped, ended, mountAs, mountRule, restoreAs, restoreMountRule}
+use Rattle.rules.specs.Mount.{Request, freedSlots, placed, allocation, mountAs, mountRule, restoreAs, restoreMountRule}
 use Rattle.rules.specs.Unmount.{reached, mountUnder, unmounts, unmountAt, unmountRule}
 use Rattle.rules.specs.Calls.{Call, mount, restore-mount, umount, set-remove-pseudo-root, path-walk, get-rootfs, route, lookup, readdir, remap-attr-id, options, initialized, save, restore, rule}
 use Rattle.rules.specs.Kept.{oldMount, indexIn, Gives}
@@ -35,7 +35,7 @@ module _ (i : Instance) (j : ℕ) where
         λ z. absurd (omega arith),
         (
           λ z. absurd (omega arith),
-          λ z e g. placed-empty k r (ended i (r .path)) (walkedTo (r .path) (stepped i)) e (λ s. g (refl, inl (f ∙ ap {B = Option ℕ} some (sym s)))),
+          λ z e g. placed-empty _ _ _ _ e (λ s. g (refl, inl (f ∙ ap {B = Option ℕ} some (sym s)))),
         ),
       )
 
@@ -46,7 +46,7 @@ module _ (i : Instance) (j : ℕ) where
         λ z. absurd (omega arith),
         (
           λ z. absurd (omega arith),
-          λ z e g. placed-empty k r (ended i (r .path)) (walkedTo (r .path) i) e (λ s. g (refl, inr (ap {B = Option ℕ} some (sym s)))),
+          λ z e g. placed-empty _ _ _ _ e (λ s. g (refl, inr (ap {B = Option ℕ} some (sym s)))),
         ),
       )
 

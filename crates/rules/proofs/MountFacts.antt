@@ -14,7 +14,7 @@ use Rattle.rules.specs.Path.{tooLong, rooted}
 use Rattle.rules.specs.Tree.{Mount}
 use Rattle.rules.specs.Instance.{Slot, Tree, Instance, withIndexes, withTree, emptySlot, heldBy, mountOf, setMount, grown, cut, live, counterOf}
 use Rattle.rules.specs.Outcome.{Outcome}
-use Rattle.rules.specs.Mount.{Request, planned, needed, noRoom, freedSlots, mountOn, placed, allocation, stepped, walkedTo, ended, mountAs, restoreAs}
+use Rattle.rules.specs.Mount.{Request, planned, needed, noRoom, freedSlots, mountOn, placed, allocation, stepped, walkedTo, mountAs, restoreAs}
 use Rattle.rules.specs.Unmount.{taken, unmounts}
 use Rattle.rules.specs.Restore.{savedNodes}
 use Rattle.rules.specs.Driven.{Shape, Facts, Rooted}
@@ -140,7 +140,7 @@ module _ (i : Instance) (r : Request) (f : Facts i) (p : Passed i r) where
         λ a.
             let n = same-room ∙ and-rest (rooted (r .path)) (noRoom i (r .path)) (p .room) (not-false _ a) in
             let w = walked-facts (stepped i) s (r .path) (p .short) (p .utf8) n in
-            (λ b. w, λ b. placed-facts k r (ended i (r .path)) (walkedTo (r .path) (stepped i)) (walks (stepped i) s (r .path) (p .short) (p .utf8) n .reached) w),
+            (λ b. w, λ b. placed-facts _ _ _ _ (walks (stepped i) s (r .path) (p .short) (p .utf8) n .reached) w),
       )
 
   pub restored-as : (k : ℕ) → Keeps (restoreAs i k r)
@@ -151,7 +151,7 @@ module _ (i : Instance) (r : Request) (f : Facts i) (p : Passed i r) where
         λ a.
             let n = and-rest (rooted (r .path)) (noRoom i (r .path)) (p .room) (not-false _ a) in
             let w = walked-facts i f (r .path) (p .short) (p .utf8) n in
-            (λ b. search w, λ b. placed-facts k r (ended i (r .path)) (walkedTo (r .path) i) (walks i f (r .path) (p .short) (p .utf8) n .reached) w),
+            (λ b. search w, λ b. placed-facts _ _ _ _ (walks i f (r .path) (p .short) (p .utf8) n .reached) w),
       )
 
 pub unmounted : (i : Instance) (x : ℕ) (m : Mount) → mountOf (i .tree) x ≡ some m → Facts i → Keeps (unmounts i x m)

@@ -10,7 +10,7 @@ use lib.Seq.{getD-set-same, getD-set-other, set-out}
 use Rattle.rules.specs.Tree.{Mount}
 use Rattle.rules.specs.Instance.{Slot, Instance, emptySlot, heldBy, slotOf, mountOf}
 use Rattle.rules.specs.Outcome.{nothing, says}
-use Rattle.rules.specs.Mount.{Request, freedSlots, placed, allocation, walkedTo, stepped, ended, mountAs, restoreAs}
+use Rattle.rules.specs.Mount.{Request, freedSlots, placed, allocation, mountAs, restoreAs}
 use Rattle.rules.specs.Unmount.{reached, mountUnder, unmounts}
 use Rattle.rules.specs.Saved.{stateOf}
 use Rattle.rules.specs.Restore.{restoredTo}
@@ -76,7 +76,7 @@ mount-as i r (some k) e j =
         same-slot refl,
         elim (ℕ-discrete j k) [
           | yes s ↦ handed-out refl (e ∙ ap {B = Option ℕ} some (sym s))
-          | no n ↦ ⊎-elim same-slot (λ a. emptied refl (a .0) (a .1)) (other-slot k r (ended i (r .path)) (walkedTo (r .path) (stepped i)) j n)
+          | no n ↦ ⊎-elim same-slot (λ a. emptied refl (a .0) (a .1)) (other-slot k _ _ _ j n)
         ],
       ),
     )
@@ -90,7 +90,7 @@ restored-as i k r j =
         same-slot refl,
         elim (ℕ-discrete j k) [
           | yes s ↦ by-restored refl (ap {B = Option ℕ} some (sym s))
-          | no n ↦ ⊎-elim same-slot (λ a. emptied refl (a .0) (a .1)) (other-slot k r (ended i (r .path)) (walkedTo (r .path) i) j n)
+          | no n ↦ ⊎-elim same-slot (λ a. emptied refl (a .0) (a .1)) (other-slot k _ _ _ j n)
         ],
       ),
     )

@@ -11,7 +11,7 @@ use Rattle.rules.specs.Numbers.{rootNumber}
 use Rattle.rules.specs.Tree.{Mount, Node}
 use Rattle.rules.specs.Instance.{Indexes, Tree, Instance, withIndexes, withTree, setMount}
 use Rattle.rules.specs.Outcome.{nothing, Outcome, refused, says}
-use Rattle.rules.specs.Mount.{Request, placed, allocation, stepped, walkedTo, ended, mountAs, restoreAs}
+use Rattle.rules.specs.Mount.{Request, placed, allocation, mountAs, restoreAs}
 use Rattle.rules.specs.Unmount.{taken, unmounts}
 use Rattle.rules.specs.Saved.{SavedNode, stateOf}
 use Rattle.rules.specs.Restore.{savedNodes, nodesFrom, fresh, restoredTo}
@@ -59,32 +59,30 @@ placed-rest : (k : ℕ) (r : Request) (x : ℕ) (i j : Instance) → Rest i j �
 unfolding placed
 placed-rest k r x i j q = record { fixed = q .fixed; removal = q .removal; options = q .options; initialized = q .initialized }
 
-placed-next : (k : ℕ) (r : Request) (x : ℕ) (i : Instance) → placed k r x i .tree .next ≡ i .tree .next
+placed-next : (n k : ℕ) (r : Request) (x : ℕ) (i : Instance) → n ≤ i .tree .next → n ≤ placed k r x i .tree .next
 unfolding placed
-placed-next k r x i = set-next (i .tree) x _
+placed-next n k r x i l = rw (set-next (i .tree) x _) l
 
 mount-as : (i : Instance) (r : Request) (k : Option ℕ) → Keeps i (mountAs i r k)
 unfolding mountAs
 mount-as i r none = record { others = rest i _ _; next = omega arith }
 mount-as i r (some k) =
-    let j = walkedTo (r .path) (stepped i) in
     each-of (Keeps i) _ _ (
       record { others = rest i _ _; next = omega arith },
       (
         record { others = rest i _ _; next = omega arith },
-        record { others = placed-rest k r _ i j (rest i _ _); next = omega (arith, placed-next k r (ended i (r .path)) j) },
+        record { others = placed-rest _ _ _ i _ (rest i _ _); next = placed-next _ _ _ _ _ (omega arith) },
       ),
     )
 
 restored-as : (i : Instance) (k : ℕ) (r : Request) → Keeps i (restoreAs i k r)
 unfolding restoreAs
 restored-as i k r =
-    let j = walkedTo (r .path) i in
     each-of (Keeps i) _ _ (
       record { others = rest i _ _; next = omega arith },
       (
         record { others = rest i _ _; next = omega arith },
-        record { others = placed-rest k r _ i j (rest i _ _); next = omega (arith, placed-next k r (ended i (r .path)) j) },
+        record { others = placed-rest _ _ _ i _ (rest i _ _); next = placed-next _ _ _ _ _ (omega arith) },
       ),
     )
 

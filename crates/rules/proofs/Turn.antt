@@ -41,7 +41,7 @@ mount-as i r none = moves i (stepped i) r _ _ refl
 mount-as i r (some k) =
     let j = walkedTo (r .path) (stepped i) in
     each-of (λ (o : Outcome). Moves i (mount r) o r) _ _
-    (moves i (stepped i) r _ _ refl, (moves i j r _ _ refl, moves i _ r _ _ (placed-counter k r (ended i (r .path)) j)))
+    (moves i (stepped i) r _ _ refl, (moves i j r _ _ refl, moves i _ r _ _ (placed-counter _ _ _ _)))
 
 -- a done one answers what its allocation found
 answers-as : (i : Instance) (r : Request) (k : Option ℕ) → allocation i .found ≡ k → mountAs i r k .code ≡ 0 → (j : ℕ) × MountAnswers i r (mountAs i r k) j
@@ -84,7 +84,7 @@ restored-as i k r =
       keeps-refused i _,
       (
         record { visits = refl; found = refl; counter = refl },
-        record { visits = refl; found = refl; counter = placed-counter k r (ended i (r .path)) (walkedTo (r .path) i) },
+        record { visits = refl; found = refl; counter = placed-counter _ _ _ _ },
       ),
     )
 
