@@ -125,8 +125,8 @@ module _ (b : List ℕ) (h : Bytes b) (a : accepted b ≡ true) where
     options = record {
       inOpts = get-fits 8 b E h;
       outOpts = get-fits 8 b (E + 8) h;
-      internal = get-fits 4 b (E + 16) h;
-      external = get-fits 4 b (E + 20) h;
+      internal = get-fits 4 b _ h;
+      external = get-fits 4 b _ h;
       range = get-fits 4 b (E + 24) h;
       flags = ltb-true (get 1 b (E + 28)) 64 (laid .1 .1 .1 .1 .1 .0);
     };

@@ -11,7 +11,7 @@ use Rattle.rules.specs.Numbers.{rootNumber}
 use Rattle.rules.specs.Tree.{Mount, Node, nodeIn, withMount, mountAt, without}
 use Rattle.rules.specs.Instance.{Tree, Instance, setMount, grown}
 use Rattle.rules.specs.Outcome.{Outcome}
-use Rattle.rules.specs.Mount.{Request, planned, mountOn, placed, allocation, walkedTo, stepped, ended, mountAs, restoreAs}
+use Rattle.rules.specs.Mount.{Request, planned, mountOn, placed, allocation, mountAs, restoreAs}
 use Rattle.rules.specs.Unmount.{taken, unmounts}
 use Rattle.rules.specs.Calls.{Call, rule}
 use Rattle.rules.specs.Trace.{NoRestore, Unrestored, afterAll}
@@ -84,13 +84,13 @@ module _ (x : ℕ) where
   mount-as i r none s = s
   mount-as i r (some k) s =
       let w = grown-spent (i .tree) (r .path) s in
-      each-of LeavesSpent _ _ (s, (w, placed-spent k r (ended i (r .path)) (walkedTo (r .path) (stepped i)) w))
+      each-of LeavesSpent _ _ (s, (w, placed-spent _ _ _ _ w))
 
   restored-as : (i : Instance) (k : ℕ) (r : Request) → Spent x (i .tree) → LeavesSpent (restoreAs i k r)
   unfolding restoreAs
   restored-as i k r s =
       let w = grown-spent (i .tree) (r .path) s in
-      each-of LeavesSpent _ _ (s, (w, placed-spent k r (ended i (r .path)) (walkedTo (r .path) i) w))
+      each-of LeavesSpent _ _ (s, (search w, placed-spent _ _ _ _ w))
 
   unmounted : (i : Instance) (y : ℕ) (m : Mount) → Spent x (i .tree) → LeavesSpent (unmounts i y m)
   unfolding unmounts

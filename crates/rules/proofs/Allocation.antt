@@ -37,12 +37,19 @@ module _ (held : ℕ → Bool) where
   zero-held k (inl z) = rw (eq-eqb k 0 z)
   zero-held k (inr t) = ⊎-elim (λ (z : k ≡ 0). rw (eq-eqb k 0 z)) (λ (p : 0 < k). rw (t, ne-eqb k 0 (λ z. omega arith))) (eq-zero-or-pos k)
 
--- what is handed out was not held, from whatever counter
-pub not-held : (held : ℕ → Bool) (c k : ℕ) → allocate held c .found ≡ some k → held k ≡ false
-unfolding allocate
-not-held held c k e = free-is held k (found-free (freeOf held) (untilTwice c) k e) .1
-
 module _ (held : ℕ → Bool) (c : ℕ) (h : c < 256) where
+  taken-first : (k : ℕ) → (d : ℕ) × FirstFree held c k d → allocate held c .found ≡ some k
+  unfolding allocate untilTwice
+  taken-first k (d, a) =
+      let f : freeOf held ((c + d) % 256) ≡ true = ap (freeOf held) (sym (a .place)) ∙ is-free held k (a .least) (a .empty) in
+      at-found (freeOf held) 257 c d h (omega (arith, a .near)) f (λ j l. zero-held held ((c + j) % 256) (a .before j l)) ∙ ap {B = Option ℕ} some (sym (a .place))
+
+  none-found : ((j : ℕ) → 1 ≤ j → j ≤ 255 → held j ≡ true) → allocate held c .found ≡ none
+  unfolding allocate untilTwice
+  none-found all =
+      finds-none (freeOf held) 257 c h
+      (λ j l. zero-held held j (⊎-elim (λ (z : j ≡ 0). inl z) (λ (p : 0 < j). inr (all j p (omega arith))) (eq-zero-or-pos j)))
+
   handed-out : (k : ℕ) → allocate held c .found ≡ some k → (d : ℕ) × FirstFree held c k d
   unfolding allocate untilTwice
   handed-out k e = go (found-at (freeOf held) 257 c k h e)
@@ -67,12 +74,6 @@ module _ (held : ℕ → Bool) (c : ℕ) (h : c < 256) where
             },
           )
 
-  taken-first : (k : ℕ) → (d : ℕ) × FirstFree held c k d → allocate held c .found ≡ some k
-  unfolding allocate untilTwice
-  taken-first k (d, a) =
-      let f : freeOf held ((c + d) % 256) ≡ true = ap (freeOf held) (sym (a .place)) ∙ is-free held k (a .least) (a .empty) in
-      at-found (freeOf held) 257 c d h (omega (arith, a .near)) f (λ j l. zero-held held ((c + j) % 256) (a .before j l)) ∙ ap {B = Option ℕ} some (sym (a .place))
-
   all-held : allocate held c .found ≡ none → (j : ℕ) → 1 ≤ j → j ≤ 255 → held j ≡ true
   unfolding allocate untilTwice
   all-held e j p q =
@@ -83,11 +84,10 @@ module _ (held : ℕ → Bool) (c : ℕ) (h : c < 256) where
       ⊎-elim (λ (z : (c + d) % 256 ≡ 0). absurd (omega arith)) (λ (t : held ((c + d) % 256) ≡ true). rw same at t) (not-free held ((c + d) % 256) f))
       (λ f. let z : _≡_ {A = ℕ} 0 1 = cc in absurd (omega arith)) (m .1)
 
-  none-found : ((j : ℕ) → 1 ≤ j → j ≤ 255 → held j ≡ true) → allocate held c .found ≡ none
-  unfolding allocate untilTwice
-  none-found all =
-      finds-none (freeOf held) 257 c h
-      (λ j l. zero-held held j (⊎-elim (λ (z : j ≡ 0). inl z) (λ (p : 0 < j). inr (all j p (omega arith))) (eq-zero-or-pos j)))
+-- what is handed out was not held, from whatever counter
+pub not-held : (held : ℕ → Bool) (c k : ℕ) → allocate held c .found ≡ some k → held k ≡ false
+unfolding allocate
+not-held held c k e = free-is held k (found-free (freeOf held) (untilTwice c) k e) .1
 
 -- the theorem
 pub exact : EveryAllocation

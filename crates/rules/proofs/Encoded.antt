@@ -9,7 +9,7 @@ use lib.ListN.{length, length-append}
 use borrow.Author.Tests.{le-leb, lt-ltb, eq-eqb}
 use Rattle.rules.specs.Fields.{read, get, fields}
 use Rattle.rules.specs.Instance.{Options}
-use Rattle.rules.specs.Saved.{SavedNode, State, nodeRow, optionsRow, trailerRow, nodeBytes, nodesBytes, optionsBytes, trailerBytes, encode, nodeAt, behind, nodesAt, endAt, optionsAt, optionsStart, offsetOf, recordsOf, nextOf, counterIn, stateOf, laidOut, valid, accepted}
+use Rattle.rules.specs.Saved.{SavedNode, State, nodeRow, optionsRow, trailerRow, optionsValues, nodeBytes, nodesBytes, optionsBytes, trailerBytes, encode, nodeAt, behind, nodesAt, endAt, optionsAt, optionsStart, offsetOf, recordsOf, nextOf, counterIn, stateOf, laidOut, valid, accepted}
 use Rattle.rules.specs.RoundTrip.{SavedNodeFits, SavedNodesFit, Fits}
 use Rattle.rules.proofs.Tests.{pass}
 use Rattle.rules.proofs.Fields.{fieldsAt, read-behind, total, Fit, fields-length, fields-read}
@@ -104,12 +104,9 @@ nodes-end (n ∷ ns) pre post at e f =
 
 -- ---- the whole state, written and read
 
-abbrev optionsOf : Options → List ℕ
-optionsOf o = o .inOpts ∷ o .outOpts ∷ o .mapping .internal ∷ o .mapping .external ∷ o .mapping .range ∷ o .flags ∷ 0 ∷ []
-
 pub options-length : (o : Options) → length (optionsBytes o) ≡ 32
 unfolding optionsBytes total
-options-length o = fields-length optionsRow (optionsOf o) refl
+options-length o = fields-length optionsRow (optionsValues o) refl
 
 trailer-length : (a b c d : ℕ) → length (trailerBytes a b c d) ≡ 24
 unfolding trailerBytes total
@@ -135,12 +132,12 @@ module _ (s : State) (f : Fits s) where
   abbrev b : List ℕ
   b = encode s
 
-  options-row : fieldsAt optionsRow (encode s) L ≡ optionsOf o
+  options-row : fieldsAt optionsRow (encode s) L ≡ optionsValues o
   unfolding encode optionsBytes Fit
   options-row =
       let w = f .options in
       fields-read optionsRow _ (nodesBytes (s .nodes)) T L refl
-      (w .inOpts, (w .outOpts, (w .internal, (w .external, (w .range, (omega (arith, w .flags), (omega arith, tt)))))))
+      (w .inOpts, (w .outOpts, (search w, (search w, (w .range, (omega (arith, w .flags), (omega arith, tt)))))))
 
   trailer-row : fieldsAt trailerRow (encode s) (L + 32) ≡ L ∷ length (s .nodes) ∷ s .next ∷ s .counter ∷ 1 ∷ 0 ∷ []
   unfolding encode trailerBytes Fit
@@ -160,7 +157,7 @@ module _ (s : State) (f : Fits s) where
   -- the two rows, each field at its place
   options-places : _≡_ {A = List ℕ}
       (get 8 b L ∷ get 8 b (L + 8) ∷ get 4 b (L + 16) ∷ get 4 b (L + 20) ∷ get 4 b (L + 24) ∷ get 1 b (L + 28) ∷ get 3 b (L + 29) ∷ [])
-      (optionsOf o)
+      (optionsValues o)
   unfolding fieldsAt
   options-places = simp add-assoc at options-row
 
@@ -181,12 +178,12 @@ module _ (s : State) (f : Fits s) where
   unfolding optionsAt
   options-read =
       let e = options-places in
-      let p₁ : get 8 b L ≡ o .inOpts = cc in
-      let p₂ : get 8 b (L + 8) ≡ o .outOpts = cc in
-      let p₃ : get 4 b (L + 16) ≡ o .mapping .internal = cc in
-      let p₄ : get 4 b (L + 20) ≡ o .mapping .external = cc in
-      let p₅ : get 4 b (L + 24) ≡ o .mapping .range = cc in
-      let p₆ : get 1 b (L + 28) ≡ o .flags = cc in
+      let p₁ : optionsAt b L .inOpts ≡ o .inOpts = cc in
+      let p₂ : optionsAt b L .outOpts ≡ o .outOpts = cc in
+      let p₃ : optionsAt b L .mapping .internal ≡ o .mapping .internal = cc in
+      let p₄ : optionsAt b L .mapping .external ≡ o .mapping .external = cc in
+      let p₅ : optionsAt b L .mapping .range ≡ o .mapping .range = cc in
+      let p₆ : optionsAt b L .flags ≡ o .flags = cc in
       rw at-options (λ i. record { inOpts = p₁ i; outOpts = p₂ i; mapping = record { internal = p₃ i; external = p₄ i; range = p₅ i }; flags = p₆ i })
 
   nodes-back : nodesAt b (recordsOf b) 0 ≡ s .nodes

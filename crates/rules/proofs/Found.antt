@@ -101,10 +101,6 @@ pub set-saved : (t : Tree) (x : ℕ) (m : Option Mount) → savedNodes (setMount
 unfolding setMount
 set-saved t x m = either (λ (u : Tree). savedNodes (u .nodes) ≡ savedNodes (t .nodes)) (eqb x rootNumber) (λ e. refl) (λ e. saved-mount m (t .nodes) x)
 
-pub set-next : (t : Tree) (x : ℕ) (m : Option Mount) → setMount t x m .next ≡ t .next
-unfolding setMount
-set-next t x m = either (λ (u : Tree). u .next ≡ t .next) (eqb x rootNumber) (λ e. refl) (λ e. refl)
-
 pub node-set : (m : Option Mount) (ns : List Node) (x : ℕ) (n : Node) → nodeIn ns x ≡ some n → nodeIn (mountAt m ns x) x ≡ some (withMount m n)
 unfolding nodeIn mountAt
 node-set m [] x n e = absurd (Option·none-ne-some n e)

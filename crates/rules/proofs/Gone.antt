@@ -8,31 +8,24 @@ use native.Mathlib.Omega.{arith}
 use lib.ListN.{getD, set}
 use lib.Seq.{getD-set-other}
 use Rattle.rules.specs.Tree.{Mount}
-use Rattle.rules.specs.Instance.{Slot, Instance, emptySlot, heldBy, slotOf, mountOf}
+use Rattle.rules.specs.Instance.{Instance, emptySlot, heldBy, slotOf, mountOf}
 use Rattle.rules.specs.Outcome.{Outcome}
-use Rattle.rules.specs.Mount.{Request, freedSlots, placed, allocation, walkedTo, stepped, ended, mountAs, mountRule, restoreAs, restoreMountRule}
+use Rattle.rules.specs.Mount.{Request, freedSlots, placed, allocation, mountAs, mountRule, restoreAs, restoreMountRule}
 use Rattle.rules.specs.Unmount.{reached, mountUnder, unmounts, unmountAt, unmountRule}
 use Rattle.rules.specs.Calls.{Call, mount, restore-mount, umount, set-remove-pseudo-root, path-walk, get-rootfs, route, lookup, readdir, remap-attr-id, options, initialized, save, restore, rule}
 use Rattle.rules.specs.Kept.{oldMount, indexIn, Gives}
 use Rattle.rules.proofs.Rows.{each-of}
-use Rattle.rules.proofs.Slots.{emptied-slot}
+use Rattle.rules.proofs.Slots.{emptied-slot, freed-empty}
 
 module _ (i : Instance) (j : ℕ) where
   -- where the call is done and takes a mount of j off, and does not give j away, the slot of j is empty
   abbrev Emptied : Call → Outcome → Type 0
   Emptied c o = o .code ≡ 0 → indexIn (oldMount i c) ≡ some j → (Gives j c o → ⊥) → slotOf (o .after) j ≡ emptySlot
 
-  freed-empty : (m : Option Mount) (slots : List Slot) → indexIn m ≡ some j → getD (freedSlots m slots) j emptySlot ≡ emptySlot
-  unfolding freedSlots
-  freed-empty none slots e = absurd (Option·none-ne-some j e)
-  freed-empty (some m) slots e =
-      let s : m .index ≡ j = cc in
-      ap (λ (k : ℕ). getD (set slots k emptySlot) j emptySlot) s ∙ emptied-slot slots j
-
   placed-empty : (k : ℕ) (r : Request) (x : ℕ) (a : Instance) → indexIn (mountOf (a .tree) x) ≡ some j → (j ≡ k → ⊥) → slotOf (placed k r x a) j ≡ emptySlot
   unfolding placed
   placed-empty k r x a e n =
-      getD-set-other (freedSlots (mountOf (a .tree) x) (a .indexes .slots)) k j (heldBy (r .tag)) emptySlot n ∙ freed-empty (mountOf (a .tree) x) (a .indexes .slots) e
+      getD-set-other (freedSlots (mountOf (a .tree) x) (a .indexes .slots)) k j (heldBy (r .tag)) emptySlot n ∙ freed-empty (mountOf (a .tree) x) (a .indexes .slots) j e
 
   mount-empties : (r : Request) (k : Option ℕ) → allocation i .found ≡ k → Emptied (mount r) (mountAs i r k)
   unfolding mountAs
@@ -42,7 +35,7 @@ module _ (i : Instance) (j : ℕ) where
         λ z. absurd (omega arith),
         (
           λ z. absurd (omega arith),
-          λ z e g. placed-empty k r (ended i (r .path)) (walkedTo (r .path) (stepped i)) e (λ s. g (refl, inl (f ∙ ap {B = Option ℕ} some (sym s)))),
+          λ z e g. placed-empty _ _ _ _ e (λ s. g (refl, inl (f ∙ ap {B = Option ℕ} some (sym s)))),
         ),
       )
 
@@ -53,7 +46,7 @@ module _ (i : Instance) (j : ℕ) where
         λ z. absurd (omega arith),
         (
           λ z. absurd (omega arith),
-          λ z e g. placed-empty k r (ended i (r .path)) (walkedTo (r .path) i) e (λ s. g (refl, inr (ap {B = Option ℕ} some (sym s)))),
+          λ z e g. placed-empty _ _ _ _ e (λ s. g (refl, inr (ap {B = Option ℕ} some (sym s)))),
         ),
       )
 

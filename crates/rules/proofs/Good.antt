@@ -1,6 +1,6 @@
 -- Records that are good among those before them have the shape of a driven instance's nodes; and back, where their parents are there. Assumes nothing.
 use mathlib.Core.Path.{_≡_, refl, _∙_}
-use mathlib.Core.Bool.{Bool, true, false, _&&_, _||_, or-true}
+use mathlib.Core.Bool.{Bool, true, false, _||_, or-true}
 use mathlib.Core.Logic.{_⊎_, inl, inr, ⊎-elim}
 use mathlib.Core.List.{List, [], _∷_}
 use Prim.Native.Nat.{ℕ, _+_, _≤_, _<_}
@@ -8,11 +8,10 @@ use native.Mathlib.Omega.{arith}
 use lib.Dec.{eqb}
 use borrow.Author.Tests.{eqb-true, eq-eqb, not-true, leb-true, ltb-true, lt-ltb}
 use Rattle.rules.specs.Numbers.{rootNumber, topNumber}
-use Rattle.rules.specs.Bytes.{same}
 use Rattle.rules.specs.Saved.{SavedNode, State, lastNumber, present, used, goodName, goodNode, goodNodes, valid}
 use Rattle.rules.specs.Driven.{Rises, Below, Named, Unique, Shape}
 use Rattle.rules.proofs.Tests.{and-both, or-neither, pass, passed}
-use Rattle.rules.proofs.Shape.{beside, beside-sym, rises-end}
+use Rattle.rules.proofs.Shape.{Among, among-first, among-more, beside, beside-sym, rises-end}
 
 -- the tests of a good record, one by one
 pub record Good (next : ℕ) (before : List SavedNode) (e : SavedNode) : Type 0 where
@@ -54,18 +53,6 @@ falling-more before e f l x = go (eqb (e .number) x) refl
 falling-nil : Falling []
 unfolding Falling present lastNumber
 falling-nil x p = (omega (arith, eqb-true x rootNumber p), omega (arith, eqb-true x rootNumber p))
-
--- d stands among those before: a name that is not used there is not d's
-Among : SavedNode → List SavedNode → Type 0
-Among d before = (x : ℕ) (p : List ℕ) → used x p before ≡ false → (eqb (d .above) x && same (d .called) p) ≡ false
-
-among-first : (d : SavedNode) (before : List SavedNode) → Among d (d ∷ before)
-unfolding Among used
-among-first d before x p u = or-neither (eqb (d .above) x && same (d .called) p) (used x p before) u .0
-
-among-more : (d e : SavedNode) (before : List SavedNode) → Among d before → Among d (e ∷ before)
-unfolding Among used
-among-more d e before a x p u = a x p (or-neither (eqb (e .above) x && same (e .called) p) (used x p before) u .1)
 
 module _ (next : ℕ) where
   unused-later : (d : SavedNode) (es before : List SavedNode) → Among d before → goodNodes next before es ≡ true → used (d .above) (d .called) es ≡ false

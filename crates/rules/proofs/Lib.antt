@@ -40,9 +40,10 @@ pub mod Gone
 pub mod Given
 pub mod Kept
 pub mod Wait
-pub mod Needed
 pub mod Found
 pub mod Unmounted
 pub mod Putting
 pub mod PutBack
 pub mod Room
+pub mod Shown
+pub mod Stored

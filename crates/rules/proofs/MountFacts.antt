@@ -11,11 +11,10 @@ use borrow.Author.Tests.{ltb-false, not-false}
 use Rattle.rules.specs.Numbers.{rootNumber, topNumber}
 use Rattle.rules.specs.Utf8.{wellFormed}
 use Rattle.rules.specs.Path.{tooLong, rooted}
-use Rattle.rules.specs.Round.{allocate}
 use Rattle.rules.specs.Tree.{Mount}
 use Rattle.rules.specs.Instance.{Slot, Tree, Instance, withIndexes, withTree, emptySlot, heldBy, mountOf, setMount, grown, cut, live, counterOf}
 use Rattle.rules.specs.Outcome.{Outcome}
-use Rattle.rules.specs.Mount.{Request, planned, needed, noRoom, freedSlots, mountOn, placed, allocation, stepped, walkedTo, ended, mountAs, restoreAs}
+use Rattle.rules.specs.Mount.{Request, planned, needed, noRoom, freedSlots, mountOn, placed, allocation, stepped, walkedTo, mountAs, restoreAs}
 use Rattle.rules.specs.Unmount.{taken, unmounts}
 use Rattle.rules.specs.Restore.{savedNodes}
 use Rattle.rules.specs.Driven.{Shape, Facts, Rooted}
@@ -25,6 +24,7 @@ use Rattle.rules.proofs.Ways.{Passed}
 use Rattle.rules.proofs.Shape.{saved-mount, shape-less, length-less, length-mount}
 use Rattle.rules.proofs.Walk.{Walking, planned-walking}
 use Rattle.rules.proofs.Slots.{freed-slots}
+use Rattle.rules.proofs.Turn.{seen-moved}
 use Rattle.rules.proofs.Held.{Held, held-grown, held-placed, held-taken}
 
 -- ---- the parts of an instance that a call changes
@@ -81,8 +81,8 @@ changed i t slots counter f c h = record {
 -- ---- mounts
 
 stepped-facts : (i : Instance) → Facts i → Facts (stepped i)
-unfolding allocation allocate
-stepped-facts i f = changed i (i .tree) (i .indexes .slots) (allocation i .counter) f (record { tree = fine-of i f; many = f .slots; low = omega arith }) (f .held)
+stepped-facts i f =
+    changed i (i .tree) (i .indexes .slots) (allocation i .counter) f (record { tree = fine-of i f; many = f .slots; low = omega (arith, seen-moved i) }) (f .held)
 
 -- the nodes of a mount walk are made, where there is room
 module _ (i : Instance) (f : Facts i) (path : List ℕ) (l : tooLong path ≡ false) (u : wellFormed path ≡ true) (room : noRoom i path ≡ false) where
@@ -140,7 +140,7 @@ module _ (i : Instance) (r : Request) (f : Facts i) (p : Passed i r) where
         λ a.
             let n = same-room ∙ and-rest (rooted (r .path)) (noRoom i (r .path)) (p .room) (not-false _ a) in
             let w = walked-facts (stepped i) s (r .path) (p .short) (p .utf8) n in
-            (λ b. w, λ b. placed-facts k r (ended i (r .path)) (walkedTo (r .path) (stepped i)) (walks (stepped i) s (r .path) (p .short) (p .utf8) n .reached) w),
+            (λ b. w, λ b. placed-facts _ _ _ _ (walks (stepped i) s (r .path) (p .short) (p .utf8) n .reached) w),
       )
 
   pub restored-as : (k : ℕ) → Keeps (restoreAs i k r)
@@ -151,7 +151,7 @@ module _ (i : Instance) (r : Request) (f : Facts i) (p : Passed i r) where
         λ a.
             let n = and-rest (rooted (r .path)) (noRoom i (r .path)) (p .room) (not-false _ a) in
             let w = walked-facts i f (r .path) (p .short) (p .utf8) n in
-            (λ b. w, λ b. placed-facts k r (ended i (r .path)) (walkedTo (r .path) i) (walks i f (r .path) (p .short) (p .utf8) n .reached) w),
+            (λ b. search w, λ b. placed-facts _ _ _ _ (walks i f (r .path) (p .short) (p .utf8) n .reached) w),
       )
 
 pub unmounted : (i : Instance) (x : ℕ) (m : Mount) → mountOf (i .tree) x ≡ some m → Facts i → Keeps (unmounts i x m)

@@ -11,7 +11,7 @@ use Rattle.rules.specs.Numbers.{rootNumber}
 use Rattle.rules.specs.Tree.{Mount, Node, bare, nodeIn, withMount, mountAt, without}
 use Rattle.rules.specs.Instance.{Tree, Instance, mountIn, mountOf, setMount, grown, cut}
 use Rattle.rules.specs.Outcome.{Outcome, nothing, says}
-use Rattle.rules.specs.Mount.{Request, planned, mountOn, placed, allocation, walkedTo, stepped, ended, mountAs, restoreAs}
+use Rattle.rules.specs.Mount.{Request, planned, mountOn, placed, allocation, ended, mountAs, restoreAs}
 use Rattle.rules.specs.Unmount.{reached, taken, unmounts}
 use Rattle.rules.specs.Saved.{SavedNode, stateOf}
 use Rattle.rules.specs.Restore.{nodesFrom, fresh, restoredTo}
@@ -113,7 +113,7 @@ mount-as i r (some k) y =
         same-mount w,
         elim (ℕ-discrete (ended i (r .path)) y) [
           | yes e ↦ by-mount r refl refl (sym e)
-          | no n ↦ same-mount (placed-same k r (ended i (r .path)) (walkedTo (r .path) (stepped i)) y n ∙ w)
+          | no n ↦ same-mount (placed-same _ _ _ _ y n ∙ w)
         ],
       ),
     )
@@ -128,7 +128,7 @@ restored-as i k r y =
         same-mount w,
         elim (ℕ-discrete (ended i (r .path)) y) [
           | yes e ↦ by-restored k r refl refl (sym e)
-          | no n ↦ same-mount (placed-same k r (ended i (r .path)) (walkedTo (r .path) i) y n ∙ w)
+          | no n ↦ same-mount (placed-same _ _ _ _ y n ∙ w)
         ],
       ),
     )

@@ -1,4 +1,4 @@
--- The pieces of a path and its components: each name has what each piece has. Assumes nothing.
+-- The components of a path: what the paths of a table need, by computation; and each name has what each piece has. Assumes nothing.
 use mathlib.Core.Path.{_≡_, refl}
 use mathlib.Core.Bool.{Bool, true, false, cond}
 use mathlib.Core.List.{List, [], _∷_}
@@ -6,9 +6,19 @@ use Prim.Native.Nat.{ℕ, _+_, _≤_}
 use lib.ListN.{length}
 use lib.Dec.{ltb}
 use borrow.Author.Tests.{ltb-false}
-use Rattle.rules.specs.Bytes.{same}
-use Rattle.rules.specs.Path.{Part, name, parent, pieces, isDot, isDots, sorted, kept, components, anyLonger, tooLong}
+use Rattle.rules.specs.Bytes.{same, ascii}
+use Rattle.rules.specs.Path.{Part, name, parent, pieces, isDot, isDots, partsBy, sorted, kept, components, anyLonger, tooLong}
+use Rattle.rules.specs.Tree.{isChild, childIn, nodeIn, parentIn, step, makes}
+use Rattle.rules.specs.Mount.{planned}
+use Rattle.rules.specs.Needed.{walks, wanted, Needed}
 use Rattle.rules.proofs.Tests.{or-neither}
+
+-- the theorem: what the paths of the table need
+pub needed : Needed
+unfolding same ascii partsBy sorted kept components isChild childIn nodeIn parentIn step makes planned walks wanted
+needed = refl
+
+-- ---- each name
 
 -- each piece has the property P
 unfoldable pub EachPiece : (List ℕ → Type 0) → List (List ℕ) → Type 0

@@ -24,7 +24,8 @@ use Rattle.rules.proofs.Slots.{freed-slots}
 use Rattle.rules.proofs.Turn.{placed-tag}
 use Rattle.rules.proofs.Others.{set-same}
 use Rattle.rules.proofs.Leads.{path-leads, path-rooted, leads-path, leads-saved, planned-none}
-use Rattle.rules.proofs.Found.{Put, restored-put, set-saved, set-next, set-there}
+use Rattle.rules.proofs.Stays.{set-next}
+use Rattle.rules.proofs.Found.{Put, restored-put, set-saved, set-there}
 
 -- ---- what holds on the way
 

@@ -15,6 +15,20 @@ use Rattle.rules.specs.Driven.{Rises, Below, Named, Unique, Shape}
 use Rattle.rules.proofs.Tests.{or-neither}
 use Rattle.rules.proofs.Same.{eqb-sym, same-sym}
 
+-- ---- names in use
+
+-- d stands among those before: a name that is not used there is not d's
+unfoldable pub Among : SavedNode → List SavedNode → Type 0
+Among d before = (x : ℕ) (p : List ℕ) → used x p before ≡ false → (eqb (d .above) x && same (d .called) p) ≡ false
+
+pub among-first : (d : SavedNode) (before : List SavedNode) → Among d (d ∷ before)
+unfolding Among used
+among-first d before x p u = or-neither (eqb (d .above) x && same (d .called) p) (used x p before) u .0
+
+pub among-more : (d e : SavedNode) (before : List SavedNode) → Among d before → Among d (e ∷ before)
+unfolding Among used
+among-more d e before a x p u = a x p (or-neither (eqb (e .above) x && same (e .called) p) (used x p before) u .1)
+
 -- ---- nodes, and as they are saved
 
 pub saved-append : (xs ys : List Node) → savedNodes (xs ++ ys) ≡ savedNodes xs ++ savedNodes ys

@@ -2,7 +2,7 @@
 use mathlib.Core.Path.{_≡_, refl, sym, ap, _∙_}
 use mathlib.Core.Logic.{_⊎_, inl, inr, ⊎-elim}
 use mathlib.Core.List.{List}
-use mathlib.Core.Option.{Option, none, some}
+use mathlib.Core.Option.{Option, none, some, Option·none-ne-some}
 use Prim.Native.Nat.{ℕ, _≤_, _<_}
 use native.Mathlib.Decide.{ℕ-discrete}
 use lib.ListN.{length, getD, set, length-set, List·getD-eq-default}
@@ -10,7 +10,7 @@ use lib.Seq.{getD-set-same, getD-set-other, set-out}
 use Rattle.rules.specs.Tree.{Mount}
 use Rattle.rules.specs.Instance.{Slot, Instance, emptySlot, heldBy, slotOf, mountOf}
 use Rattle.rules.specs.Outcome.{nothing, says}
-use Rattle.rules.specs.Mount.{Request, freedSlots, placed, allocation, walkedTo, stepped, ended, mountAs, restoreAs}
+use Rattle.rules.specs.Mount.{Request, freedSlots, placed, allocation, mountAs, restoreAs}
 use Rattle.rules.specs.Unmount.{reached, mountUnder, unmounts}
 use Rattle.rules.specs.Saved.{stateOf}
 use Rattle.rules.specs.Restore.{restoredTo}
@@ -28,12 +28,6 @@ emptied-slot slots k =
     ⊎-elim (λ (l : length slots ≤ k). ap (λ (x : List Slot). getD x k emptySlot) (set-out slots k emptySlot l) ∙ List·getD-eq-default slots emptySlot l)
     (λ (l : k < length slots). getD-set-same slots k emptySlot emptySlot l) (le-or-lt (length slots) k)
 
--- freeing leaves as many slots
-pub freed-slots : (m : Option Mount) (slots : List Slot) → length (freedSlots m slots) ≡ length slots
-unfolding freedSlots
-freed-slots none slots = refl
-freed-slots (some m) slots = length-set slots (m .index) emptySlot
-
 -- where slot k was emptied each is as it was, or is slot k
 cleared : (slots : List Slot) (k j : ℕ) → (getD (set slots k emptySlot) j emptySlot ≡ getD slots j emptySlot) ⊎ ((k ≡ j) × (getD (set slots k emptySlot) j emptySlot ≡ emptySlot))
 cleared slots k j =
@@ -42,10 +36,25 @@ cleared slots k j =
       | no e ↦ inl (getD-set-other slots k j emptySlot emptySlot e)
     ]
 
+-- the slot of a mount that loses its index is empty
+pub freed-empty : (m : Option Mount) (slots : List Slot) (j : ℕ) → indexIn m ≡ some j → getD (freedSlots m slots) j emptySlot ≡ emptySlot
+unfolding freedSlots
+freed-empty none slots j e = absurd (Option·none-ne-some j e)
+freed-empty (some m) slots j e =
+    let s : m .index ≡ j = cc in
+    ap (λ (k : ℕ). getD (set slots k emptySlot) j emptySlot) s ∙ emptied-slot slots j
+
+-- each slot is as it was, or is that one
 freed : (m : Option Mount) (slots : List Slot) (j : ℕ) → (getD (freedSlots m slots) j emptySlot ≡ getD slots j emptySlot) ⊎ ((indexIn m ≡ some j) × (getD (freedSlots m slots) j emptySlot ≡ emptySlot))
 unfolding freedSlots
 freed none slots j = inl refl
 freed (some m) slots j = ⊎-elim inl (λ a. inr (ap {B = Option ℕ} some (a .0), a .1)) (cleared slots (m .index) j)
+
+-- freeing leaves as many slots
+pub freed-slots : (m : Option Mount) (slots : List Slot) → length (freedSlots m slots) ≡ length slots
+unfolding freedSlots
+freed-slots none slots = refl
+freed-slots (some m) slots = length-set slots (m .index) emptySlot
 
 -- ---- calls
 
@@ -67,7 +76,7 @@ mount-as i r (some k) e j =
         same-slot refl,
         elim (ℕ-discrete j k) [
           | yes s ↦ handed-out refl (e ∙ ap {B = Option ℕ} some (sym s))
-          | no n ↦ ⊎-elim same-slot (λ a. emptied refl (a .0) (a .1)) (other-slot k r (ended i (r .path)) (walkedTo (r .path) (stepped i)) j n)
+          | no n ↦ ⊎-elim same-slot (λ a. emptied refl (a .0) (a .1)) (other-slot k _ _ _ j n)
         ],
       ),
     )
@@ -81,7 +90,7 @@ restored-as i k r j =
         same-slot refl,
         elim (ℕ-discrete j k) [
           | yes s ↦ by-restored refl (ap {B = Option ℕ} some (sym s))
-          | no n ↦ ⊎-elim same-slot (λ a. emptied refl (a .0) (a .1)) (other-slot k r (ended i (r .path)) (walkedTo (r .path) i) j n)
+          | no n ↦ ⊎-elim same-slot (λ a. emptied refl (a .0) (a .1)) (other-slot k _ _ _ j n)
         ],
       ),
     )

@@ -98,7 +98,7 @@ module _ (i : Instance) where
 
   pub list-still : (q : ListRequest) → Still i (listRule i q)
   unfolding listRule
-  list-still q = each-of (Still i) _ _ (still-writes _, (noent-still, still-writes _))
+  list-still q = each-of (Still i) _ _ (search (still-writes, noent-still))
 
   pub save-still : (n : ℕ) → Still i (saveRule i n)
   unfolding saveRule

@@ -9,13 +9,13 @@ use Prim.Native.Nat.{ℕ, _+_, _≤_, _<_}
 use native.Mathlib.Omega.{arith}
 use lib.ListN.{length}
 use lib.Dec.{eqb, ltb}
-use borrow.Author.Tests.{eqb-false, not-true, not-false, ltb-true, ltb-false}
+use borrow.Author.Tests.{eqb-false, not-true, not-false, ltb-true, ltb-false, le-ltb}
 use Rattle.rules.specs.Numbers.{maxIno, TOOLONG, INVAL, INODE, FULL, NOROOM, BADINDEX}
 use Rattle.rules.specs.Utf8.{wellFormed}
 use Rattle.rules.specs.Path.{rooted, tooLong}
 use Rattle.rules.specs.Tree.{Mount}
 use Rattle.rules.specs.Instance.{Instance, mountOf, removing}
-use Rattle.rules.specs.Outcome.{nothing, Outcome, refused, says}
+use Rattle.rules.specs.Outcome.{nothing, Outcome, refused, says, firstOf}
 use Rattle.rules.specs.Create.{unknown}
 use Rattle.rules.specs.Mount.{Request, noRoom, allocation, mountAs, mountRule, restoreAs, restoreMountRule}
 use Rattle.rules.specs.Unmount.{reached, mountUnder, unmounts, unmountAt, unmountRule}
@@ -95,6 +95,13 @@ module _ (r : Request) where
   restored-row3 : (k : ℕ) → maxIno < r .largest → ByRow3 (restore-mount k r)
   restored-row3 k l q (inl e) = let z : _≡_ {A = ℕ} 0 1 = cc in absurd (omega arith)
   restored-row3 k l q (inr (j, e)) = let s : r ≡ q = cc in rw (sym s) l
+
+-- ---- mount
+
+-- one that rows 1 to 4 let pass goes by what the search finds, over the slots as they are before it (R90)
+pub mount-passed : (i : Instance) (r : Request) → Passed i r → mountRule i r ≡ mountAs i r (allocation i .found)
+unfolding mountRule firstOf
+mount-passed i r p = rw (p .short, p .utf8, le-ltb maxIno (r .largest) (p .largest), p .room)
 
 -- ---- every call
 

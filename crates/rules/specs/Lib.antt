@@ -37,3 +37,5 @@ pub mod Wait
 pub mod Needed
 pub mod Found
 pub mod PutBack
+pub mod Shown
+pub mod Stored

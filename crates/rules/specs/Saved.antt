@@ -47,10 +47,13 @@ unfoldable pub nodesBytes : List SavedNode → List ℕ
 nodesBytes [] = []
 nodesBytes (n ∷ ns) = nodeBytes n ++ nodesBytes ns
 
+-- the values of that row (R121)
+abbrev pub optionsValues : Options → List ℕ
+optionsValues o = o .inOpts ∷ o .outOpts ∷ o .mapping .internal ∷ o .mapping .external ∷ o .mapping .range ∷ o .flags ∷ 0 ∷ []
+
 -- the options (R121)
 unfoldable pub optionsBytes : Options → List ℕ
-optionsBytes o =
-    fields optionsRow (o .inOpts ∷ o .outOpts ∷ o .mapping .internal ∷ o .mapping .external ∷ o .mapping .range ∷ o .flags ∷ 0 ∷ [])
+optionsBytes o = fields optionsRow (optionsValues o)
 
 -- the trailer (R123)
 unfoldable pub trailerBytes : ℕ → ℕ → ℕ → ℕ → List ℕ

@@ -1,6 +1,6 @@
 -- What no call changes, and what only some calls change.
 use Prim.Native.Nat.{ℕ, _≤_, _<_}
-use mathlib.Core.Bool.{true}
+use mathlib.Core.Bool.{true, false}
 use mathlib.Core.List.{List, [], _∷_}
 use mathlib.Core.Option.{Option, none, some}
 use mathlib.Core.Path.{_≡_}
@@ -10,9 +10,10 @@ use Rattle.rules.specs.Instance.{Tree, Instance, mountOf}
 use Rattle.rules.specs.Outcome.{Outcome}
 use Rattle.rules.specs.Mount.{Request, ended}
 use Rattle.rules.specs.Unmount.{reached}
-use Rattle.rules.specs.Calls.{Call, mount, restore-mount, umount, restore, rule}
+use Rattle.rules.specs.Saved.{stateOf}
+use Rattle.rules.specs.Calls.{Call, mount, restore-mount, umount, set-remove-pseudo-root, restore, rule}
 use Rattle.rules.specs.Driven.{Driven}
-use Rattle.rules.specs.Trace.{Unrestored, afterAll}
+use Rattle.rules.specs.Trace.{NoRestore, Unrestored, afterAll}
 
 -- the mount of a node, if it has one, put before others
 abbrev pub mounted : ℕ → Option Mount → List (ℕ × Mount) → List (ℕ × Mount)
@@ -34,21 +35,40 @@ pub record NoMounting (c : Call) : Type 0 where
   pub no-restored : (k : ℕ) (r : Request) → c ≡ restore-mount k r → ⊥
   pub no-unmount : (path : List ℕ) → c ≡ umount path → ⊥
 
--- what the outcome o of the call c on the instance i keeps (R32, R34, R49, R118)
+-- what the outcome o of the call c on the instance i keeps (R32, R33, R34, R49, R118, R134)
 pub record Stays (i : Instance) (c : Call) (o : Outcome) : Type 0 where
   -- N, the mask and the mapping in force stay
   pub fixed : o .after .fixed ≡ i .fixed
   -- the remove flag never goes back
   pub removal : i .removal ≡ true → o .after .removal ≡ true
+  -- and changes by its own call alone
+  pub removal-kept : (c ≡ set-remove-pseudo-root → ⊥) → o .after .removal ≡ i .removal
+  -- options and `initialized` change by a done state restore alone
+  pub options : NoRestore c o → o .after .options ≡ i .options
+  pub initialized : NoRestore c o → o .after .initialized ≡ i .initialized
   -- mounts and slots change by those three calls alone
   pub mounts : NoMounting c → mountsOf (o .after .tree) ≡ mountsOf (i .tree)
   pub slots : NoMounting c → o .after .indexes .slots ≡ i .indexes .slots
   -- the next number falls by a state restore alone
   pub next : ((b : List ℕ) → c ≡ restore b → ⊥) → i .tree .next ≤ o .after .tree .next
 
--- of every call on every instance (R32, R34, R49, R118)
+-- of every call on every instance (R32, R33, R34, R49, R118, R134)
 abbrev pub EveryStays : Type 0
 EveryStays = (i : Instance) (c : Call) → Stays i c (rule i c)
+
+-- the call of the remove flag sets it, on every instance (R32)
+abbrev pub RemovalSet : Type 0
+RemovalSet = (i : Instance) → rule i set-remove-pseudo-root .after .removal ≡ true
+
+-- what an instance has taken over from the bytes b: their options; and it is initialized exactly if these have a bit of in_opts (R134)
+pub record TakenOver (b : List ℕ) (j : Instance) : Type 0 where
+  pub options : j .options ≡ stateOf b .options
+  pub no-bits : j .initialized ≡ false → j .options .inOpts ≡ 0
+  pub bits : j .initialized ≡ true → j .options .inOpts ≡ 0 → ⊥
+
+-- so after every done state restore (R134)
+abbrev pub EveryTakenOver : Type 0
+EveryTakenOver = (i : Instance) (b : List ℕ) → rule i (restore b) .code ≡ 0 → TakenOver b (rule i (restore b) .after)
 
 -- ---- the mounts of other nodes
 
