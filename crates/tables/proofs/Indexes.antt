@@ -1,6 +1,6 @@
 -- Slots read from the memory: how many, what one holds, and that a search over the lent occupancy bytes is a search over the slots.
 -- Assumes nothing.
-use mathlib.Core.Path.{_≡_, refl}
+use mathlib.Core.Path.{_≡_, refl, ap, _∙_}
 use mathlib.Core.Bool.{Bool, not, cond, _&&_}
 use mathlib.Core.List.{List, [], _∷_}
 use mathlib.Core.Option.{some}
@@ -16,7 +16,10 @@ use Rattle.le.proofs.Lens.{get-one}
 use Rattle.rules.specs.Instance.{tagInSlot}
 use Rattle.rules.specs.Round.{goingRound, untilTwice, visited, firstFree, freeOf, allocate}
 use Rattle.index.specs.Slots.{heldIn}
+use Rattle.index.specs.Search.{readOf, told}
+use Rattle.index.specs.declared.Allocated.{Allocated}
 use Rattle.tables.specs.Table.{row}
+use Rattle.tables.specs.Layout.{counterByte}
 use Rattle.tables.specs.View.{slotFrom, slotAt, slotsOf, view}
 use Rattle.tables.specs.Answer.{tagIn, heldAt}
 use Rattle.tables.specs.declared.slots.Tag.the-variants.{Held, Empty}
@@ -59,3 +62,9 @@ module _ (held held′ : ℕ → Bool) (same : (k : ℕ) → k < 256 → held k 
   pub allocate-same : (counter : ℕ) → counter < 256 → allocate held counter ≡ allocate held′ counter
   unfolding allocate untilTwice
   allocate-same counter h = λ t. record { found = found-same 257 counter h t; visits = visited-same 257 counter h t; counter = (counter + length (visited-same 257 counter h t)) % 256 }
+
+-- a search over the lent occupancy bytes that begins at the counter is the search of the rules over the slots
+pub searched : (mem : List ℕ) (a : Allocated) (first : ℕ) → readOf a ≡ told (allocate (heldIn (take 256 (drop 256 mem))) first) → first ≡ counterByte mem → first < 256
+    → readOf a ≡ told (allocate (heldAt mem) (counterByte mem))
+searched mem a first found begins small =
+    found ∙ ap told (allocate-same (heldIn (take 256 (drop 256 mem))) (heldAt mem) (held-lent mem) first small ∙ ap (allocate (heldAt mem)) begins)

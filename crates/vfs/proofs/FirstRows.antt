@@ -56,8 +56,12 @@ module _ (mem path : List ℕ) (f : Instance → Outcome) (exact : List ℕ) (s 
         let z : wellFormed path ≡ false = sym ue ∙ not-true u e in
         does-nothing mem f v exact (refused INVAL (view mem)) a (g .rule ∙ rw (b, z)) refl (g .is-bad) (sym (g .bytes ∙ rw (a, g .stops-bad b z)))
 
+-- of a path that is UTF-8
+pub passed-by : (mem path : List ℕ) (l : Bool) → l ≡ laidIn mem → not l ≡ false → (long : Bool) → long ≡ tooLong path → long ≡ false → wellFormed path ≡ true → Passed mem path
+passed-by mem path l le on long lo short good = record { laid = sym le ∙ not-false l on; fits = sym lo ∙ short; formed = good }
+
 pub passed : (mem path : List ℕ) (l : Bool) → l ≡ laidIn mem → not l ≡ false → (long : Bool) → long ≡ tooLong path → long ≡ false → (u : Bool) → u ≡ wellFormed path → not u ≡ false → Passed mem path
-passed mem path l le on long lo short u ue good = record { laid = sym le ∙ not-false l on; fits = sym lo ∙ short; formed = sym ue ∙ not-false u good }
+passed mem path l le on long lo short u ue good = passed-by mem path l le on long lo short (sym ue ∙ not-false u good)
 
 pub slash-by : (path : List ℕ) (r : Bool) → r ≡ rooted path → not r ≡ false → rooted path ≡ true
 slash-by path r re e = sym re ∙ not-false r e

@@ -6,7 +6,7 @@ use Rattle.id_map.proofs.map_back.Tie as tie
 
 returns : tie.Need-returns
 unfolding unwrapped
-returns c = search needs
+returns c = c .map-out .ensures
 
 pub map-back-spec : {M : Type 1} → statement M
 map-back-spec = tie.close (tie.spec (λ c κs. search needs) returns)

@@ -12,7 +12,10 @@ free-requires : tie.Need-free-requires
 free-requires c κs = search (laid-long, laid-is, needs)
 
 returns : tie.Need-returns
-returns c = search (frees-point, needs)
+returns c =
+    let f = c .before .before in
+    let t = f .before .before in
+    frees-point _ _ _ _ _ (t .before .before .before .old .given .1) (search needs) (t .tag-of .ensures) (f .free .ensures)
 
 returns-2 : tie.Need-returns-2
 returns-2 c = frees-none _ _ (c .enum-told .given .1)

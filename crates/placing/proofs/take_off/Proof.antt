@@ -19,7 +19,7 @@ free-requires : tie.Need-free-requires
 free-requires c κs = omega (arith, laid-long _ (c .before .before .before .before .before .before .before .before .before .before .before .before .pre .0))
 
 returns : tie.Need-returns
-returns c = search (takes-off, needs)
+returns c = takes-off _ _ _ _ _ _ _ (search needs) (c .before .before .before .before .before .before .before .before .before .before .before .before .tag-of .ensures) (c .before .before .before .before .before .before .before .before .before .before .clear .ensures) (c .before .before .before .before .before .before .take-out .ensures) (c .before .before .free .ensures)
 
 pub take-off-spec : {M : Type 1} → statement M
 take-off-spec =

@@ -9,16 +9,19 @@ removes-requires : tie.Need-removes-requires
 removes-requires c κs = search (laid-long, laid-is, needs)
 
 returns : tie.Need-returns
-returns c = search (stays-unset, needs)
+returns c = stays-unset _ _ _ (c .before .removes .ensures) (c .if1 .taken)
 
 remove-requires : tie.Need-remove-requires
 remove-requires c κs = search (row-of, laid-is, needs)
 
 returns-2 : tie.Need-returns-2
-returns-2 c = search (goes, needs)
+returns-2 c =
+    let r = c .before .before in
+    let w = r .before .before .before in
+    goes _ _ _ (w .before .before .before .removes .ensures) (w .before .before .if1 .left) _ _ _ (search needs) (w .row .given .1) (r .remove .ensures)
 
 returns-3 : tie.Need-returns-3
-returns-3 c = search (nothing-goes, needs)
+returns-3 c = nothing-goes _ _ _ (c .before .before .before .removes .ensures) (c .before .before .if1 .left) _ (search needs) (c .enum-told .given .1)
 
 pub take-out-spec : {M : Type 1} → statement M
 take-out-spec =

@@ -11,7 +11,7 @@ cast-t13 c =
     omega (arith, at-most 4294967295 _ _ _ (t .before .before .read .ensures) (t .t .given .1))
 
 returns : tie.Need-returns
-returns c = search (three-numbers, needs)
+returns c = three-numbers _ _ _ _ _ _ (c .before .before .before .before .before .before .before .before .before .before .before .read .ensures) (c .before .before .before .before .before .before .before .read2 .ensures) _ (c .before .before .before .before .before .before .before .before .before .t .given .1) (c .before .before .before .read3 .ensures) _ (c .before .before .before .before .before .r .given .1) _ (c .before .m .given .1)
 
 returns-2 : tie.Need-returns-2
 returns-2 c = search (no-largest, needs)

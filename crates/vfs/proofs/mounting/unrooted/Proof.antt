@@ -17,13 +17,13 @@ same-length : tie.Need-same-length
 same-length c = search needs
 
 returns : tie.Need-returns
-returns c = search (no-slash, needs)
+returns c = no-slash _ _ _ (c .before .before .before .before .before .allocate .ensures) _ (c .before .answer .given .1)
 
 same-length-2 : tie.Need-same-length-2
 same-length-2 c = search needs
 
 returns-2 : tie.Need-returns-2
-returns-2 c = search (all-held, needs)
+returns-2 c = all-held _ _ _ (c .before .before .before .before .allocate .ensures) (c .enum-told .given .1)
 
 pub unrooted-spec : {M : Type 1} → statement M
 unrooted-spec =

@@ -10,7 +10,7 @@ returns c =
     let f = c .before .before in
     let u = f .before .before .before .before .before in
     let a = u .before .before .before .args in
-    takes (a .s .now) _ (a .x) (u .with-parent .result .parent) (u .with-parent .result .mount) _ _ (search needs) (search needs) (search needs) (search needs) (search needs) (f .take-off .ensures) _ _ (search needs) (search needs)
+    takes (a .s .now) _ (a .x) (u .with-parent .result .parent) (u .with-parent .result .mount) _ _ (search needs) (u .with-parent .ensures .mount) (search needs) (search needs) (u .with-parent .ensures .parent) (f .take-off .ensures) _ _ (search needs) (search needs)
 
 returns-2 : tie.Need-returns-2
 returns-2 c = search (finds-none, needs)
