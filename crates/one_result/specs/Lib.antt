@@ -1,0 +1,2 @@
+-- What is said of every contract of a call that takes storage.
+pub mod OneResult
