@@ -8,18 +8,13 @@ use lib.Dec.{ltb}
 use borrow.Author.Tests.{ltb-false}
 use Rattle.rules.specs.Bytes.{same}
 use Rattle.rules.specs.Path.{Part, name, parent, pieces, isDot, isDots, sorted, kept, components, anyLonger, tooLong}
+use Rattle.rules.specs.Names.{EachName}
 use Rattle.rules.proofs.Tests.{or-neither}
 
 -- each piece has the property P
 unfoldable pub EachPiece : (List ℕ → Type 0) → List (List ℕ) → Type 0
 EachPiece P [] = Unit {0}
 EachPiece P (p ∷ ps) = P p × EachPiece P ps
-
--- each name among the components has P
-unfoldable pub EachName : (List ℕ → Type 0) → List Part → Type 0
-EachName P [] = Unit {0}
-EachName P (parent at ∷ ps) = EachName P ps
-EachName P (name at p ∷ ps) = P p × EachName P ps
 
 -- at most 255 bytes
 abbrev pub Short : List ℕ → Type 0
