@@ -5,12 +5,12 @@ use mathlib.Core.List.{[], _∷_}
 use Rattle.rules.specs.Numbers.{DONE, INVAL}
 use Rattle.rules.specs.Utf8.{wellFormed}
 use Rattle.rules.specs.Path.{rooted}
-use Rattle.rules.specs.Outcome.{_⇒_, firstOf}
+use Rattle.rules.specs.Outcome.{_⟹_, firstOf}
 use Rattle.rules.specs.Unmount.{badPath}
 use Rattle.pseudo_fs.specs.declared.PathFault.the-variants.{Utf8, Slash, Sound}
 use Rattle.pseudo_fs.specs.Told.{faultOf, faultCode, EveryFault}
 
-by-tests : (w r : Bool) → faultCode (firstOf ((not w ⇒ Utf8) ∷ (not r ⇒ Slash) ∷ []) Sound) ≡ cond (not w || not r) INVAL DONE
+by-tests : (w r : Bool) → faultCode (firstOf ((not w ⟹ Utf8) ∷ (not r ⟹ Slash) ∷ []) Sound) ≡ cond (not w || not r) INVAL DONE
 unfolding firstOf faultCode
 by-tests true true = refl
 by-tests true false = refl

@@ -10,7 +10,7 @@ use Rattle.rules.specs.Path.{rooted}
 use Rattle.rules.specs.Ids.{wrapped}
 use Rattle.rules.specs.Unmount.{badPath}
 use Rattle.rules.specs.Instance.{Instance}
-use Rattle.rules.specs.Outcome.{Answer, walked, entry, _⇒_, firstOf}
+use Rattle.rules.specs.Outcome.{Answer, walked, entry, _⟹_, firstOf}
 use Rattle.tables.specs.Call.{Told, tells, refuses, toldSmall}
 use Rattle.pseudo_fs.specs.declared.PathFault.{PathFault}
 use Rattle.pseudo_fs.specs.declared.PathFault.the-variants.{Utf8, Slash, Sound}
@@ -20,7 +20,7 @@ use Rattle.pseudo_fs.specs.declared.Entry.{Entry}
 
 -- UTF-8 is tested first, then the leading slash (R36)
 unfoldable pub faultOf : List ℕ → PathFault
-faultOf path = firstOf ((not (wellFormed path) ⇒ Utf8) ∷ (not (rooted path) ⇒ Slash) ∷ []) Sound
+faultOf path = firstOf ((not (wellFormed path) ⟹ Utf8) ∷ (not (rooted path) ⟹ Slash) ∷ []) Sound
 
 -- the number of a fault: either is INVAL (R15, R36)
 unfoldable pub faultCode : PathFault → ℕ

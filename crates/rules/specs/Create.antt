@@ -7,7 +7,7 @@ use lib.Dec.{eqb, leb, ltb}
 use Rattle.rules.specs.Numbers.{maxNodes, storageFor, DONE, SMALL, BADOPT, BADMAP}
 use Rattle.rules.specs.Ids.{badMapping}
 use Rattle.rules.specs.Instance.{Options, flagLimit, Instance, newIndexes, newTree}
-use Rattle.rules.specs.Outcome.{_⇒_, firstOf}
+use Rattle.rules.specs.Outcome.{_⟹_, firstOf}
 
 -- what creation takes: N, the mask of known option bits, the options (R26, R27)
 pub record Creation : Type 0 where
@@ -46,8 +46,8 @@ newInstance q = record {
 unfoldable pub createRule : ℕ → Creation → ℕ
 createRule bytes q =
     firstOf
-    ((tooSmall bytes (q .capacity) ⇒ SMALL)
-    ∷ (badOptions (q .known) (q .options) ⇒ BADOPT)
-    ∷ (badMapping (q .options .mapping) ⇒ BADMAP)
+    ((tooSmall bytes (q .capacity) ⟹ SMALL)
+    ∷ (badOptions (q .known) (q .options) ⟹ BADOPT)
+    ∷ (badMapping (q .options .mapping) ⟹ BADMAP)
     ∷ [])
     DONE
