@@ -51,62 +51,74 @@ OneOf {I} {R} contract = (i : I) (r t : R) → contract i r → contract i t →
 abbrev pub Mem : Type 0
 Mem = List ℕ
 
--- ---- the contracts, each as its function has it: the input, with s the storage; then the answer, with what the lent bytes are after the call
+-- ---- the contracts, each as the `ensures` of its function has it: the input, with s the storage; then the answer, with the lent bytes as the call leaves them
 
--- of the instance as a whole (R19, R26 to R34)
+-- creation (R26 to R34)
 abbrev pub creates : (Mem × ℕ × ℕ × VfsOptions) → (Created × Mem) → Type 0
 creates (s, n, known, o) (r, after) = Creates s (creationOf n known o) (createdCode r) after
 
+-- the setting of `remove_pseudo_root` (R32)
 abbrev pub sets-removal : Mem → (Removal × Mem) → Type 0
 sets-removal s (r, after) = Does s removeCall (removalTold r) after (cond (laid s) (setRemoval s) s)
 
+-- the query of `initialized` (R33)
 abbrev pub asks-initialized : Mem → IsInitialized → Type 0
 asks-initialized s r = initializedTold r ≡ answeredBy s initializedCall
 
+-- the query of the options (R33)
 abbrev pub asks-options : Mem → OptionsOf → Type 0
 asks-options s r = optionsTold r ≡ answeredBy s optionsCall
 
--- of the tree (R46, R47, R57 to R66)
+-- the walk along a path (R46, R47)
 abbrev pub walks : (Mem × Mem) → PathWalk → Type 0
 walks (s, path) r = pathWalkTold r ≡ answeredBy s (λ (i : Instance). walkRule i path)
 
+-- a lookup (R57 to R59, R108, R109)
 abbrev pub looks-up : (Mem × NodeNumber × Mem) → Looked → Type 0
 looks-up (s, parent, name) r = lookedTold r ≡ answeredBy s (λ (i : Instance). lookupRule i (parent .0) name)
 
+-- a listing, with the lent output (R63 to R66)
 abbrev pub lists : (Mem × NodeNumber × ℕ × ℕ × Mem) → (Listed × Mem) → Type 0
 lists (s, node, size, offset, out) (r, left) = Lists s (node .0) size offset out r left
 
--- of the mount tables (R68 to R106, R118)
+-- a mount (R68 to R79)
 abbrev pub mounts : (Mem × Mem × Backend) → (Mounted × Mem) → Type 0
 mounts (s, path, b) (r, after) = Does s (λ (i : Instance). mountRule i (requestOf path b)) (mountedTold r) after (mountMem (requestOf path b) s)
 
+-- a restored mount (R91 to R95)
 abbrev pub restores-mount : (Mem × ℕ × Mem × Backend) → (RestoredMount × Mem) → Type 0
-restores-mount (s, k, path, b) (r, after) =
-    Does s (λ (i : Instance). restoreMountRule i k (requestOf path b)) (restoredTold r) after (restoreMountMem k (requestOf path b) s)
+restores-mount (s, «fs_idx», path, b) (r, after) =
+    Does s (λ (i : Instance). restoreMountRule i «fs_idx» (requestOf path b)) (restoredTold r) after (restoreMountMem «fs_idx» (requestOf path b) s)
 
+-- an unmount (R96 to R100)
 abbrev pub unmounts : (Mem × Mem) → (Unmounted × Mem) → Type 0
 unmounts (s, path) (r, after) = Does s (λ (i : Instance). unmountRule i path) (unmountedTold r) after (unmountMem path s)
 
+-- the root query (R103, R104)
 abbrev pub asks-rootfs : (Mem × Mem) → Rootfs → Type 0
 asks-rootfs (s, path) r = rootfsTold r ≡ answeredBy s (λ (i : Instance). rootRule i path)
 
+-- routing (R105, R106)
 abbrev pub routes : (Mem × VfsInode) → Routed → Type 0
 routes (s, x) r = routedTold r ≡ answeredBy s (λ (i : Instance). routeRule i (x .0))
 
+-- ids by the mapping in force (R118)
 abbrev pub remaps : (Mem × ℕ × ℕ × Bool) → Remapped → Type 0
 remaps (s, uid, gid, outward) r = remappedTold r ≡ answeredBy s (λ (i : Instance). remapRule i outward uid gid)
 
--- of saved state (R125, R128)
+-- a save, with the lent output (R125)
 abbrev pub saves : (Mem × Mem) → (Saved × Mem) → Type 0
 saves (s, out) (r, left) = Saves s out r left
 
+-- a restore of the saved bytes b (R128)
 abbrev pub restores : (Mem × Mem) → (StateRestored × Mem) → Type 0
 restores (s, b) (r, after) = Restores s b r after
 
--- of a session: the storage, the carry and the output after a feed, the storage and the output after the end (R137, R150, R151)
+-- a feed, with the carry and the lent output (R137, R150, R151)
 abbrev pub feeds : (Mem × Mem × ℕ × Mem × Mem) → (Fed × Mem × Mem × Mem) → Type 0
 feeds (s, carry, kept, piece, out) (r, after, carried, left) = Feeds s carry kept piece out r after carried left
 
+-- the end of the input, with the lent output (R151)
 abbrev pub finishes : (Mem × Mem × ℕ × Mem) → (Finished × Mem × Mem) → Type 0
 finishes (s, carry, kept, out) (r, after, left) = Finishes s carry kept out r after left
 
