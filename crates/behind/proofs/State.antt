@@ -11,7 +11,7 @@ use Rattle.le.proofs.Lens.{length-write}
 use Rattle.le.proofs.Writes.{write-before}
 use Rattle.rules.specs.Numbers.{DONE, BADSAVE, BADOPT, NOROOM, NOTFRESH, storageFor}
 use Rattle.rules.specs.Instance.{Instance, Options}
-use Rattle.rules.specs.Outcome.{nothing, refused, says, _⇒_, firstOf}
+use Rattle.rules.specs.Outcome.{nothing, refused, says, _⟹_, firstOf}
 use Rattle.rules.specs.Create.{Creation, newInstance, unknown}
 use Rattle.rules.specs.Saved.{SavedNode, State, stateOf, accepted}
 use Rattle.rules.specs.Restore.{fresh, restoredTo, restoreRule}
@@ -93,7 +93,7 @@ module _ (rest : List ℕ) where
     done f a u t =
         eqb
         (firstOf
-        ((not f ⇒ refused NOTFRESH (view mem)) ∷ (not a ⇒ refused BADSAVE (view mem)) ∷ (u ⇒ refused BADOPT (view mem)) ∷ (t ⇒ refused NOROOM (view mem)) ∷ [])
+        ((not f ⟹ refused NOTFRESH (view mem)) ∷ (not a ⟹ refused BADSAVE (view mem)) ∷ (u ⟹ refused BADOPT (view mem)) ∷ (t ⟹ refused NOROOM (view mem)) ∷ [])
         (says nothing (restoredTo (stateOf saved) (view mem))) .code)
         DONE
 

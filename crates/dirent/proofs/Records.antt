@@ -13,7 +13,7 @@ use Rattle.rules.proofs.Fields.{length-read, total, fields-length}
 use Rattle.le.specs.Mem.{read, write, put}
 use Rattle.le.proofs.Lens.{length-write, write-append, put-write, low-bytes}
 use Rattle.le.proofs.Writes.{write-over, write-front, write-read}
-use Rattle.dirent.specs.Lays.{Lays}
+use Rattle.dirent.specs.Lays.{Lays, EveryEights, LaysOver}
 
 -- ---- how long it is
 
@@ -39,9 +39,9 @@ module _ (ino off : ℕ) (name : List ℕ) where
   pub entry-some : 0 < length (dirent ino off name)
   entry-some = omega (arith, entry-length)
 
-  pub entry-eights : length (dirent ino off name) % 8 ≡ 0
-  unfolding dirent
-  entry-eights = record-eights (frontOf ino off name) name
+pub entry-eights : EveryEights
+unfolding dirent
+entry-eights ino off name = record-eights (frontOf ino off name) name
 
 -- ---- laid or not
 
@@ -63,7 +63,7 @@ laid-within room (r ∷ rs) = go (decLe (length r) room) (laid-within (room - le
     go (no h) w = omega (arith, ap length (laid-out room r rs (omega arith)))
 
 -- the bytes after, part by part: the records, and what stood behind them
-pub lays-over : (d : List ℕ) (room : ℕ) (rs : List (List ℕ)) (n : ℕ) (e : List ℕ) → room ≤ length d → Lays d room rs n e → e ≡ laidRecords room rs ++ drop n d
+pub lays-over : LaysOver
 lays-over d room rs n e h w = rw (w .count) (w .bytes ∙ write-over d (laidRecords room rs) (omega (arith, laid-within room rs)))
 
 -- a record that was laid, and one that was not

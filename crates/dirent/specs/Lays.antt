@@ -1,9 +1,9 @@
 -- What is answered and left where records are laid into lent bytes.
-use Prim.Native.Nat.{ℕ}
+use Prim.Native.Nat.{ℕ, _%_, _≤_}
 use mathlib.Core.Path.{_≡_}
-use mathlib.Core.List.{List}
-use lib.ListN.{length}
-use Rattle.rules.specs.Listing.{laidRecords}
+use mathlib.Core.List.{List, _++_}
+use lib.ListN.{length, drop}
+use Rattle.rules.specs.Listing.{dirent, laidRecords}
 use Rattle.le.specs.Mem.{write}
 
 -- records laid into the first `room` of the lent bytes d (R65, R66): n is the number of bytes written, and e holds
@@ -11,3 +11,13 @@ use Rattle.le.specs.Mem.{write}
 pub record Lays (d : List ℕ) (room : ℕ) (records : List (List ℕ)) (n : ℕ) (e : List ℕ) : Type 0 where
   pub count : n ≡ length (laidRecords room records)
   pub bytes : e ≡ write d 0 (laidRecords room records)
+
+-- ---- what is claimed
+
+-- the length of every record is a multiple of 8 (R64)
+abbrev pub EveryEights : Type 0
+EveryEights = (ino off : ℕ) (name : List ℕ) → length (dirent ino off name) % 8 ≡ 0
+
+-- the bytes after are the records, and then what stood behind them (R65)
+abbrev pub LaysOver : Type 0
+LaysOver = (d : List ℕ) (room : ℕ) (rs : List (List ℕ)) (n : ℕ) (e : List ℕ) → room ≤ length d → Lays d room rs n e → e ≡ laidRecords room rs ++ drop n d

@@ -32,6 +32,7 @@ use Rattle.vfs.specs.declared.restoring.RestoredMount.{RestoredMount}
 use Rattle.vfs.specs.declared.restoring.RestoredMount.the-variants.{Done as RestoredDone, TooLong as RestoredTooLong, Inval as RestoredInval, BadIndex, Inode as RestoredInode, NoRoom as RestoredNoRoom, Small as RestoredSmall}
 use Rattle.vfs.specs.declared.unmounting.Unmounted.{Unmounted}
 use Rattle.vfs.specs.declared.unmounting.Unmounted.the-variants.{Done as UnmountedDone, NotFound as UnmountedNotFound, Inval as UnmountedInval, Small as UnmountedSmall}
+use Rattle.flat.specs.Apart.{Apart}
 use Rattle.flat.specs.Flat.{mountNumbers, restoreMountNumbers, umountNumbers, rootfsNumbers, walkNumbers, routeNumbers, lookupNumbers, wroteNumbers, idsNumbers}
 use Rattle.flat.specs.declared.MountAnswer.{MountAnswer}
 use Rattle.flat.specs.declared.RestoreMountAnswer.{RestoreMountAnswer}
@@ -44,11 +45,11 @@ use Rattle.flat.specs.declared.WroteAnswer.{WroteAnswer}
 use Rattle.flat.specs.declared.IdsAnswer.{IdsAnswer}
 
 -- what can be led back is told apart
-pub apart : {A B : Type 0} (f : A → B) (g : B → A) → ((a : A) → g (f a) ≡ a) → (a b : A) → f a ≡ f b → a ≡ b
+pub apart : {A B : Type 0} (f : A → B) (g : B → A) → ((a : A) → g (f a) ≡ a) → Apart f
 apart f g back a b e = sym (back a) ∙ ap g e ∙ back b
 
 -- so answers whose numbers are apart are apart by what they tell
-pub told-apart : {A B : Type 0} (told : A → Told) (numbers : Told → B) → ((a b : A) → numbers (told a) ≡ numbers (told b) → a ≡ b) → (a b : A) → told a ≡ told b → a ≡ b
+pub told-apart : {A B : Type 0} (told : A → Told) (numbers : Told → B) → Apart (λ (a : A). numbers (told a)) → Apart told
 told-apart told numbers h a b e = h a b (ap numbers e)
 
 -- where the number is this one
@@ -82,7 +83,7 @@ mounted-back MountedNoRoom = refl
 mounted-back (MountedFull n) = refl
 mounted-back MountedSmall = refl
 
-pub mounted-apart : (a b : Mounted) → mountNumbers (mountedTold a) ≡ mountNumbers (mountedTold b) → a ≡ b
+pub mounted-apart : Apart (λ (a : Mounted). mountNumbers (mountedTold a))
 mounted-apart = apart (λ (a : Mounted). mountNumbers (mountedTold a)) mountedBack mounted-back
 
 abbrev restoredBack : RestoreMountAnswer → RestoredMount
@@ -107,7 +108,7 @@ restored-back RestoredInode = refl
 restored-back RestoredNoRoom = refl
 restored-back RestoredSmall = refl
 
-pub restored-apart : (a b : RestoredMount) → restoreMountNumbers (restoredTold a) ≡ restoreMountNumbers (restoredTold b) → a ≡ b
+pub restored-apart : Apart (λ (a : RestoredMount). restoreMountNumbers (restoredTold a))
 restored-apart = apart (λ (a : RestoredMount). restoreMountNumbers (restoredTold a)) restoredBack restored-back
 
 abbrev unmountedBack : UmountAnswer → Unmounted
@@ -123,7 +124,7 @@ unmounted-back UnmountedNotFound = refl
 unmounted-back UnmountedInval = refl
 unmounted-back UnmountedSmall = refl
 
-pub unmounted-apart : (a b : Unmounted) → umountNumbers (unmountedTold a) ≡ umountNumbers (unmountedTold b) → a ≡ b
+pub unmounted-apart : Apart (λ (a : Unmounted). umountNumbers (unmountedTold a))
 unmounted-apart = apart (λ (a : Unmounted). umountNumbers (unmountedTold a)) unmountedBack unmounted-back
 
 -- ---- queries
@@ -141,7 +142,7 @@ rootfs-back RootfsNotFound = refl
 rootfs-back RootfsInval = refl
 rootfs-back RootfsSmall = refl
 
-pub rootfs-apart : (a b : Rootfs) → rootfsNumbers (rootfsTold a) ≡ rootfsNumbers (rootfsTold b) → a ≡ b
+pub rootfs-apart : Apart (λ (a : Rootfs). rootfsNumbers (rootfsTold a))
 rootfs-apart = apart (λ (a : Rootfs). rootfsNumbers (rootfsTold a)) rootfsBack rootfs-back
 
 abbrev routedBack : RouteAnswer → Routed
@@ -156,7 +157,7 @@ routed-back (RoutedBackend t k x) = refl
 routed-back RoutedNoEnt = refl
 routed-back RoutedSmall = refl
 
-pub routed-apart : (a b : Routed) → routeNumbers (routedTold a) ≡ routeNumbers (routedTold b) → a ≡ b
+pub routed-apart : Apart (λ (a : Routed). routeNumbers (routedTold a))
 routed-apart = apart (λ (a : Routed). routeNumbers (routedTold a)) routedBack routed-back
 
 abbrev remappedBack : IdsAnswer → Remapped
@@ -167,7 +168,7 @@ unfolding remappedTold
 remapped-back (Ids u g) = refl
 remapped-back RemappedSmall = refl
 
-pub remapped-apart : (a b : Remapped) → idsNumbers (remappedTold a) ≡ idsNumbers (remappedTold b) → a ≡ b
+pub remapped-apart : Apart (λ (a : Remapped). idsNumbers (remappedTold a))
 remapped-apart = apart (λ (a : Remapped). idsNumbers (remappedTold a)) remappedBack remapped-back
 
 -- ---- the tree
@@ -182,7 +183,7 @@ walked-back WalkNothing = refl
 walked-back WalkInval = refl
 walked-back WalkSmall = refl
 
-pub walked-apart : (a b : PathWalk) → walkNumbers (pathWalkTold a) ≡ walkNumbers (pathWalkTold b) → a ≡ b
+pub walked-apart : Apart (λ (a : PathWalk). walkNumbers (pathWalkTold a))
 walked-apart = apart (λ (a : PathWalk). walkNumbers (pathWalkTold a)) walkedBack walked-back
 
 abbrev lookedBack : LookupAnswer → Looked
@@ -197,7 +198,7 @@ looked-back LookedNoEnt = refl
 looked-back LookedInval = refl
 looked-back LookedSmall = refl
 
-pub looked-apart : (a b : Looked) → lookupNumbers (lookedTold a) ≡ lookupNumbers (lookedTold b) → a ≡ b
+pub looked-apart : Apart (λ (a : Looked). lookupNumbers (lookedTold a))
 looked-apart = apart (λ (a : Looked). lookupNumbers (lookedTold a)) lookedBack looked-back
 
 abbrev listedBack : WroteAnswer → Listed
@@ -209,5 +210,5 @@ listed-back (ListedWrote n) = refl
 listed-back ListedNoEnt = refl
 listed-back ListedSmall = refl
 
-pub listed-apart : (a b : Listed) → wroteNumbers (listedTold a) ≡ wroteNumbers (listedTold b) → a ≡ b
+pub listed-apart : Apart (λ (a : Listed). wroteNumbers (listedTold a))
 listed-apart = apart (λ (a : Listed). wroteNumbers (listedTold a)) listedBack listed-back

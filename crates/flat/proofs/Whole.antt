@@ -25,13 +25,14 @@ use Rattle.persist.specs.declared.saving.Saved.{Saved}
 use Rattle.persist.specs.declared.saving.Saved.the-variants.{Wrote as SavedWrote, Small as SavedSmall}
 use Rattle.persist.specs.declared.restoring.StateRestored.{StateRestored}
 use Rattle.persist.specs.declared.restoring.StateRestored.the-variants.{Done as StateDone, NotFresh, BadSave, BadOpt as StateBadOpt, NoRoom as StateNoRoom, Small as StateSmall}
+use Rattle.flat.specs.Apart.{Apart, EveryApart}
 use Rattle.flat.specs.Flat.{codeAlone, codeNumbers, initializedNumbers, optionsNumbers, wroteNumbers, inodeNumbers}
 use Rattle.flat.specs.declared.CodeAnswer.{CodeAnswer}
 use Rattle.flat.specs.declared.InitializedAnswer.{InitializedAnswer}
 use Rattle.flat.specs.declared.OptionsAnswer.{OptionsAnswer}
 use Rattle.flat.specs.declared.WroteAnswer.{WroteAnswer}
 use Rattle.flat.specs.declared.InodeAnswer.{InodeAnswer}
-use Rattle.flat.proofs.Apart.{apart, at}
+use Rattle.flat.proofs.Apart.{apart, at, mounted-apart, restored-apart, unmounted-apart, rootfs-apart, routed-apart, remapped-apart, walked-apart, looked-apart, listed-apart}
 
 -- ---- the instance
 
@@ -45,7 +46,7 @@ created-back CreatedSmall = refl
 created-back BadOpt = refl
 created-back BadMap = refl
 
-pub created-apart : (a b : Created) → codeAlone (createdCode a) ≡ codeAlone (createdCode b) → a ≡ b
+pub created-apart : Apart (λ (a : Created). codeAlone (createdCode a))
 created-apart = apart (λ (a : Created). codeAlone (createdCode a)) createdBack created-back
 
 abbrev removalBack : CodeAnswer → Removal
@@ -56,7 +57,7 @@ unfolding removalTold
 removal-back RemovalDone = refl
 removal-back RemovalSmall = refl
 
-pub removal-apart : (a b : Removal) → codeNumbers (removalTold a) ≡ codeNumbers (removalTold b) → a ≡ b
+pub removal-apart : Apart (λ (a : Removal). codeNumbers (removalTold a))
 removal-apart = apart (λ (a : Removal). codeNumbers (removalTold a)) removalBack removal-back
 
 abbrev initializedBack : InitializedAnswer → IsInitialized
@@ -68,7 +69,7 @@ initialized-back (Is true) = refl
 initialized-back (Is false) = refl
 initialized-back InitializedSmall = refl
 
-pub initialized-apart : (a b : IsInitialized) → initializedNumbers (initializedTold a) ≡ initializedNumbers (initializedTold b) → a ≡ b
+pub initialized-apart : Apart (λ (a : IsInitialized). initializedNumbers (initializedTold a))
 initialized-apart = apart (λ (a : IsInitialized). initializedNumbers (initializedTold a)) initializedBack initialized-back
 
 abbrev optionsBack : OptionsAnswer → OptionsOf
@@ -82,7 +83,7 @@ unfolding optionsTold
 options-back (Options o) = refl
 options-back OptionsSmall = refl
 
-pub options-apart : (a b : OptionsOf) → optionsNumbers (optionsTold a) ≡ optionsNumbers (optionsTold b) → a ≡ b
+pub options-apart : Apart (λ (a : OptionsOf). optionsNumbers (optionsTold a))
 options-apart = apart (λ (a : OptionsOf). optionsNumbers (optionsTold a)) optionsBack options-back
 
 -- ---- saved state
@@ -95,7 +96,7 @@ unfolding savedTold
 saved-back (SavedWrote n) = refl
 saved-back SavedSmall = refl
 
-pub saved-apart : (a b : Saved) → wroteNumbers (savedTold a) ≡ wroteNumbers (savedTold b) → a ≡ b
+pub saved-apart : Apart (λ (a : Saved). wroteNumbers (savedTold a))
 saved-apart = apart (λ (a : Saved). wroteNumbers (savedTold a)) savedBack saved-back
 
 abbrev stateBack : CodeAnswer → StateRestored
@@ -110,7 +111,7 @@ state-back StateBadOpt = refl
 state-back StateNoRoom = refl
 state-back StateSmall = refl
 
-pub state-apart : (a b : StateRestored) → codeNumbers (stateTold a) ≡ codeNumbers (stateTold b) → a ≡ b
+pub state-apart : Apart (λ (a : StateRestored). codeNumbers (stateTold a))
 state-apart = apart (λ (a : StateRestored). codeNumbers (stateTold a)) stateBack state-back
 
 -- ---- without an instance
@@ -123,7 +124,7 @@ unfolding codeOf fullOf
 converted-back (ConvertedFull x) = refl
 converted-back ConvertedInode = refl
 
-pub converted-apart : (a b : Converted) → inodeNumbers (codeOf a) (fullOf a) ≡ inodeNumbers (codeOf b) (fullOf b) → a ≡ b
+pub converted-apart : Apart (λ (a : Converted). inodeNumbers (codeOf a) (fullOf a))
 converted-apart = apart (λ (a : Converted). inodeNumbers (codeOf a) (fullOf a)) convertedBack converted-back
 
 abbrev checkedBack : CodeAnswer → Checked
@@ -133,5 +134,28 @@ checked-back : (a : Checked) → checkedBack (codeAlone (checkedCode a)) ≡ a
 checked-back CheckedDone = refl
 checked-back CheckedInval = refl
 
-pub checked-apart : (a b : Checked) → codeAlone (checkedCode a) ≡ codeAlone (checkedCode b) → a ≡ b
+pub checked-apart : Apart (λ (a : Checked). codeAlone (checkedCode a))
 checked-apart = apart (λ (a : Checked). codeAlone (checkedCode a)) checkedBack checked-back
+
+-- ---- of every call
+
+pub every-apart : EveryApart
+every-apart = record {
+  created = created-apart;
+  removal = removal-apart;
+  initialized = initialized-apart;
+  options = options-apart;
+  saved = saved-apart;
+  state = state-apart;
+  converted = converted-apart;
+  checked = checked-apart;
+  mounted = mounted-apart;
+  restored = restored-apart;
+  unmounted = unmounted-apart;
+  rootfs = rootfs-apart;
+  routed = routed-apart;
+  remapped = remapped-apart;
+  walked = walked-apart;
+  looked = looked-apart;
+  listed = listed-apart;
+}

@@ -1,2 +1,3 @@
--- What the numbers of an answer are.
+-- What the numbers of an answer are, and that they tell the answers apart.
 pub mod Flat
+pub mod Apart

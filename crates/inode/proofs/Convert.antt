@@ -5,7 +5,7 @@ use Prim.Native.Nat.{ℕ, _+_, _*_, _^_, _<_, _≤_}
 use native.Mathlib.Omega.{arith}
 use borrow.Author.Tests.{lt-ltb, le-ltb, ne-eqb}
 use Rattle.rules.specs.Numbers.{maxIno, full, convert, indexOf, numberOf}
-use Rattle.inode.specs.Converted.{fullOf, codeOf, Converts}
+use Rattle.inode.specs.Converted.{fullOf, codeOf, Converts, EveryBack, ConvertInjective}
 use Rattle.inode.specs.declared.VfsInode.{VfsInode}
 use Rattle.inode.specs.declared.Converted.the-variants.{Full, Inode}
 
@@ -41,7 +41,10 @@ module _ (i n x : ℕ) (some-number : 1 ≤ n) (small : n ≤ maxIno) (e : conve
   unfolding numberOf
   number-back = let s = spelt in omega arith
 
-pub convert-injective : (i n j m : ℕ) → 1 ≤ n → n ≤ maxIno → 1 ≤ m → m ≤ maxIno → convert i n ≡ convert j m → (i ≡ j) × (n ≡ m)
+pub every-back : EveryBack
+every-back i n x a b e = record { index-back = index-back i n x a b e; number-back = number-back i n x a b e }
+
+pub convert-injective : ConvertInjective
 convert-injective i n j m a b c d e =
     let x = i * 2 ^ 56 + n in
     let p : convert i n ≡ some x = joins i n b (λ z. omega arith) in

@@ -1,10 +1,10 @@
--- What each case of a conversion's answer stands for, and what a conversion answers.
-use Prim.Native.Nat.{ℕ}
+-- What each case of a conversion's answer stands for, what a conversion answers, and that index and number come back from it.
+use Prim.Native.Nat.{ℕ, _≤_}
 use mathlib.Core.Path.{_≡_}
 use mathlib.Core.Bool.{cond}
 use mathlib.Core.Option.{Option, none, some}
 use lib.Dec.{ltb}
-use Rattle.rules.specs.Numbers.{maxIno, convert, DONE, INODE}
+use Rattle.rules.specs.Numbers.{maxIno, convert, indexOf, numberOf, DONE, INODE}
 use Rattle.inode.specs.declared.Converted.{Converted}
 use Rattle.inode.specs.declared.Converted.the-variants.{Full, Inode}
 
@@ -26,3 +26,18 @@ convertCode number = cond (ltb maxIno number) INODE DONE
 pub record Converts (index number : ℕ) (r : Converted) : Type 0 where
   pub full : fullOf r ≡ convert index number
   pub code : codeOf r ≡ convertCode number
+
+-- ---- what is claimed of conversion
+
+-- what went in comes back: index and number of a full number (R6, R7)
+pub record Back (index number x : ℕ) : Type 0 where
+  pub index-back : indexOf x ≡ index
+  pub number-back : numberOf x ≡ number
+
+-- of every number from 1 to 2^56 − 1
+abbrev pub EveryBack : Type 0
+EveryBack = (i n x : ℕ) → 1 ≤ n → n ≤ maxIno → convert i n ≡ some x → Back i n x
+
+-- so no two pairs of index and number, the number from 1 on, have one full number (R6, R7)
+abbrev pub ConvertInjective : Type 0
+ConvertInjective = (i n j m : ℕ) → 1 ≤ n → n ≤ maxIno → 1 ≤ m → m ≤ maxIno → convert i n ≡ convert j m → (i ≡ j) × (n ≡ m)

@@ -8,7 +8,7 @@ use mathlib.Core.Option.{none}
 use lib.ListN.{length, drop}
 use lib.Dec.{eqb}
 use borrow.Author.Tests.{lt-ltb, le-ltb, ltb-true, ltb-false, eq-eqb, ne-eqb, eqb-true, eqb-false}
-use Rattle.rules.specs.Outcome.{_⇒_, firstOf}
+use Rattle.rules.specs.Outcome.{_⟹_, firstOf}
 use Rattle.rules.specs.Session.{space, words, anyEmpty, lineOf, parsed}
 use Rattle.line.specs.declared.Cut.{Cut}
 use Rattle.line.specs.declared.Cut.the-variants.{Two, Three, Five, Other}
@@ -181,7 +181,7 @@ module _ (s : List ℕ) where
 
         module _ (nc : c ≡ length s → ⊥) (d : ℕ) (ed : d ≡ fieldEnd s (c + 1)) where
           -- where the third is not the last
-          further : cutOf s ≡ firstOf ((eqb d (length s) ⇒ Other) ∷ (eqb (fieldEnd s (d + 1)) (length s) ⇒ Five a b c d) ∷ []) Other
+          further : cutOf s ≡ firstOf ((eqb d (length s) ⟹ Other) ∷ (eqb (fieldEnd s (d + 1)) (length s) ⟹ Five a b c d) ∷ []) Other
           unfolding cutOf firstOf
           further = rw (le-ltb 8192 (length s) h, ← ea, ne-eqb a (length s) na, ← eb, ne-eqb b (length s) nb, ← ec, ne-eqb c (length s) nc, ← ed)
 

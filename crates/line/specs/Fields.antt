@@ -7,7 +7,7 @@ use mathlib.Core.Path.{_≡_}
 use lib.ListN.{length}
 use lib.Dec.{eqb, ltb}
 use Rattle.rules.specs.Numbers.{maxLine}
-use Rattle.rules.specs.Outcome.{_⇒_, firstOf}
+use Rattle.rules.specs.Outcome.{_⟹_, firstOf}
 use Rattle.rules.specs.Session.{space, Line, anyEmpty, lineOf}
 use Rattle.path.specs.Steps.{between, partEnd}
 use Rattle.line.specs.declared.Cut.{Cut}
@@ -50,12 +50,12 @@ cutOf s =
     let d = fieldEnd s (c + 1) in
     let e = fieldEnd s (d + 1) in
     firstOf
-    ((ltb maxLine (length s) ⇒ Other)
-    ∷ (eqb a (length s) ⇒ Other)
-    ∷ (eqb b (length s) ⇒ Two a)
-    ∷ (eqb c (length s) ⇒ Three a b)
-    ∷ (eqb d (length s) ⇒ Other)
-    ∷ (eqb e (length s) ⇒ Five a b c d)
+    ((ltb maxLine (length s) ⟹ Other)
+    ∷ (eqb a (length s) ⟹ Other)
+    ∷ (eqb b (length s) ⟹ Two a)
+    ∷ (eqb c (length s) ⟹ Three a b)
+    ∷ (eqb d (length s) ⟹ Other)
+    ∷ (eqb e (length s) ⟹ Five a b c d)
     ∷ [])
     Other
 

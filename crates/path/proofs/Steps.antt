@@ -14,7 +14,7 @@ use Rattle.rules.specs.Path.{slash, dot, isDot, isDots, Part, name, parent, ont
 use Rattle.rules.proofs.Same.{some-byte, same-eq, same-length}
 use Rattle.path.specs.declared.components.Component.{Component}
 use Rattle.path.specs.declared.components.Component.the-variants.{Name, Parent, End}
-use Rattle.path.specs.Steps.{part, between, stepOf, nextAt, onStep, stepped}
+use Rattle.path.specs.Steps.{part, between, stepOf, nextAt, onStep, stepped, Goes, Step, EveryStep, SteppedAll}
 use Rattle.path.proofs.Places.{here, between-length}
 use Rattle.path.proofs.Words.{part-nil, part-cons, part-le, end-here, end-length, behind, first-part, wordLength, wordEnd}
 
@@ -158,20 +158,6 @@ next-end s i h = rw (drop-of-length-le s h)
 
 -- ---- the theorem: each answer is a step along the components
 
--- a part of n bytes that starts at a place, and the place behind it, where the path goes on
-pub record Goes (s : List ℕ) (at : ℕ) (p : Part) (start n next : ℕ) : Type 0 where
-  pub parts : components at (drop at s) ≡ p ∷ components next (drop next s)
-  pub from : at ≤ start
-  pub some : 0 < n
-  pub end : start + n ≡ next
-  pub further : at < next
-  pub within : next ≤ length s
-
-abbrev pub Step : List ℕ → ℕ → Component → Type 0
-Step s at End = components at (drop at s) ≡ []
-Step s at (Parent start next) = Goes s at (parent start) start 2 next
-Step s at (Name start n next) = Goes s at (name start (part s start n)) start n next
-
 -- a step from one place is a step from the place before it, where nothing but dropped bytes stands between
 earlier : (s : List ℕ) (at : ℕ) (p : Part) (start n next : ℕ) → components at (drop at s) ≡ components (at + 1) (drop (at + 1) s) → Goes s (at + 1) p start n next → Goes s at p start n next
 earlier s at p start n next e g = record { parts = e ∙ g .parts; from = omega arith; some = g .some; end = g .end; further = omega arith; within = g .within }
@@ -221,7 +207,7 @@ steps-by (suc k) s at h = go (decLt at (length s)) (steps-by k s (at + 1) (omega
         let m : length s ≤ at = omega arith in
         rw (next-end s at m, drop-of-length-le s m)
 
-pub steps : (s : List ℕ) (at : ℕ) → Step s at (nextAt s at)
+pub steps : EveryStep
 steps s at = steps-by (length s) s at (omega arith)
 
 -- the same of an answer of the code, known by its variant
@@ -240,5 +226,5 @@ stepped-from (suc k) s at h = go (nextAt s at) (steps s at) (λ (next : ℕ) (l 
     go (Parent start next) p ih = rw (ih next (p .further)) (sym (p .parts))
     go (Name start n next) p ih = rw (ih next (p .further)) (sym (p .parts))
 
-pub stepped-all : (s : List ℕ) → stepped (suc (length s)) s 0 ≡ components 0 s
+pub stepped-all : SteppedAll
 stepped-all s = stepped-from (suc (length s)) s 0 (omega arith)

@@ -1,5 +1,6 @@
--- One step along a path, read off the rules' list of its components.
-use Prim.Native.Nat.{ℕ, zero, suc, _+_, _-_}
+-- One step along a path, read off the rules' list of its components; and that the steps yield this list.
+use Prim.Native.Nat.{ℕ, zero, suc, _+_, _-_, _≤_, _<_}
+use mathlib.Core.Path.{_≡_}
 use mathlib.Core.List.{List, [], _∷_}
 use lib.ListN.{length, take, drop}
 use Rattle.rules.specs.Path.{Part, name, parent, partsBy, components}
@@ -47,3 +48,28 @@ onStep (Name start n next) path more = name start (part path start n) ∷ more n
 abbrev pub stepped : ℕ → List ℕ → ℕ → List Part
 stepped zero path at = []
 stepped (suc k) path at = onStep (nextAt path at) path (λ (next : ℕ). stepped k path next)
+
+-- ---- what is claimed
+
+-- a part of n bytes that starts at a place, and the place behind it, where the path goes on
+pub record Goes (s : List ℕ) (at : ℕ) (p : Part) (start n next : ℕ) : Type 0 where
+  pub parts : components at (drop at s) ≡ p ∷ components next (drop next s)
+  pub from : at ≤ start
+  pub some : 0 < n
+  pub end : start + n ≡ next
+  pub further : at < next
+  pub within : next ≤ length s
+
+-- an answer is a step along the components from a place on
+abbrev pub Step : List ℕ → ℕ → Component → Type 0
+Step s at End = components at (drop at s) ≡ []
+Step s at (Parent start next) = Goes s at (parent start) start 2 next
+Step s at (Name start n next) = Goes s at (name start (part s start n)) start n next
+
+-- each answer is such a step
+abbrev pub EveryStep : Type 0
+EveryStep = (s : List ℕ) (at : ℕ) → Step s at (nextAt s at)
+
+-- stepping through a path to its end yields its components, in their order and no other (R37, R38)
+abbrev pub SteppedAll : Type 0
+SteppedAll = (s : List ℕ) → stepped (suc (length s)) s 0 ≡ components 0 s

@@ -10,7 +10,8 @@ use lib.ListN.{length, length-append}
 use Rattle.rules.specs.Path.{Part, name, parent, components, tooLong}
 use Rattle.rules.specs.Tree.{Node, Made, bare, childIn, orMake, step, makes, atRoot}
 use Rattle.rules.specs.Mount.{planned}
-use Rattle.rules.proofs.Parts.{EachName, Short, rest-names, names-short}
+use Rattle.rules.specs.Names.{EachName}
+use Rattle.rules.proofs.Parts.{Short, rest-names, names-short}
 use Rattle.tables.specs.Layout.{nextOf}
 use Rattle.tables.specs.View.{nodesOf, view}
 use Rattle.tables.proofs.Numbers.{LowNodes, nodes-low, child-low, parent-low}

@@ -11,10 +11,10 @@ use lib.Seq.{getD-set-same, getD-set-other}
 use Rattle.rules.specs.Path.{Part, name, parent, components, tooLong}
 use Rattle.rules.specs.Tree.{Made, bare, childIn, parentIn, step, makes}
 use Rattle.rules.specs.Mount.{planned, needed}
-use Rattle.rules.proofs.Parts.{EachName, Short, first-name, rest-names, names-short}
-use Rattle.path.specs.Steps.{part}
+use Rattle.rules.specs.Names.{EachName}
+use Rattle.rules.proofs.Parts.{Short, first-name, rest-names, names-short}
+use Rattle.path.specs.Steps.{part, Goes}
 use Rattle.path.proofs.Places.{part-length}
-use Rattle.path.proofs.Steps.{Goes}
 use Rattle.tables.specs.Table.{tab}
 use Rattle.tables.specs.Layout.{nextOf}
 use Rattle.tables.specs.View.{nodesOf, view}

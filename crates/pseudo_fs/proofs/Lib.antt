@@ -2,3 +2,4 @@
 pub mod Walks
 pub mod Finds
 pub mod Calls
+pub mod Faults

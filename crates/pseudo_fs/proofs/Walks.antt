@@ -9,8 +9,7 @@ use Rattle.rules.specs.Numbers.{rootNumber}
 use Rattle.rules.specs.Path.{Part, name, parent, components}
 use Rattle.rules.specs.Tree.{Node, childIn, parentIn, walk}
 use Rattle.rules.specs.Unmount.{reached}
-use Rattle.path.specs.Steps.{part, between}
-use Rattle.path.proofs.Steps.{Goes}
+use Rattle.path.specs.Steps.{part, between, Goes}
 use Rattle.tables.specs.View.{nodesOf, view}
 use Rattle.tables.specs.Answer.{foundIn}
 use Rattle.tables.specs.declared.rows.Found.{Found}

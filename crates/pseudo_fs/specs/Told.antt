@@ -1,14 +1,16 @@
 -- What the answers of the calls tell, by number and values; the first fault of a path; and the pseudo entry as the code makes it.
 use Prim.Native.Nat.{ℕ}
-use mathlib.Core.Bool.{not}
+use mathlib.Core.Bool.{cond, not}
 use mathlib.Core.List.{List, [], _∷_}
 use mathlib.Core.Option.{none, some}
-use Rattle.rules.specs.Numbers.{dirMode, blockSize, orZero, convert, INVAL}
+use mathlib.Core.Path.{_≡_}
+use Rattle.rules.specs.Numbers.{dirMode, blockSize, orZero, convert, DONE, INVAL}
 use Rattle.rules.specs.Utf8.{wellFormed}
 use Rattle.rules.specs.Path.{rooted}
 use Rattle.rules.specs.Ids.{wrapped}
+use Rattle.rules.specs.Unmount.{badPath}
 use Rattle.rules.specs.Instance.{Instance}
-use Rattle.rules.specs.Outcome.{Answer, walked, entry, _⇒_, firstOf}
+use Rattle.rules.specs.Outcome.{Answer, walked, entry, _⟹_, firstOf}
 use Rattle.tables.specs.Call.{Told, tells, refuses, toldSmall}
 use Rattle.pseudo_fs.specs.declared.PathFault.{PathFault}
 use Rattle.pseudo_fs.specs.declared.PathFault.the-variants.{Utf8, Slash, Sound}
@@ -18,7 +20,17 @@ use Rattle.pseudo_fs.specs.declared.Entry.{Entry}
 
 -- UTF-8 is tested first, then the leading slash (R36)
 unfoldable pub faultOf : List ℕ → PathFault
-faultOf path = firstOf ((not (wellFormed path) ⇒ Utf8) ∷ (not (rooted path) ⇒ Slash) ∷ []) Sound
+faultOf path = firstOf ((not (wellFormed path) ⟹ Utf8) ∷ (not (rooted path) ⟹ Slash) ∷ []) Sound
+
+-- the number of a fault: either is INVAL (R15, R36)
+unfoldable pub faultCode : PathFault → ℕ
+faultCode Utf8 = INVAL
+faultCode Slash = INVAL
+faultCode Sound = DONE
+
+-- so the first fault has the number that the rule of a walk, of an unmount and of a root query answers (R36, R43)
+abbrev pub EveryFault : Type 0
+EveryFault = (path : List ℕ) → faultCode (faultOf path) ≡ cond (badPath path) INVAL DONE
 
 -- ---- numbers and values
 

@@ -14,7 +14,7 @@ ghost use Rattle.pseudo_fs.specs.Told.{faultOf, pathWalkTold};
 
 pub mod inner;
 
-// The first fault of a path, or none.
+// The first fault of a path, which is INVAL, or none (R15, R36).
 pub enum PathFault {
     Utf8,
     Slash,

@@ -13,7 +13,7 @@ use Rattle.le.proofs.Lens.{get-one, get-split, take-read, write-append}
 use Rattle.tables.specs.Layout.{lastAt, firstAt}
 use Rattle.tables.specs.View.{nodeAt}
 use Rattle.tables.proofs.Cells.{called-at}
-use Rattle.row_name.specs.Copied.{Copied}
+use Rattle.row_name.specs.Copied.{Copied, EveryNameShort}
 
 -- the first w of k bytes, which are all of them where w is larger
 take-least : (mem : List ℕ) (p k w : ℕ) → take w (read mem p k) ≡ read mem p (min w k)
@@ -114,3 +114,6 @@ module _ (n : ℕ) (mem : List ℕ) (i : ℕ) where
         let one : write (write d to p) (to + (l - 7)) q ≡ write d to (p ++ q) =
         ap (λ (k : ℕ). write (write d to p) (to + k) q) (sym (length-read mem (firstAt n i) (l - 7))) ∙ sym (write-append d to p q) in
         record { count = e; bytes = v ∙ ap (λ (x : List ℕ). write x (to + (l - 7)) q) w ∙ one ∙ ap (write d to) (sym k) }
+
+pub every-name-short : EveryNameShort
+every-name-short n mem i = name-short n mem i _ refl

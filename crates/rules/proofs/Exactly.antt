@@ -15,7 +15,7 @@ use Rattle.rules.specs.Ids.{badMapping}
 use Rattle.rules.specs.Tree.{Mount, isNone, parentIn, childIn}
 use Rattle.rules.specs.Instance.{Instance, heldIn, tagOf, mountOf, counterOf}
 use Rattle.rules.specs.Round.{allocate}
-use Rattle.rules.specs.Outcome.{Outcome, _⇒_, firstOf, refused}
+use Rattle.rules.specs.Outcome.{Outcome, _⟹_, firstOf, refused}
 use Rattle.rules.specs.Create.{Creation, outside, unknown, badOptions, tooSmall, createRule}
 use Rattle.rules.specs.Mount.{Request, noRoom, allocation, mountAs, mountRule, restoreAs, restoreMountRule}
 use Rattle.rules.specs.Unmount.{badPath, reached, mountUnder, walkRule, unmounts, unmountAt, unmountRule, rootHeld, rootAt, rootRule}
@@ -82,7 +82,7 @@ restored-settles i k r =
 -- ---- calls that take a path
 
 on-path : (i : Instance) (path : List ℕ) (o : Outcome) (ts : List Test) → Settles (o .code) ts
-    → Settles (firstOf ((badPath path ⇒ refused INVAL i) ∷ []) o .code) (pathTests path ts)
+    → Settles (firstOf ((badPath path ⟹ refused INVAL i) ∷ []) o .code) (pathTests path ts)
 unfolding badPath
 on-path i path o ts s =
     settle-or _ (not (wellFormed path)) (not (rooted path)) INVAL ts (settle codeOf (not (wellFormed path) || not (rooted path)) _ [] o _ _ refl (settle-last codeOf o ts s))
@@ -152,7 +152,7 @@ module _ (mounts : ℕ → Option Mount) (i : Instance) where
   entry-at (some x) = passes _ _ _ (settled _ (entry-code i x (mounts x)))
 
   found-by : (x y : ℕ) (z : Option ℕ) (b d s : Bool)
-      → Settles (firstOf ((b ⇒ entryAt mounts i (some x)) ∷ (d ⇒ entryAt mounts i (some y)) ∷ (s ⇒ refused NOENT i) ∷ []) (entryAt mounts i z) .code) ((not b && not d && (s || isNone z) ⟼ NOENT) ∷ [])
+      → Settles (firstOf ((b ⟹ entryAt mounts i (some x)) ∷ (d ⟹ entryAt mounts i (some y)) ∷ (s ⟹ refused NOENT i) ∷ []) (entryAt mounts i z) .code) ((not b && not d && (s || isNone z) ⟼ NOENT) ∷ [])
   unfolding firstOf
   found-by x y z true d s = passes _ _ _ (settled _ (entry-some x))
   found-by x y z false true s = passes _ _ _ (settled _ (entry-some y))

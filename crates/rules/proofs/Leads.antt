@@ -22,12 +22,14 @@ use Rattle.rules.specs.Unmount.{reached}
 use Rattle.rules.specs.Driven.{Rises, Unique, Shape, Rooted, top, under}
 use Rattle.rules.specs.Proper.{At}
 use Rattle.rules.specs.Found.{Goes, at-root, up, down, Leads, end, on}
+use Rattle.rules.specs.Names.{EachName, GoodName}
+use Rattle.rules.specs.Walk.{Walking}
 use Rattle.rules.proofs.Tests.{or-neither, and-both}
 use Rattle.rules.proofs.Same.{same-refl, same-eq}
-use Rattle.rules.proofs.Parts.{EachName, rest-names}
-use Rattle.rules.proofs.Names.{GoodName, components-good}
+use Rattle.rules.proofs.Parts.{rest-names}
+use Rattle.rules.proofs.Names.{components-good}
 use Rattle.rules.proofs.Shape.{beside, beside-sym}
-use Rattle.rules.proofs.Walk.{rooted-up, rooted-down, makes-all, Walking, step-walking}
+use Rattle.rules.proofs.Walk.{rooted-up, rooted-down, makes-all, step-walking}
 
 -- ---- a step of the walk goes
 

@@ -22,7 +22,8 @@ use Rattle.rules.proofs.Tests.{and-rest, or-neither}
 use Rattle.rules.proofs.Rows.{first-of, either}
 use Rattle.rules.proofs.Ways.{Passed}
 use Rattle.rules.proofs.Shape.{saved-mount, shape-less, length-less, length-mount}
-use Rattle.rules.proofs.Walk.{Walking, planned-walking}
+use Rattle.rules.specs.Walk.{Walking}
+use Rattle.rules.proofs.Walk.{planned-walking}
 use Rattle.rules.proofs.Slots.{freed-slots}
 use Rattle.rules.proofs.Turn.{seen-moved}
 use Rattle.rules.proofs.Held.{Held, held-grown, held-placed, held-taken}

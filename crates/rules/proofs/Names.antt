@@ -12,9 +12,10 @@ use Rattle.rules.specs.Bytes.{same, holds}
 use Rattle.rules.specs.Utf8.{Range, table, within, fits, firstRow, sequence, onSequence, endFrom, validTo, wellFormed}
 use Rattle.rules.specs.Path.{slash, onto, partsBy, pieces, isDot, isDots, components, tooLong}
 use Rattle.rules.specs.Saved.{goodName}
+use Rattle.rules.specs.Names.{GoodName, ComponentsGood}
 use Rattle.rules.proofs.Tests.{and-both, pass}
 use Rattle.rules.proofs.Same.{some-byte}
-use Rattle.rules.proofs.Parts.{EachPiece, EachName, Short, kept-names, within-limits}
+use Rattle.rules.proofs.Parts.{EachPiece, Short, kept-names, within-limits}
 
 -- ---- sequences do not reach over a slash
 
@@ -176,16 +177,13 @@ pieces-sound (p ∷ ps) f l w = ((f .0, l .0, w .0), pieces-sound ps (f .1) (l .
 
 -- ---- components
 
-abbrev pub GoodName : List ℕ → Type 0
-GoodName p = goodName p ≡ true
-
 good : (p : List ℕ) → same p [] ≡ false → isDot p ≡ false → isDots p ≡ false → Sound p → GoodName p
 unfolding goodName wellFormed validTo
 good p e d dd s =
     pass _ (le-leb 1 (length p) (some-byte p e), (le-leb (length p) 255 (s .1), (rw (s .0), (rw d, (rw dd, (eq-eqb _ _ (s .2), tt))))))
 
 -- the theorem: of a path that rows 1 and 2 of a mount let pass
-pub components-good : (s : List ℕ) → tooLong s ≡ false → wellFormed s ≡ true → EachName GoodName (components 0 s)
+pub components-good : ComponentsGood
 unfolding wellFormed validTo components
 components-good s l w =
     let whole = cuts-wholes s (pieces s) (pieces-whole s 0 (eqb-true _ _ w) (none-apart s)) in

@@ -11,6 +11,7 @@ use Rattle.rules.specs.Path.{Part, name, parent, pieces, isDot, isDots, 
 use Rattle.rules.specs.Tree.{isChild, childIn, nodeIn, parentIn, step, makes}
 use Rattle.rules.specs.Mount.{planned}
 use Rattle.rules.specs.Needed.{walks, wanted, Needed}
+use Rattle.rules.specs.Names.{EachName}
 use Rattle.rules.proofs.Tests.{or-neither}
 
 -- the theorem: what the paths of the table need
@@ -24,12 +25,6 @@ needed = refl
 unfoldable pub EachPiece : (List ℕ → Type 0) → List (List ℕ) → Type 0
 EachPiece P [] = Unit {0}
 EachPiece P (p ∷ ps) = P p × EachPiece P ps
-
--- each name among the components has P
-unfoldable pub EachName : (List ℕ → Type 0) → List Part → Type 0
-EachName P [] = Unit {0}
-EachName P (parent at ∷ ps) = EachName P ps
-EachName P (name at p ∷ ps) = P p × EachName P ps
 
 -- at most 255 bytes
 abbrev pub Short : List ℕ → Type 0

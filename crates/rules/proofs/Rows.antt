@@ -4,7 +4,7 @@ use mathlib.Core.Bool.{Bool, true, false, cond, _||_, true≢false, false≢true
 use mathlib.Core.Logic.{inl, inr, ⊎-elim}
 use mathlib.Core.List.{List, [], _∷_}
 use Prim.Native.Nat.{ℕ}
-use Rattle.rules.specs.Outcome.{Row, _⇒_, firstOf}
+use Rattle.rules.specs.Outcome.{Row, _⟹_, firstOf}
 use Rattle.rules.specs.Exactly.{Test, _⟼_, FirstIs, Decides}
 
 -- each row holds where its test does and those before it do not, and so does the last resort
@@ -72,7 +72,7 @@ stops code k ts e = (λ p. e, λ p. absurd (true≢false p))
 
 -- a row and its test
 pub settle : {A : Type 0} (code : A → ℕ) (b : Bool) (g : A) (rs : List (Row A)) (o : A) (k : ℕ) (ts : List Test)
-    → code g ≡ k → Settles (code (firstOf rs o)) ts → Settles (code (firstOf ((b ⇒ g) ∷ rs) o)) ((b ⟼ k) ∷ ts)
+    → code g ≡ k → Settles (code (firstOf rs o)) ts → Settles (code (firstOf ((b ⟹ g) ∷ rs) o)) ((b ⟼ k) ∷ ts)
 unfolding firstOf
 settle code true g rs o k ts e s = stops (code g) k ts e
 settle code false g rs o k ts e s = passes _ k ts s

@@ -20,8 +20,10 @@ use Rattle.rules.specs.Saved.{goodName}
 use Rattle.rules.specs.Restore.{savedNode, savedNodes}
 use Rattle.rules.specs.Mount.{planned}
 use Rattle.rules.specs.Driven.{Rises, Shape, Rooted, top, under}
-use Rattle.rules.proofs.Parts.{EachName, rest-names}
-use Rattle.rules.proofs.Names.{GoodName, components-good}
+use Rattle.rules.specs.Names.{EachName, GoodName}
+use Rattle.rules.specs.Walk.{Walking, PlannedWalking}
+use Rattle.rules.proofs.Parts.{rest-names}
+use Rattle.rules.proofs.Names.{components-good}
 use Rattle.rules.proofs.Shape.{saved-append, child-unused, shape-more, rises-end}
 
 -- the root, or a live node
@@ -140,10 +142,6 @@ module _ (P : List Node → Type 0) (t : Tree) (more : (ns : List Node) (n : Nod
   unfolding planned
   planned-all path h = makes-all (components 0 path) atRoot (rw (append-nil (t .nodes)) h)
 
-pub record Walking (live : List Node) (next : ℕ) (m : Made) : Type 0 where
-  pub shape : Shape (savedNodes (live ++ m .nodes)) (next + length (m .nodes))
-  pub reached : Rooted (live ++ m .nodes) (m .here)
-
 module _ (live : List Node) (next : ℕ) where
   makes-one : (m : Made) (p : List ℕ) → goodName p ≡ true → Walking live next m → childIn (live ++ m .nodes) (m .here) p ≡ none → Walking live next (orMake next m p none)
   unfolding savedNodes
@@ -174,8 +172,7 @@ module _ (live : List Node) (next : ℕ) where
   makes-walking m (p ∷ ps) g w = makes-walking (step live next m p) ps (rest-names GoodName p ps g) (step-walking m p ps g w)
 
 -- the theorem: of a path that rows 1 and 2 of a mount let pass
-pub planned-walking : (t : Tree) (path : List ℕ) → Shape (savedNodes (t .nodes)) (t .next) → tooLong path ≡ false → wellFormed path ≡ true
-    → Walking (t .nodes) (t .next) (planned t path)
+pub planned-walking : PlannedWalking
 unfolding planned
 planned-walking t path s l u =
     makes-walking (t .nodes) (t .next) atRoot (components 0 path) (components-good path l u)

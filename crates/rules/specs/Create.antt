@@ -3,11 +3,11 @@ use Prim.Native.Nat.{ℕ}
 use mathlib.Core.Bool.{Bool, false, not, _||_}
 use mathlib.Core.List.{[], _∷_}
 use lib.Bits.{bitAnd}
-use lib.Dec.{eqb, ltb}
+use lib.Dec.{eqb, leb, ltb}
 use Rattle.rules.specs.Numbers.{maxNodes, storageFor, DONE, SMALL, BADOPT, BADMAP}
 use Rattle.rules.specs.Ids.{badMapping}
-use Rattle.rules.specs.Instance.{Options, Instance, newIndexes, newTree}
-use Rattle.rules.specs.Outcome.{_⇒_, firstOf}
+use Rattle.rules.specs.Instance.{Options, flagLimit, Instance, newIndexes, newTree}
+use Rattle.rules.specs.Outcome.{_⟹_, firstOf}
 
 -- what creation takes: N, the mask of known option bits, the options (R26, R27)
 pub record Creation : Type 0 where
@@ -29,7 +29,7 @@ unknown known o = outside known (o .inOpts) || outside known (o .outOpts)
 
 -- at creation also a flag above bit 5 (R28, R29)
 unfoldable pub badOptions : ℕ → Options → Bool
-badOptions known o = unknown known o || ltb 63 (o .flags)
+badOptions known o = unknown known o || leb flagLimit (o .flags)
 
 -- the root alone, no mount, the given options; removal unset, `initialized` false; the mapping given is the one in force (R31 to R34)
 unfoldable pub newInstance : Creation → Instance
@@ -46,8 +46,8 @@ newInstance q = record {
 unfoldable pub createRule : ℕ → Creation → ℕ
 createRule bytes q =
     firstOf
-    ((tooSmall bytes (q .capacity) ⇒ SMALL)
-    ∷ (badOptions (q .known) (q .options) ⇒ BADOPT)
-    ∷ (badMapping (q .options .mapping) ⇒ BADMAP)
+    ((tooSmall bytes (q .capacity) ⟹ SMALL)
+    ∷ (badOptions (q .known) (q .options) ⟹ BADOPT)
+    ∷ (badMapping (q .options .mapping) ⟹ BADMAP)
     ∷ [])
     DONE

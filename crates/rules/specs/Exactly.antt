@@ -7,13 +7,13 @@ use mathlib.Core.Logic.{_↔_, _⊎_}
 use mathlib.Core.Option.{Option, none, some}
 use mathlib.Core.Path.{_≡_}
 use lib.ListN.{length}
-use lib.Dec.{eqb, ltb}
+use lib.Dec.{eqb, leb, ltb}
 use Rattle.rules.specs.Numbers.{rootNumber, maxIno, topNumber, maxNodes, storageFor, indexOf, numberOf, NOENT, INVAL, TOOLONG, INODE, FULL, NOROOM, NOTFOUND, BADINDEX, BADMAP, BADSAVE, NOTFRESH, SMALL, BADOPT}
 use Rattle.rules.specs.Bytes.{holds}
 use Rattle.rules.specs.Utf8.{wellFormed}
 use Rattle.rules.specs.Path.{slash, rooted, tooLong, isDot, isDots}
 use Rattle.rules.specs.Tree.{Mount, isNone, isKnown, childIn}
-use Rattle.rules.specs.Instance.{Instance, live, tagOf, heldIn, counterOf}
+use Rattle.rules.specs.Instance.{flagLimit, Instance, live, tagOf, heldIn, counterOf}
 use Rattle.rules.specs.Create.{Creation, outside, createRule}
 use Rattle.rules.specs.Mount.{Request, needed}
 use Rattle.rules.specs.Unmount.{reached, mountUnder}
@@ -133,7 +133,7 @@ createTests bytes q =
     ∷ (ltb bytes (storageFor (q .capacity)) ⟼ SMALL)
     ∷ (outside (q .known) (q .options .inOpts) ⟼ BADOPT)
     ∷ (outside (q .known) (q .options .outOpts) ⟼ BADOPT)
-    ∷ (ltb 63 (q .options .flags) ⟼ BADOPT)
+    ∷ (leb flagLimit (q .options .flags) ⟼ BADOPT)
     ∷ (ltb (2 ^ 32 - 1) (q .options .mapping .internal + q .options .mapping .range) ⟼ BADMAP)
     ∷ (ltb (2 ^ 32 - 1) (q .options .mapping .external + q .options .mapping .range) ⟼ BADMAP)
     ∷ []

@@ -1,7 +1,8 @@
 -- The tables of an instance.
-use Prim.Native.Nat.{ℕ, _+_}
+use Prim.Native.Nat.{ℕ, _+_, _^_}
+use Prim.Native.String.{String}
 use mathlib.Core.Bool.{Bool, true, false, cond}
-use mathlib.Core.List.{List, [], _++_}
+use mathlib.Core.List.{List, [], _∷_, _++_}
 use mathlib.Core.Option.{Option, none, some}
 use lib.ListN.{length, replicate, getD, set}
 use lib.Dec.{eqb}
@@ -21,6 +22,14 @@ pub record Options : Type 0 where
   pub outOpts : ℕ
   pub mapping : Mapping
   pub flags : ℕ
+
+-- the flags of the options: bit 0, bit 1, .. (R27, R122)
+abbrev pub flagNames : List String
+flagNames = "no_readdir" ∷ "seal_size" ∷ "no_open" ∷ "no_opendir" ∷ "no_writeback" ∷ "killpriv_v2" ∷ []
+
+-- below this no other bit is set (R29, R122, R129 f)
+abbrev pub flagLimit : ℕ
+flagLimit = 2 ^ length flagNames
 
 -- a slot: held or not, and its tag (R56)
 pub record Slot : Type 0 where

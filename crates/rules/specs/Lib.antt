@@ -28,6 +28,8 @@ pub mod Leaves
 pub mod Exactly
 pub mod RoundTrip
 pub mod Driven
+pub mod Names
+pub mod Walk
 pub mod Proper
 pub mod Restored
 pub mod Restart

@@ -8,7 +8,7 @@ use Rattle.rules.specs.Numbers.{NOENT}
 use Rattle.rules.specs.Fields.{fields}
 use Rattle.rules.specs.Tree.{Node, isKnown, childrenIn}
 use Rattle.rules.specs.Instance.{Instance}
-use Rattle.rules.specs.Outcome.{Outcome, refused, writes, _⇒_, firstOf}
+use Rattle.rules.specs.Outcome.{Outcome, refused, writes, _⟹_, firstOf}
 
 -- the zeros behind n bytes, up to a multiple of 8 (R64)
 abbrev pub padding : ℕ → ℕ
@@ -47,7 +47,7 @@ pub record ListRequest : Type 0 where
 unfoldable pub listRule : Instance → ListRequest → Outcome
 listRule i q =
     firstOf
-    ((eqb (q .size) 0 ⇒ writes [] i)
-    ∷ (not (isKnown (i .tree .nodes) (q .node)) ⇒ refused NOENT i)
+    ((eqb (q .size) 0 ⟹ writes [] i)
+    ∷ (not (isKnown (i .tree .nodes) (q .node)) ⟹ refused NOENT i)
     ∷ [])
     (writes (laidRecords (min (q .size) (q .buffer)) (direntsFrom (q .offset) (drop (q .offset) (childrenIn (i .tree .nodes) (q .node))))) i)

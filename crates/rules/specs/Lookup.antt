@@ -11,7 +11,7 @@ use Rattle.rules.specs.Path.{slash, isDot, isDots}
 use Rattle.rules.specs.Ids.{mapped, unmapped}
 use Rattle.rules.specs.Tree.{Mount, childIn, isKnown, parentIn}
 use Rattle.rules.specs.Instance.{Instance, tagOf, mountOf}
-use Rattle.rules.specs.Outcome.{toTree, toBackend, entry, ids, Outcome, refused, says, _⇒_, firstOf}
+use Rattle.rules.specs.Outcome.{toTree, toBackend, entry, ids, Outcome, refused, says, _⟹_, firstOf}
 
 -- ---- routing, of a full number
 
@@ -56,11 +56,11 @@ entryAt mounts i (some x) = entryOf i x (mounts x)
 unfoldable pub lookupBy : (ℕ → Option Mount) → Instance → ℕ → List ℕ → Outcome
 lookupBy mounts i x p =
     firstOf
-    ((not (isKnown (i .tree .nodes) x) ⇒ refused NOENT i)
-    ∷ (holds 0 p || not (wellFormed p) ⇒ refused INVAL i)
-    ∷ (isDot p ⇒ entryAt mounts i (some x))
-    ∷ (isDots p ⇒ entryAt mounts i (some (parentIn (i .tree .nodes) x)))
-    ∷ (holds slash p ⇒ refused NOENT i)
+    ((not (isKnown (i .tree .nodes) x) ⟹ refused NOENT i)
+    ∷ (holds 0 p || not (wellFormed p) ⟹ refused INVAL i)
+    ∷ (isDot p ⟹ entryAt mounts i (some x))
+    ∷ (isDots p ⟹ entryAt mounts i (some (parentIn (i .tree .nodes) x)))
+    ∷ (holds slash p ⟹ refused NOENT i)
     ∷ [])
     (entryAt mounts i (childIn (i .tree .nodes) x p))
 

@@ -11,7 +11,7 @@ use Rattle.rules.specs.Path.{components, rooted, tooLong}
 use Rattle.rules.specs.Tree.{Mount, Made, makes, atRoot}
 use Rattle.rules.specs.Round.{Allocation, allocate}
 use Rattle.rules.specs.Instance.{Slot, Tree, Instance, withTree, withCounter, withSlots, withSlot, emptySlot, heldBy, tagOf, heldIn, mountOf, setMount, grown, live}
-use Rattle.rules.specs.Outcome.{Answer, nothing, mounted, restored, Outcome, refused, says, _⇒_, firstOf}
+use Rattle.rules.specs.Outcome.{Answer, nothing, mounted, restored, Outcome, refused, says, _⟹_, firstOf}
 
 -- a mount request: a path, a tag, the root number, the largest number, uid, gid and mode (R3)
 pub record Request : Type 0 where
@@ -94,8 +94,8 @@ unfoldable pub mountAs : Instance → Request → Option ℕ → Outcome
 mountAs i r none = allocated i FULL nothing (stepped i)
 mountAs i r (some k) =
     firstOf
-    ((not (rooted (r .path)) ⇒ allocated i INVAL nothing (stepped i))
-    ∷ (ltb maxIno (r .root) ⇒ allocated i INODE nothing (walkedTo (r .path) (stepped i)))
+    ((not (rooted (r .path)) ⟹ allocated i INVAL nothing (stepped i))
+    ∷ (ltb maxIno (r .root) ⟹ allocated i INODE nothing (walkedTo (r .path) (stepped i)))
     ∷ [])
     (allocated i 0 (mounted k (tagAt (mountThere i (r .path)) i)) (placed k r (ended i (r .path)) (walkedTo (r .path) (stepped i))))
 
@@ -103,10 +103,10 @@ mountAs i r (some k) =
 unfoldable pub mountRule : Instance → Request → Outcome
 mountRule i r =
     firstOf
-    ((tooLong (r .path) ⇒ refused TOOLONG i)
-    ∷ (not (wellFormed (r .path)) ⇒ refused INVAL i)
-    ∷ (ltb maxIno (r .largest) ⇒ refused INODE i)
-    ∷ (rooted (r .path) && noRoom i (r .path) ⇒ refused NOROOM i)
+    ((tooLong (r .path) ⟹ refused TOOLONG i)
+    ∷ (not (wellFormed (r .path)) ⟹ refused INVAL i)
+    ∷ (ltb maxIno (r .largest) ⟹ refused INODE i)
+    ∷ (rooted (r .path) && noRoom i (r .path) ⟹ refused NOROOM i)
     ∷ [])
     (mountAs i r (allocation i .found))
 
@@ -116,8 +116,8 @@ mountRule i r =
 unfoldable pub restoreAs : Instance → ℕ → Request → Outcome
 restoreAs i k r =
     firstOf
-    ((not (rooted (r .path)) ⇒ refused INVAL i)
-    ∷ (ltb maxIno (r .root) ⇒ refused INODE (walkedTo (r .path) i))
+    ((not (rooted (r .path)) ⟹ refused INVAL i)
+    ∷ (ltb maxIno (r .root) ⟹ refused INODE (walkedTo (r .path) i))
     ∷ [])
     (let old = mountThere i (r .path) in
     says (restored (tagAt old i) (tagOf (freed old i) k)) (placed k r (ended i (r .path)) (walkedTo (r .path) i)))
@@ -126,10 +126,10 @@ restoreAs i k r =
 unfoldable pub restoreMountRule : Instance → ℕ → Request → Outcome
 restoreMountRule i k r =
     firstOf
-    ((tooLong (r .path) ⇒ refused TOOLONG i)
-    ∷ (not (wellFormed (r .path)) ⇒ refused INVAL i)
-    ∷ (eqb k 0 ⇒ refused BADINDEX i)
-    ∷ (ltb maxIno (r .largest) ⇒ refused INODE i)
-    ∷ (rooted (r .path) && noRoom i (r .path) ⇒ refused NOROOM i)
+    ((tooLong (r .path) ⟹ refused TOOLONG i)
+    ∷ (not (wellFormed (r .path)) ⟹ refused INVAL i)
+    ∷ (eqb k 0 ⟹ refused BADINDEX i)
+    ∷ (ltb maxIno (r .largest) ⟹ refused INODE i)
+    ∷ (rooted (r .path) && noRoom i (r .path) ⟹ refused NOROOM i)
     ∷ [])
     (restoreAs i k r)

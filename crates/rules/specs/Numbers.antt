@@ -135,7 +135,7 @@ BADSAVE = 10
 abbrev pub NOTFRESH : ℕ
 NOTFRESH = 11
 
--- N outside its limits, storage too short or against the layout rule, or too few bytes for a save (R15, R20, R21, R125)
+-- N outside its limits, storage too short or against the layout rule, too few bytes for a save, or too few lent to a session (R15, R20, R21, R125)
 abbrev pub SMALL : ℕ
 SMALL = 12
 

@@ -68,10 +68,10 @@ pub record Row (A : Type 0) : Type 0 where
   pub applies : Bool
   pub gives : A
 
-infix 20 _⇒_
+infix 20 _⟹_
 -- a row
-abbrev pub _⇒_ : {A : Type 0} → Bool → A → Row A
-b ⇒ o = record { applies = b; gives = o }
+abbrev pub _⟹_ : {A : Type 0} → Bool → A → Row A
+b ⟹ o = record { applies = b; gives = o }
 
 -- the first row that applies; the last resort where none does (R18)
 unfoldable pub firstOf : {A : Type 0} → List (Row A) → A → A

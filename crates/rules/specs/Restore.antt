@@ -10,7 +10,7 @@ use Rattle.rules.specs.Tree.{Node, bare, isNone}
 use Rattle.rules.specs.Instance.{Instance}
 use Rattle.rules.specs.Create.{unknown}
 use Rattle.rules.specs.Saved.{SavedNode, State, encode, accepted, stateOf}
-use Rattle.rules.specs.Outcome.{nothing, Outcome, refused, says, writes, _⇒_, firstOf}
+use Rattle.rules.specs.Outcome.{nothing, Outcome, refused, says, writes, _⟹_, firstOf}
 
 -- a node as it is saved, its mount left out (R127)
 abbrev pub savedNode : Node → SavedNode
@@ -32,7 +32,7 @@ saved i = record { nodes = savedNodes (i .tree .nodes); options = i .options; ne
 
 -- into a lent buffer of that length: SMALL, or the bytes; the instance stays (R125)
 unfoldable pub saveRule : Instance → ℕ → Outcome
-saveRule i buffer = firstOf ((ltb buffer (length (encode (saved i))) ⇒ refused SMALL i) ∷ []) (writes (encode (saved i)) i)
+saveRule i buffer = firstOf ((ltb buffer (length (encode (saved i))) ⟹ refused SMALL i) ∷ []) (writes (encode (saved i)) i)
 
 -- there is no node besides the root
 unfoldable pub noNodes : List Node → Bool
@@ -58,9 +58,9 @@ restoredTo s i = record {
 unfoldable pub restoreRule : Instance → List ℕ → Outcome
 restoreRule i b =
     firstOf
-    ((not (fresh i) ⇒ refused NOTFRESH i)
-    ∷ (not (accepted b) ⇒ refused BADSAVE i)
-    ∷ (unknown (i .fixed .known) (stateOf b .options) ⇒ refused BADOPT i)
-    ∷ (ltb (i .fixed .capacity) (1 + length (stateOf b .nodes)) ⇒ refused NOROOM i)
+    ((not (fresh i) ⟹ refused NOTFRESH i)
+    ∷ (not (accepted b) ⟹ refused BADSAVE i)
+    ∷ (unknown (i .fixed .known) (stateOf b .options) ⟹ refused BADOPT i)
+    ∷ (ltb (i .fixed .capacity) (1 + length (stateOf b .nodes)) ⟹ refused NOROOM i)
     ∷ [])
     (says nothing (restoredTo (stateOf b) i))

@@ -6,7 +6,7 @@ use mathlib.Core.Path.{_≡_}
 use lib.ListN.{length}
 use Rattle.rules.specs.Numbers.{maxName, maxSaved}
 use Rattle.rules.specs.Bytes.{Bytes}
-use Rattle.rules.specs.Instance.{Options}
+use Rattle.rules.specs.Instance.{Options, flagLimit}
 use Rattle.rules.specs.Create.{Creation, newInstance}
 use Rattle.rules.specs.Saved.{SavedNode, State, nodesBytes, encode, stateOf, valid, accepted}
 use Rattle.rules.specs.Restore.{saved}
@@ -31,7 +31,7 @@ pub record OptionsFit (o : Options) : Type 0 where
   pub internal : o .mapping .internal < 2 ^ 32
   pub external : o .mapping .external < 2 ^ 32
   pub range : o .mapping .range < 2 ^ 32
-  pub flags : o .flags < 64
+  pub flags : o .flags < flagLimit
 
 -- the fields of the whole (R120, R121, R123)
 pub record Fits (s : State) : Type 0 where

@@ -9,7 +9,7 @@ use Rattle.rules.specs.Bytes.{same, holds}
 use Rattle.rules.specs.Utf8.{wellFormed}
 use Rattle.rules.specs.Path.{slash, isDot, isDots}
 use Rattle.rules.specs.Fields.{read, get, fields}
-use Rattle.rules.specs.Instance.{Options}
+use Rattle.rules.specs.Instance.{Options, flagLimit}
 
 -- a node, as it is saved (R120)
 pub record SavedNode : Type 0 where
@@ -137,7 +137,7 @@ frame b =
     ∷ eqb (get 1 b (trailerStart b + 17)) 1
     ∷ eqb (get 6 b (trailerStart b + 18)) 0
     ∷ eqb (get 3 b (optionsStart b + 29)) 0
-    ∷ ltb (get 1 b (optionsStart b + 28)) 64
+    ∷ ltb (get 1 b (optionsStart b + 28)) flagLimit
     ∷ []
 
 -- and the records fill the bytes exactly (R129 c)

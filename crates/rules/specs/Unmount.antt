@@ -9,7 +9,7 @@ use Rattle.rules.specs.Utf8.{wellFormed}
 use Rattle.rules.specs.Path.{components, rooted}
 use Rattle.rules.specs.Tree.{Mount, walk, parentIn}
 use Rattle.rules.specs.Instance.{Tree, Instance, withTree, withSlot, emptySlot, tagOf, mountOf, setMount, cut}
-use Rattle.rules.specs.Outcome.{walked, unmounted, rootfs, Outcome, refused, says, _⇒_, firstOf}
+use Rattle.rules.specs.Outcome.{walked, unmounted, rootfs, Outcome, refused, says, _⟹_, firstOf}
 
 -- the whole path is checked first, then its leading slash; its length and byte 0 are free (R36, R41, R42, R43)
 unfoldable pub badPath : List ℕ → Bool
@@ -26,7 +26,7 @@ mountUnder i (some x) = mountOf (i .tree) x
 
 -- INVAL, or the node, or none (R46, R47)
 unfoldable pub walkRule : Instance → List ℕ → Outcome
-walkRule i path = firstOf ((badPath path ⇒ refused INVAL i) ∷ []) (says (walked (reached i path)) i)
+walkRule i path = firstOf ((badPath path ⟹ refused INVAL i) ∷ []) (says (walked (reached i path)) i)
 
 -- ---- unmount
 
@@ -50,7 +50,7 @@ unmountAt i (some x) (some m) = unmounts i x m
 -- a bad path is INVAL; where no node or no mount stands it is NOTFOUND; else done (R96)
 unfoldable pub unmountRule : Instance → List ℕ → Outcome
 unmountRule i path =
-    firstOf ((badPath path ⇒ refused INVAL i) ∷ []) (unmountAt i (reached i path) (mountUnder i (reached i path)))
+    firstOf ((badPath path ⟹ refused INVAL i) ∷ []) (unmountAt i (reached i path) (mountUnder i (reached i path)))
 
 -- ---- root query
 
@@ -66,4 +66,4 @@ rootAt i (some m) = rootHeld i (m .index) (tagOf i (m .index))
 
 -- INVAL, none, NOTFOUND, or tag and index (R103)
 unfoldable pub rootRule : Instance → List ℕ → Outcome
-rootRule i path = firstOf ((badPath path ⇒ refused INVAL i) ∷ []) (rootAt i (mountUnder i (reached i path)))
+rootRule i path = firstOf ((badPath path ⟹ refused INVAL i) ∷ []) (rootAt i (mountUnder i (reached i path)))

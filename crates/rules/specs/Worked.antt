@@ -26,15 +26,15 @@ holding slots c = withIndexes (record { slots = slots; counter = c }) (plain 64)
 abbrev pub allHeld : List Slot
 allHeld = replicate slotCount (heldBy 7)
 
-infix 20 _↝_
+infix 20 _⟿_
 -- a line, and its answer
 pub record Said : Type 0 where
   pub line : String
   pub answer : String
 
 -- the line is answered so
-abbrev pub _↝_ : String → String → Said
-l ↝ a = record { line = l; answer = a }
+abbrev pub _⟿_ : String → String → Said
+l ⟿ a = record { line = l; answer = a }
 
 -- an instance, what is said to it and answered, and the counter it ends with
 pub record Case : Type 0 where
@@ -48,26 +48,26 @@ cases =
     record {
       from = plain 64;
       said =
-          ("walk /a" ↝ "0 0")
-          ∷ ("mount /a/b 7 1 1000" ↝ "0 1 1")
-          ∷ ("mount a 8 1 1000" ↝ "2 0 1")
-          ∷ ("mount /a/b 9 1 1000" ↝ "0 3 1")
-          ∷ ("umount /a/b" ↝ "0 3 2")
-          ∷ ("umount /a/b" ↝ "7 0 0")
-          ∷ ("mount /c/../a 7 1 1000" ↝ "0 4 1")
-          ∷ ("look 1 a" ↝ "0 288230376151711745")
+          ("walk /a" ⟿ "0 0")
+          ∷ ("mount /a/b 7 1 1000" ⟿ "0 1 1")
+          ∷ ("mount a 8 1 1000" ⟿ "2 0 1")
+          ∷ ("mount /a/b 9 1 1000" ⟿ "0 3 1")
+          ∷ ("umount /a/b" ⟿ "0 3 2")
+          ∷ ("umount /a/b" ⟿ "7 0 0")
+          ∷ ("mount /c/../a 7 1 1000" ⟿ "0 4 1")
+          ∷ ("look 1 a" ⟿ "0 288230376151711745")
           ∷ [];
       counter = 5;
     }
-    ∷ record { from = holding (set allHeld 1 emptySlot) 255; said = ("mount / 7 1 1000" ↝ "0 1 3") ∷ []; counter = 2 }
-    ∷ record { from = holding (set allHeld 255 emptySlot) 0; said = ("mount / 7 1 1000" ↝ "0 255 256") ∷ []; counter = 0 }
-    ∷ record { from = holding allHeld 255; said = ("mount / 7 1 1000" ↝ "5 0 257") ∷ []; counter = 0 }
+    ∷ record { from = holding (set allHeld 1 emptySlot) 255; said = ("mount / 7 1 1000" ⟿ "0 1 3") ∷ []; counter = 2 }
+    ∷ record { from = holding (set allHeld 255 emptySlot) 0; said = ("mount / 7 1 1000" ⟿ "0 255 256") ∷ []; counter = 0 }
+    ∷ record { from = holding allHeld 255; said = ("mount / 7 1 1000" ⟿ "5 0 257") ∷ []; counter = 0 }
     ∷ record {
       from = plain 64;
-      said = ("mount / 7 72057594037927935 1000" ↝ "0 1 1") ∷ ("mount / 7 72057594037927936 1000" ↝ "4 0 1") ∷ [];
+      said = ("mount / 7 72057594037927935 1000" ⟿ "0 1 1") ∷ ("mount / 7 72057594037927936 1000" ⟿ "4 0 1") ∷ [];
       counter = 3;
     }
-    ∷ record { from = plain 1; said = ("mount /a 7 1 1000" ↝ "6 0 0") ∷ ("mount / 7 1 1000" ↝ "0 1 1") ∷ []; counter = 2 }
+    ∷ record { from = plain 1; said = ("mount /a 7 1 1000" ⟿ "6 0 0") ∷ ("mount / 7 1 1000" ⟿ "0 1 1") ∷ []; counter = 2 }
     ∷ []
 
 -- ---- what a session writes for the lines, and what the table says

@@ -2,6 +2,7 @@
 pub mod Carry
 pub mod Bytes
 pub mod Going
+pub mod Codes
 pub mod Lines
 pub mod Begun
 pub mod Runs

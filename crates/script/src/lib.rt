@@ -4,7 +4,7 @@ ghost use lib.ListN.{length};
 ghost use Rattle.script.specs.Step.{Ended, Took};
 ghost use Rattle.script.specs.Feed.{Feeds, Finishes};
 
-// What a feed answers: how many bytes of the piece it used, how many it wrote, and how many of a begun line it keeps.
+// What a feed answers: how many bytes of the piece it used, how many it wrote, and how many of a begun line it keeps; refused, it is SMALL (R15).
 pub enum Fed {
     Went {
         used: usize,
@@ -14,7 +14,7 @@ pub enum Fed {
     Refused,
 }
 
-// What the end of the input answers: how many bytes it wrote.
+// What the end of the input answers: how many bytes it wrote; refused, it is SMALL (R15).
 pub enum Finished {
     Done(usize),
     Refused,

@@ -5,6 +5,7 @@ pub mod Header
 pub mod Refusals
 pub mod Slots
 pub mod Creation
+pub mod Refused
 pub mod Answers
 pub mod Bytes
 pub mod Rows

@@ -3,3 +3,4 @@ pub mod Header
 pub mod Creation
 pub mod Limits
 pub mod Answers
+pub mod Refused

@@ -8,7 +8,7 @@ use Rattle.rules.specs.Numbers.{TOOLONG, INVAL}
 use Rattle.rules.specs.Utf8.{wellFormed}
 use Rattle.rules.specs.Path.{rooted, tooLong}
 use Rattle.rules.specs.Instance.{Instance}
-use Rattle.rules.specs.Outcome.{Outcome, Row, refused, firstOf, _⇒_}
+use Rattle.rules.specs.Outcome.{Outcome, Row, refused, firstOf, _⟹_}
 use Rattle.tables.specs.View.{view}
 use Rattle.tables.specs.Rule.{laid as laidIn}
 use Rattle.tables.specs.Call.{Told, refuses, toldSmall, Does}
@@ -20,7 +20,7 @@ pub record Begins (mem path : List ℕ) (f : Instance → Outcome) (exact : List
   pub last : Outcome
   pub stop : Bool
   pub other : List ℕ
-  pub rule : f (view mem) ≡ firstOf ((tooLong path ⇒ refused TOOLONG (view mem)) ∷ (not (wellFormed path) ⇒ refused INVAL (view mem)) ∷ rest) last
+  pub rule : f (view mem) ≡ firstOf ((tooLong path ⟹ refused TOOLONG (view mem)) ∷ (not (wellFormed path) ⟹ refused INVAL (view mem)) ∷ rest) last
   pub bytes : exact ≡ cond (laidIn mem) (cond stop mem other) mem
   pub stops-long : tooLong path ≡ true → stop ≡ true
   pub stops-bad : tooLong path ≡ false → wellFormed path ≡ false → stop ≡ true

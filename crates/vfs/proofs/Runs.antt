@@ -25,7 +25,7 @@ use Rattle.tables.specs.Rule.{laid}
 use Rattle.tables.specs.Call.{Told, toldBy, tells, answeredBy, Does}
 use Rattle.tables.proofs.Indexes.{slots-count}
 use Rattle.storage.proofs.Laid.{told-by}
-use Rattle.vfs.specs.Runs.{Step, Allowed, Run, callsOf, counts, EveryLapOfBytes, EveryMountOfBytes, lastOf, EveryKeptOfBytes, EveryStandingOfBytes, EveryGoneOfBytes, StaysDriven}
+use Rattle.vfs.specs.Runs.{Step, Allowed, Run, callsOf, counts, EveryLapOfBytes, EveryMountOfBytes, lastOf, EveryKeptOfBytes, EveryStandingOfBytes, EveryGoneOfBytes, StaysDriven, EveryAllowed}
 use Rattle.vfs.proofs.MountWays.{counter-in}
 
 -- the counts that are told are those of the rules
@@ -175,3 +175,13 @@ module _ (mem : List ℕ) (t : Told) (after exact : List ℕ) where
 -- a call that only reads: its rule leaves the instance
 pub read-allowed : (mem : List ℕ) (t : Told) (c : Call) → ((i : Instance) → rule i c .after ≡ i) → t ≡ answeredBy mem (λ (i : Instance). rule i c) → Allowed (record { before = mem; call = c; told = t; after = mem })
 read-allowed mem t c same e = record { answer = e; stands = λ l. sym (same (view mem)); keeps = λ l. l }
+
+pub every-allowed : EveryAllowed
+every-allowed = record {
+  writes = allowed;
+  mounts = mount-allowed;
+  restores-mount = restore-mount-allowed;
+  unmounts = umount-allowed;
+  restores = restore-allowed;
+  reads = read-allowed;
+}

@@ -8,15 +8,18 @@ use mathlib.Core.Logic.{_⊎_}
 use Rattle.rules.specs.Bytes.{Bytes}
 use Rattle.rules.specs.Numbers.{indexOf, numberOf, NOENT}
 use Rattle.rules.specs.Outcome.{mounted, toBackend}
-use Rattle.rules.specs.Mount.{Request}
-use Rattle.rules.specs.Calls.{Call, mount, route, rule}
+use Rattle.rules.specs.Instance.{Instance}
+use Rattle.rules.specs.Mount.{Request, mountRule, restoreMountRule}
+use Rattle.rules.specs.Unmount.{unmountRule}
+use Rattle.rules.specs.Restore.{restoreRule}
+use Rattle.rules.specs.Calls.{Call, mount, restore-mount, umount, route, restore, rule}
 use Rattle.rules.specs.Driven.{Typed, Driven}
 use Rattle.rules.specs.Laps.{lastFound, Has, LapsBy}
 use Rattle.rules.specs.Trace.{Unrestored, stepsOf}
 use Rattle.rules.specs.Kept.{namedIn, Ungiven, oldMount, indexIn, Standing}
 use Rattle.tables.specs.View.{view}
 use Rattle.tables.specs.Rule.{laid}
-use Rattle.tables.specs.Call.{Told, tells, refuses, answeredBy}
+use Rattle.tables.specs.Call.{Told, tells, refuses, answeredBy, Does}
 
 -- a call on lent bytes: the bytes before, the call, what its answer tells, and the bytes after
 pub record Step : Type 0 where
@@ -90,3 +93,18 @@ EveryGoneOfBytes = (s : Step) → Allowed s → laid (s .before) ≡ true → s 
 -- a step that a contract allows, from bytes that keep the layout rule and are driven, leaves driven bytes
 abbrev pub StaysDriven : Type 0
 StaysDriven = (s : Step) → Allowed s → Typed (s .call) → laid (s .before) ≡ true → Driven (view (s .before)) → Driven (view (s .after))
+
+-- ---- which steps the contracts of the calls allow
+
+-- a step of these bytes, this call, and what it tells and leaves
+abbrev pub stepOn : List ℕ → Call → Told → List ℕ → Step
+stepOn mem c t after = record { before = mem; call = c; told = t; after = after }
+
+-- of a call that writes, with whatever bytes its contract names; and of one that only reads, whose rule leaves the instance
+pub record EveryAllowed : Type 0 where
+  pub writes : (mem : List ℕ) (t : Told) (after exact : List ℕ) (c : Call) → Does mem (λ (i : Instance). rule i c) t after exact → Allowed (stepOn mem c t after)
+  pub mounts : (mem : List ℕ) (t : Told) (after exact : List ℕ) (r : Request) → Does mem (λ (i : Instance). mountRule i r) t after exact → Allowed (stepOn mem (mount r) t after)
+  pub restores-mount : (mem : List ℕ) (t : Told) (after exact : List ℕ) (k : ℕ) (r : Request) → Does mem (λ (i : Instance). restoreMountRule i k r) t after exact → Allowed (stepOn mem (restore-mount k r) t after)
+  pub unmounts : (mem : List ℕ) (t : Told) (after exact path : List ℕ) → Does mem (λ (i : Instance). unmountRule i path) t after exact → Allowed (stepOn mem (umount path) t after)
+  pub restores : (mem : List ℕ) (t : Told) (after exact b : List ℕ) → Does mem (λ (i : Instance). restoreRule i b) t after exact → Allowed (stepOn mem (restore b) t after)
+  pub reads : (mem : List ℕ) (t : Told) (c : Call) → ((i : Instance) → rule i c .after ≡ i) → t ≡ answeredBy mem (λ (i : Instance). rule i c) → Allowed (stepOn mem c t mem)

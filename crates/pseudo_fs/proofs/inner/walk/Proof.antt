@@ -8,8 +8,8 @@ use native.Mathlib.Omega.{arith}
 use lib.ListN.{length}
 use denote.Ref.{now}
 use Rattle.rules.specs.Path.{name, parent}
-use Rattle.path.specs.Steps.{part, between}
-use Rattle.path.proofs.Steps.{step-of, Goes}
+use Rattle.path.specs.Steps.{part, between, Goes}
+use Rattle.path.proofs.Steps.{step-of}
 use Rattle.le.specs.Mem.{Bytes}
 use Rattle.scan.specs.First.{cellIs}
 use Rattle.scan.specs.Key.{maskOf, wordOf}

@@ -1,0 +1,3 @@
+-- What is proved of every contract of a call that takes storage.
+pub mod OneResult
+pub mod Own
