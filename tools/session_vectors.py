@@ -18,6 +18,8 @@ sys.dont_write_bytecode = True
 from model import rules  # noqa: E402
 
 NODES = 64
+PIECE = 65536  # the program reads so many bytes at a time, and has as many for answers
+ACROSS = [(b"walk /a", b"/b"), (b"walk /a/b", b"/.."), (b"walk /../a", b"/b")]  # lines with a cut: the front has a form too, the rest has none
 IDS_AND_MODE = 0, 0, rules.DIR_MODE
 EIGHT = b"""walk /a
 mount /a/b 7 1 1000
@@ -100,18 +102,34 @@ def kept(index, number):
 
 
 class Lines:
-    """The lines so far, and the session that they make."""
+    """The lines so far, how many bytes they have, and the session that they make."""
 
     def __init__(self):
         self.lines = []
+        self.at = 0
         self.session = Session()
 
     def say(self, *lines):
-        """Lines more; the answer of the last."""
+        """Lines more; the answer of the last. A line that would come near the end of a piece is put behind it."""
         for l in lines:
-            self.lines.append(l if isinstance(l, bytes) else l.encode())
-            answer = self.session.line(self.lines[-1])
+            l = l if isinstance(l, bytes) else l.encode()
+            if len(l) + 1 > PIECE - self.at % PIECE - 64:
+                self.cross()
+            answer = self.add(l)
         return answer
+
+    def add(self, line):
+        self.lines.append(line)
+        self.at += len(line) + 1
+        return self.session.line(line)
+
+    def cross(self):
+        """A short line across the end of the piece, behind one of slashes that fills the piece up to it."""
+        front, rest = ACROSS[self.at // PIECE % len(ACROSS)]
+        self.add(b"walk /" + b"/" * (PIECE - self.at % PIECE - len(front) - 7))
+        told = [self.session.line(l) for l in (front, rest, front + rest)]
+        assert self.at % PIECE == PIECE - len(front) and len(set(told)) == 3
+        self.add(front + rest)
 
 
 def forms(w):
@@ -167,9 +185,10 @@ def full_tree(w):
 def long_lines(w):
     # the limit of a line: 8,192 bytes are answered, 8,193 are `?`, and so is far more
     w.say("walk /" + "w" * 8186, "walk /" + "w" * 8187, "mount / " + "0" * 8178 + "7 1 9", "mount / " + "0" * 8179 + "7 1 9", "walk /" + "/" * 8186, "x" * 8192, "x" * 8193)
-    # one more, up to where the program's next piece of 65,536 bytes begins; that piece has more answers than an output of as many bytes holds
-    before = len(b"\n".join(w.lines)) + 1
-    w.say("walk /" + "/" * (65536 - before % 65536 + 65536 - 7), *[""] * 33000)
+    # far over the limit; then a piece that begins inside a short line, and has more answers than an output of as many bytes holds
+    w.say("walk /" + "/" * 40000)
+    w.cross()
+    w.say(*[""] * 33000)
 
 
 def drawn(w):

@@ -7,5 +7,5 @@ pub mod Lines
 pub mod Begun
 pub mod Runs
 pub mod Onward
-pub mod Hosts
+pub mod Loops
 pub mod Fresh

@@ -9,9 +9,9 @@ use lib.Dec.{ltb}
 use borrow.Author.Tests.{le-ltb}
 use Rattle.script.specs.Step.{Answers, byBytes}
 use Rattle.script.specs.Feed.{Going, start, step, fed, accepts, goes}
-use Rattle.script.specs.Runs.{usedIn, EveryFeed}
+use Rattle.script.specs.Runs.{usedIn, wroteIn, EveryFeed}
 use Rattle.script.proofs.Carry.{accepts-byte}
-use Rattle.script.proofs.Runs.{used-by, kept-by}
+use Rattle.script.proofs.Runs.{used-by, wrote-by, kept-by}
 
 module _ (S : Type 0) (a : Answers S) (room : ℕ) where
   step-used : (b : ℕ) (g : Going S) → step S a b g .used ≡ g .used + 1
@@ -79,6 +79,7 @@ pub onward : EveryFeed
 onward mem carry kept piece out r after carried left f =
     let u : usedIn r ≡ goes (List ℕ) byBytes mem carry kept piece (length out) .used = used-by mem carry kept piece out r after carried left f _ refl in
     record {
+      fits = omega (arith, wrote-by mem carry kept piece out r after carried left f _ refl, f .within);
       most = omega (arith, most-by mem carry kept piece (length out) _ refl);
       least = λ e h g. omega (arith, least-by mem carry kept piece (length out) e h g);
       again = λ e. rw (f .begun, kept-by mem carry kept piece out r after carried left f _ refl) (again-by mem carry kept piece (length out) e);

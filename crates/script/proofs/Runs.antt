@@ -41,7 +41,7 @@ module _ (mem carry : List ℕ) (kept : ℕ) (piece out : List ℕ) (r : Fed) (a
   used-by true e = ap usedIn (f .answer) ∙ rw e
   used-by false e = ap usedIn (f .answer) ∙ rw e
 
-  wrote-by : (t : Bool) → accepts carry kept ≡ t → wroteIn r ≡ length (G .text)
+  pub wrote-by : (t : Bool) → accepts carry kept ≡ t → wroteIn r ≡ length (G .text)
   unfolding wroteIn goes went start
   wrote-by true e = ap wroteIn (f .answer) ∙ rw e
   wrote-by false e = ap wroteIn (f .answer) ∙ rw e

@@ -7,7 +7,7 @@ use Rattle.rules.specs.Create.{Creation}
 use Rattle.rules.specs.Whole.{session}
 use Rattle.rules.specs.Worked.{plain}
 use Rattle.storage.specs.Creation.{creationOf, Creates}
-use Rattle.script.specs.Runs.{Feed, Finish, Run, written}
+use Rattle.script.specs.Runs.{Feed, Finish, Run, written, Read, Loop, inputOf, feedsOf}
 
 -- 64 nodes, no option bits, no mapping (R137)
 abbrev pub sessionCreation : Creation
@@ -17,3 +17,8 @@ sessionCreation = creationOf 64 0 (record { «in_opts» = 0; «out_opts» = 0; �
 abbrev pub EverySession : Type 0
 EverySession = (input before mem carry : List ℕ) (code : ℕ) (ss : List Feed) (f : Finish) → length before ≡ 40960 → Creates before sessionCreation code mem → Run input mem carry 0 ss f
     → written ss f ≡ session (plain 64) input .text
+
+-- the same of the program's loop, with its output of 65,536 bytes, on any reads
+abbrev pub EveryProgram : Type 0
+EveryProgram = (before mem carry : List ℕ) (code : ℕ) (rs : List Read) (f : Finish) → length before ≡ 40960 → Creates before sessionCreation code mem → Loop 65536 mem carry 0 rs f
+    → written (feedsOf rs) f ≡ session (plain 64) (inputOf rs) .text

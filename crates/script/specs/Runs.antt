@@ -1,17 +1,16 @@
--- A whole input in any pieces: the calls that read it, each as its contract allows it, what is claimed of all that they write, and that a host whose calls answer by their contracts reads every input to its end.
-use Prim.Native.Nat.{ℕ, _^_, _≤_, _<_}
+-- A whole input in any pieces: the calls that read it, each as its contract allows it, and what is claimed of all that they write; and the loop of the program, which feeds every read until
+-- nothing is left of it.
+use Prim.Native.Nat.{ℕ, _≤_}
 use mathlib.Core.Bool.{true}
 use mathlib.Core.List.{List, [], _∷_, _++_}
 use mathlib.Core.Path.{_≡_}
 use lib.ListN.{length, take, drop}
-use Rattle.rules.specs.Bytes.{Bytes}
 use Rattle.rules.specs.Whole.{session}
 use Rattle.tables.specs.View.{view}
 use Rattle.tables.specs.Rule.{laid}
 use Rattle.script.specs.Feed.{accepts, Feeds, Finishes}
 use Rattle.script.specs.declared.Fed.{Fed}
 use Rattle.script.specs.declared.Fed.the-variants.{Went, Refused}
-use Rattle.script.specs.declared.Finished.{Finished}
 use Rattle.script.specs.declared.Finished.the-variants.{Done}
 
 -- ---- the numbers of an answer: a refusal uses nothing, writes nothing, and keeps what was kept
@@ -72,9 +71,11 @@ pub record WholeOf (input mem : List ℕ) (ss : List Feed) (f : Finish) : Type 0
 abbrev pub EveryCutting : Type 0
 EveryCutting = (input mem carry : List ℕ) (ss : List Feed) (f : Finish) → laid mem ≡ true → Run input mem carry 0 ss f → WholeOf input mem ss f
 
--- a feed uses no more than the piece has; an accepted one, of a byte or more and with 64 bytes of output or more, uses at least one, and leaves what the next one accepts
+-- a feed uses no more than the piece has, and writes no more than the output has; an accepted one, of a byte or more and with 64 bytes of output or more, uses at least one, and leaves what
+-- the next one accepts
 pub record Onward (carry : List ℕ) (kept : ℕ) (piece out : List ℕ) (r : Fed) (carried : List ℕ) : Type 0 where
   pub most : usedIn r ≤ length piece
+  pub fits : wroteIn r ≤ length out
   pub least : accepts carry kept ≡ true → 1 ≤ length piece → 64 ≤ length out → 1 ≤ usedIn r
   pub again : accepts carry kept ≡ true → accepts carried (keptIn kept r) ≡ true
 
@@ -83,53 +84,42 @@ abbrev pub EveryFeed : Type 0
 EveryFeed = (mem carry : List ℕ) (kept : ℕ) (piece out : List ℕ) (r : Fed) (after carried left : List ℕ)
     → Feeds mem carry kept piece out r after carried left → Onward carry kept piece out r carried
 
--- ---- the run of a host
+-- ---- the loop of the program
 
--- what can be lent: bytes, below 2^63 of them
-pub record Lent (s : List ℕ) : Type 0 where
-  pub bytes : Bytes s
-  pub size : length s < 2 ^ 63
+-- feeds of one piece from some bytes and a begun line on, each with as much output: each takes what the ones before it have left of the piece. They leave a rest of it, bytes, a carry and
+-- how many bytes are kept
+unfoldable pub Through : ℕ → List ℕ → List ℕ → List ℕ → ℕ → List Feed → List ℕ → List ℕ → List ℕ → ℕ → Type 0
+Through room piece mem carry kept [] rest after carried last = (rest ≡ piece) × ((after ≡ mem) × ((carried ≡ carry) × (last ≡ kept)))
+Through room piece mem carry kept (s ∷ ss) rest after carried last =
+    (s .piece ≡ piece)
+    × ((length (s .out) ≡ room)
+    × (Feeds mem carry kept (s .piece) (s .out) (s .answer) (s .after) (s .carried) (s .left)
+    × Through room (drop (usedIn (s .answer)) (s .piece)) (s .after) (s .carried) (keptIn kept (s .answer)) ss rest after carried last))
 
--- a feed that is made: an answer and what is left, as the contract allows them
-pub record FeedOf (mem carry : List ℕ) (kept : ℕ) (piece out : List ℕ) : Type 0 where
-  pub answer : Fed
+-- a read: its bytes, the feeds of them, and what these leave
+pub record Read : Type 0 where
+  pub piece : List ℕ
+  pub feeds : List Feed
   pub after : List ℕ
   pub carried : List ℕ
-  pub left : List ℕ
-  pub feeds : Feeds mem carry kept piece out answer after carried left
-  pub mem-lent : Lent after
-  pub carry-lent : Lent carried
+  pub kept : ℕ
 
--- a finish that is made
-pub record FinishOf (mem carry : List ℕ) (kept : ℕ) (out : List ℕ) : Type 0 where
-  pub answer : Finished
-  pub after : List ℕ
-  pub left : List ℕ
-  pub finishes : Finishes mem carry kept out answer after left
+-- every read is fed until nothing is left of it; then the input is at its end
+unfoldable pub Loop : ℕ → List ℕ → List ℕ → ℕ → List Read → Finish → Type 0
+Loop room mem carry kept [] f = Finishes mem carry kept (f .out) (Done (f .wrote)) (f .after) (f .left)
+Loop room mem carry kept (r ∷ rs) f =
+    Through room (r .piece) mem carry kept (r .feeds) [] (r .after) (r .carried) (r .kept) × Loop room (r .after) (r .carried) (r .kept) rs f
 
--- a host: calls that are made on what is lent and accepted, how many bytes it reads of the input that is left, at least one, and what it lends then for output, at least 64 bytes
-pub record Host : Type 0 where
-  pub feed : (mem carry : List ℕ) (kept : ℕ) (piece out : List ℕ) → accepts carry kept ≡ true → Lent mem → Lent carry → Lent piece → Lent out → FeedOf mem carry kept piece out
-  pub finish : (mem carry : List ℕ) (kept : ℕ) (out : List ℕ) → accepts carry kept ≡ true → Lent mem → Lent carry → Lent out → FinishOf mem carry kept out
-  pub reads : List ℕ → ℕ
-  pub least : (input : List ℕ) → 1 ≤ reads input
-  pub most : (input : List ℕ) → reads input < 2 ^ 63
-  pub lends : List ℕ → List ℕ
-  pub lent : (input : List ℕ) → Lent (lends input)
-  pub room : (input : List ℕ) → 64 ≤ length (lends input)
+-- all that is read
+unfoldable pub inputOf : List Read → List ℕ
+inputOf [] = []
+inputOf (r ∷ rs) = r .piece ++ inputOf rs
 
--- the pieces are those that the host reads
-unfoldable pub CutBy : Host → List ℕ → List Feed → Type 0
-CutBy h input [] = Unit {0}
-CutBy h input (s ∷ ss) = (s .piece ≡ take (h .reads input) input) × CutBy h (drop (usedIn (s .answer)) (s .piece) ++ s .more) ss
+-- all feeds
+unfoldable pub feedsOf : List Read → List Feed
+feedsOf [] = []
+feedsOf (r ∷ rs) = r .feeds ++ feedsOf rs
 
--- a run in these pieces
-pub record RunBy (h : Host) (input mem carry : List ℕ) (kept : ℕ) : Type 0 where
-  pub feeds : List Feed
-  pub finish : Finish
-  pub cut : CutBy h input feeds
-  pub run : Run input mem carry kept feeds finish
-
--- every host, from a carry that is accepted on, reads every input to its end
-abbrev pub EveryHost : Type 0
-EveryHost = (h : Host) (input mem carry : List ℕ) (kept : ℕ) → Bytes input → Lent mem → Lent carry → accepts carry kept ≡ true → RunBy h input mem carry kept
+-- of all reads, whatever they bring: what the feeds and the finish write is what the rules write for all that was read, and the bytes after stand for what the rules leave (R137, R150, R151)
+abbrev pub EveryLoop : Type 0
+EveryLoop = (room : ℕ) (mem carry : List ℕ) (rs : List Read) (f : Finish) → laid mem ≡ true → Loop room mem carry 0 rs f → WholeOf (inputOf rs) mem (feedsOf rs) f

@@ -1,10 +1,11 @@
-// A session from standard input to standard output (R137): it only reads, calls and writes, 64 KiB at a time.
+// A session from standard input to standard output (R137): it only reads, calls and writes, 64 KiB at a time. Where a read or a write fails it says so and ends (D130).
 use libc::STDIN_FILENO;
 use libc::STDOUT_FILENO;
 use script::Fed;
 use script::Finished;
 ghost use Prim.Native.Nat.{_≤_};
 ghost use lib.ListN.{length};
+ghost use Rattle.session.specs.Feeding.{FedAll, Ends, Turned};
 
 // The number of nodes of the instance (R137).
 const NODES: usize = 64;
@@ -12,88 +13,189 @@ const NODES: usize = 64;
 // The bytes that they need (R20).
 const STORAGE: usize = 512 * NODES + 8192;
 
-// Writes the first `wrote` bytes of the output; the contracts of a feed and of a finish say that there are so many.
-fn write(out: &[u8], wrote: usize) {
-    if wrote <= out.len() {
-        io::write_all(STDOUT_FILENO, &out[0..wrote]);
-    }
+// Where `./run` takes a copy of what is read (D131).
+const COPY_FILENO: i32 = 3;
+
+// What a write took, and whether it failed.
+struct Took {
+    count: usize,
+    failed: bool,
 }
 
-// One feed of the piece from the place `at` on, its answers written; the answer is as the feed gives it.
-fn feed_from(
-    storage: &mut [u8],
-    carry: &mut [u8],
+// Where a read has led: how many bytes of a begun line are kept, and whether the session goes on.
+struct Stand {
     kept: usize,
-    piece: &[u8],
-    at: usize,
-    out: &mut [u8],
-) -> Fed
-    requires { ⌜ at ≤ length (now piece) ⌝ }
-{
-    let fed = script::feed(storage, carry, kept, &piece[at..piece.len()], out);
-    match fed {
-        Fed::Went { wrote, .. } => write(out, wrote),
-        Fed::Refused => {}
-    }
-    fed
+    on: bool,
 }
 
-// Feeds a whole piece, and answers how many bytes of a begun line are kept. That an accepted feed uses a byte, and none more than there are, and leaves what
-// the next one accepts, is a theorem of `script`; the loop asks it again, so that it ends.
+// Whether the call of C just before failed since a signal came; it moved nothing then, and is made again.
+fn interrupted() -> bool {
+    os::errno() == libc::EINTR
+}
+
+// One write: what it took of the bytes, none where it was interrupted, and whether it failed.
+fn write_some(fd: i32, bytes: &[u8]) -> Took
+    ensures { λ r. ⌜ r .count ≤ length (now (bytes .entry)) ⌝ }
+{
+    let put = libc::write(fd, bytes);
+    if 0 < put {
+        return Took {
+            count: io::count(put, bytes),
+            failed: false,
+        };
+    }
+    if put == 0 {
+        return Took {
+            count: 0,
+            failed: true,
+        };
+    }
+    Took {
+        count: 0,
+        failed: !interrupted(),
+    }
+}
+
+// Writes all of the bytes, and answers whether that went well. A proved loop ends, and nothing says that a write gets on: the turns are counted down from a number that no run uses up.
+fn write_all(fd: i32, bytes: &[u8]) -> bool {
+    let mut turns = u64::MAX;
+    let mut done = 0;
+    while 0 < turns {
+        if bytes.len() <= done {
+            return true;
+        }
+        let took = write_some(fd, &bytes[done..bytes.len()]);
+        if took.failed {
+            return false;
+        }
+        done += took.count;
+        turns -= 1;
+    }
+    false
+}
+
+// Writes the first bytes of the output; where that fails, says so and answers false.
+fn put(out: &[u8], wrote: usize) -> bool
+    requires { ⌜ wrote ≤ length (now out) ⌝ }
+{
+    let all = write_all(STDOUT_FILENO, &out[0..wrote]);
+    if !all {
+        os::fail(b"session: cannot write");
+    }
+    all
+}
+
+// Feeds a whole read, and writes the answers of each feed; a write that fails ends it.
 fn feed_all(
     storage: &mut [u8],
     carry: &mut [u8],
     kept: usize,
     piece: &[u8],
     out: &mut [u8],
-) -> usize {
+) -> Stand
+    requires { ⌜ 8192 ≤ length (now carry) ⌝ }
+    requires { ⌜ kept ≤ 8193 ⌝ }
+    requires { ⌜ 64 ≤ length (now out) ⌝ }
+    ensures { λ r. ⌜ FedAll (length (now (out .entry))) (now (storage .entry)) (now (carry .entry)) kept (now (piece .entry)) r (now (storage .exit)) (now (carry .exit)) ⌝ }
+{
     let mut at = 0;
     let mut line = kept;
     while at < piece.len() {
-        match feed_from(storage, carry, line, piece, at, out) {
-            Fed::Went { used, kept, .. } => {
-                if used == 0 {
-                    return kept;
-                }
-                if piece.len() - at < used {
-                    return kept;
-                }
+        match script::feed(storage, carry, line, &piece[at..piece.len()], out) {
+            Fed::Went { used, wrote, kept } => {
                 at += used;
                 line = kept;
+                if !put(out, wrote) {
+                    return Stand {
+                        kept: line,
+                        on: false,
+                    };
+                }
             }
             Fed::Refused => {
-                return line;
+                return Stand {
+                    kept: line,
+                    on: false,
+                };
             }
         }
     }
-    line
+    Stand {
+        kept: line,
+        on: true,
+    }
 }
 
 // The input has ended: the last line's answer is written.
-fn end(storage: &mut [u8], carry: &[u8], kept: usize, out: &mut [u8]) {
+fn end(storage: &mut [u8], carry: &[u8], kept: usize, out: &mut [u8])
+    requires { ⌜ 8192 ≤ length (now carry) ⌝ }
+    requires { ⌜ kept ≤ 8193 ⌝ }
+    requires { ⌜ 64 ≤ length (now out) ⌝ }
+    ensures { λ _. ⌜ Ends (now (storage .entry)) (now (carry .entry)) kept (now (out .entry)) (now (storage .exit)) (now (out .exit)) ⌝ }
+{
     match script::finish(storage, carry, kept, out) {
-        Finished::Done(wrote) => write(out, wrote),
+        Finished::Done(wrote) => {
+            put(out, wrote);
+        }
         Finished::Refused => {}
     }
 }
 
-// Reads until the input ends. A proved loop ends, and nothing says that the input does: the turns are counted down from a number that no run uses up.
-fn run(storage: &mut [u8], carry: &mut [u8], input: &mut [u8], out: &mut [u8]) {
+// One read, and what it brings. Where it fails, what is begun is not run.
+fn turn(
+    storage: &mut [u8],
+    carry: &mut [u8],
+    kept: usize,
+    input: &mut [u8],
+    out: &mut [u8],
+    copied: bool,
+) -> Stand
+    requires { ⌜ 8192 ≤ length (now carry) ⌝ }
+    requires { ⌜ kept ≤ 8193 ⌝ }
+    requires { ⌜ 64 ≤ length (now out) ⌝ }
+    ensures { λ r. ⌜ Turned (length (now (out .entry))) (now (storage .entry)) (now (carry .entry)) kept (now (out .entry)) r (now (storage .exit)) (now (carry .exit)) (now (out .exit)) ⌝ }
+{
+    let got = libc::read(STDIN_FILENO, input);
+    if got == 0 {
+        end(storage, carry, kept, out);
+        return Stand { kept, on: false };
+    }
+    if got < 0 {
+        let again = interrupted();
+        if !again {
+            os::fail(b"session: cannot read");
+        }
+        return Stand { kept, on: again };
+    }
+    let n = io::count(got, input);
+    let stand = feed_all(storage, carry, kept, &input[..n], out);
+    if !stand.on {
+        return stand;
+    }
+    if copied {
+        write_all(COPY_FILENO, &input[..n]);
+    }
+    stand
+}
+
+// Reads until the input ends, or a read or a write fails. The turns are counted down as in `write_all`.
+fn run(storage: &mut [u8], carry: &mut [u8], input: &mut [u8], out: &mut [u8], copied: bool)
+    requires { ⌜ 8192 ≤ length (now carry) ⌝ }
+    requires { ⌜ 64 ≤ length (now out) ⌝ }
+{
     let mut turns = u64::MAX;
     let mut kept = 0;
     while 0 < turns {
-        let got = libc::read(STDIN_FILENO, input);
-        if got <= 0 {
-            end(storage, carry, kept, out);
+        let stand = turn(storage, carry, kept, input, out, copied);
+        if !stand.on {
             return;
         }
-        let n = io::count(got, input);
-        kept = feed_all(storage, carry, kept, &input[..n], out);
+        kept = stand.kept;
         turns -= 1;
     }
 }
 
-// The instance of a session has no option bits, no mapping, and keeps its nodes (R137).
+// The instance of a session has no option bits, no mapping, and keeps its nodes (R137). With an argument, what is read is copied.
 fn main() {
     let mut storage = [0u8; STORAGE];
     let mut carry = [0u8; rules::MAX_LINE];
@@ -111,5 +213,6 @@ fn main() {
         flags: 0,
     };
     storage::create(&mut storage, NODES, 0, o);
-    run(&mut storage, &mut carry, &mut input, &mut out);
+    let copied = 1 < os::arg_count();
+    run(&mut storage, &mut carry, &mut input, &mut out, copied);
 }

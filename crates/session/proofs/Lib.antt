@@ -1,0 +1,2 @@
+-- What is proved of a read.
+pub mod Feeding

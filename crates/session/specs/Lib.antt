@@ -1,0 +1,2 @@
+-- What the program makes of a read, and of the end of its input.
+pub mod Feeding
