@@ -1,8 +1,8 @@
--- A read: where its feeds so far have led, and the laws of `feed_all` and `end`. Assumes nothing.
+-- Where the feeds of a read, and the turns of a run, have led so far: the laws of `feed_all`, `end`, `turn` and `run`. Assumes nothing.
 use Prim.Native.Nat.{ℕ, _+_, _-_, _≤_, _<_}
 use native.Mathlib.Omega.{arith}
 use mathlib.Core.Path.{_≡_, refl, sym, ap, _∙_}
-use mathlib.Core.Bool.{Bool, true, false, true≢false}
+use mathlib.Core.Bool.{Bool, true, false, not, true≢false}
 use mathlib.Core.Logic.{inl, inr}
 use mathlib.Core.List.{List, [], _∷_, _++_}
 use lib.ListN.{length, take, drop, length-drop, drop-of-length-le}
@@ -11,7 +11,7 @@ use lib.Dec.{leb}
 use borrow.Author.Tests.{le-leb, leb-true}
 use Rattle.script.specs.Step.{byBytes}
 use Rattle.script.specs.Feed.{accepts, endAccepts, lastText, Feeds, Finishes}
-use Rattle.script.specs.Runs.{usedIn, wroteIn, keptIn, Feed, Through, Onward}
+use Rattle.script.specs.Runs.{usedIn, wroteIn, keptIn, Feed, Through, Onward, Loop}
 use Rattle.script.specs.declared.Fed.{Fed}
 use Rattle.script.specs.declared.Fed.the-variants.{Went, Refused}
 use Rattle.script.specs.declared.Finished.{Finished}
@@ -19,7 +19,7 @@ use Rattle.script.specs.declared.Finished.the-variants.{Done, Refused as NotDon
 use Rattle.script.proofs.Carry.{accepts-true, accepts-wide}
 use Rattle.script.proofs.Onward.{onward}
 use Rattle.script.proofs.Loops.{through-none, through-more, through-accepted}
-use Rattle.session.specs.Feeding.{FedAll, Ends, Brought, Turned}
+use Rattle.session.specs.Feeding.{FedAll, Ends, Brought, Over, Turned, Turn, Turns, Ran, LoopOf, EveryRun}
 use Rattle.session.specs.declared.Stand.{Stand}
 
 -- the invariant: the feeds so far have led to here, and the next one is accepted
@@ -112,6 +112,58 @@ module _ (room : ℕ) (mem carry : List ℕ) (kept : ℕ) where
   pub stays : (out : List ℕ) (r : Stand) (after carried left : List ℕ) → Turned room mem carry kept out r after carried left → 8192 ≤ length carry → kept ≤ 8193 → r .kept ≤ 8193
   stays out r after carried left t w k = few carried (r .kept) (stays-on out r after carried left t (accepts-true carry kept w k)) _ refl
 
+-- ---- a run
+
+-- the output keeps its length
+pub same-room : (m n : ℕ) (mem carry : List ℕ) (kept : ℕ) (out : List ℕ) (r : Stand) (after carried left : List ℕ) → Turned m mem carry kept out r after carried left → m ≡ n → Turned n mem carry kept out r after carried left
+same-room m n mem carry kept out r after carried left f e = rw e at f
+
+module _ (room : ℕ) where
+  pub turns-none : (mem carry : List ℕ) (kept : ℕ) → Turns room mem carry kept [] mem carry kept
+  unfolding Turns
+  turns-none mem carry kept = (refl, (refl, refl))
+
+  -- one turn more
+  pub turns-more : (ts : List Turn) (mem carry : List ℕ) (kept : ℕ) (after carried : List ℕ) (last : ℕ) → Turns room mem carry kept ts after carried last → (t : Turn)
+      → Turned room after carried last (t .out) (t .stand) (t .after) (t .carried) (t .left) → t .stand .on ≡ true
+      → Turns room mem carry kept (ts ++ (t ∷ [])) (t .after) (t .carried) (t .stand .kept)
+  unfolding Turns
+  turns-more [] mem carry kept after carried last (m, (c, k)) t f o = (rw (← m, ← c, ← k) f, (o, (refl, (refl, refl))))
+  turns-more (x ∷ ts) mem carry kept after carried last (g, (n, r)) t f o = (g, (n, turns-more ts _ _ _ after carried last r t f o))
+
+off : (b : Bool) → not b ≡ true → b ≡ false
+off true e = absurd (true≢false (sym e))
+off false e = refl
+
+on : (b : Bool) → not b ≡ false → b ≡ true
+on true e = refl
+on false e = absurd (true≢false e)
+
+-- the invariant: the turns so far have led to here
+pub record Running (room : ℕ) (mem₀ carry₀ mem carry : List ℕ) (kept : ℕ) : Type 0 where
+  pub turns : List Turn
+  pub chain : Turns room mem₀ carry₀ 0 turns mem carry kept
+
+module _ (room : ℕ) (mem₀ carry₀ : List ℕ) where
+  pub running-start : Running room mem₀ carry₀ mem₀ carry₀ 0
+  running-start = record { turns = []; chain = turns-none room mem₀ carry₀ 0 }
+
+  module _ (mem carry : List ℕ) (kept : ℕ) (v : Running room mem₀ carry₀ mem carry kept) where
+    -- the count is used up
+    pub ran-out : Ran room mem₀ carry₀ mem carry
+    ran-out = record { turns = v .turns; bytes = mem; begun = carry; kept = kept; chain = v .chain; last = inr (refl, refl) }
+
+    module _ (out : List ℕ) (r : Stand) (after carried left : List ℕ) (f : Turned room mem carry kept out r after carried left) where
+      abbrev T : Turn
+      T = record { out = out; stand = r; after = after; carried = carried; left = left }
+
+      pub running-more : not (r .on) ≡ false → Running room mem₀ carry₀ after carried (r .kept)
+      running-more o = record { turns = v .turns ++ (T ∷ []); chain = turns-more room (v .turns) mem₀ carry₀ 0 mem carry kept (v .chain) T f (on (r .on) o) }
+
+      -- the last turn
+      pub ran : not (r .on) ≡ true → Ran room mem₀ carry₀ after carried
+      ran o = record { turns = v .turns; bytes = mem; begun = carry; kept = kept; chain = v .chain; last = inl (T, (f, off (r .on) o)) }
+
 -- ---- the end of the input
 
 module _ (mem carry : List ℕ) (kept : ℕ) (out : List ℕ) (w : 8192 ≤ length carry) (k : kept ≤ 8193) (wide : 64 ≤ length out) where
@@ -138,3 +190,29 @@ module _ (mem carry : List ℕ) (kept : ℕ) (out : List ℕ) (w : 8192 ≤ leng
         let z : _≡_ {A = ℕ} 0 1 = cc in
         let y : ⊥ = omega arith in
         y
+
+-- ---- a run that has come to the end of its input
+
+module _ (room : ℕ) (out : List ℕ) (r : Stand) (after carried left : List ℕ) where
+  looped : (ts : List Turn) (mem carry : List ℕ) (kept : ℕ) (bytes begun : List ℕ) (last : ℕ) → Turns room mem carry kept ts bytes begun last → Over bytes begun last out r after carried left
+      → LoopOf room mem carry kept after
+  unfolding Turns Loop
+  looped [] mem carry kept bytes begun last (m, (c, k)) o =
+      record {
+        reads = [];
+        finish = record { out = out; wrote = o .ends .wrote; after = after; left = left };
+        loop = rw (m, c, k) at (o .ends .finishes);
+        end = refl;
+      }
+  looped (t ∷ ts) mem carry kept bytes begun last (inl b, (g, ch)) o =
+      let l : LoopOf room (t .after) (t .carried) (t .stand .kept) after = looped ts (t .after) (t .carried) (t .stand .kept) bytes begun last ch o in
+      record {
+        reads = record { piece = b .piece; feeds = b .fed .feeds; after = t .after; carried = t .carried; kept = t .stand .kept } ∷ l .reads;
+        finish = l .finish;
+        loop = (rw (b .fed .whole g) at (b .fed .through), l .loop);
+        end = l .end;
+      }
+  looped (t ∷ ts) mem carry kept bytes begun last (inr v, (g, ch)) o = absurd (true≢false (sym g ∙ v .off))
+
+pub every-run : EveryRun
+every-run room out r after carried left ts mem carry kept bytes begun last t o = looped room out r after carried left ts mem carry kept bytes begun last t o

@@ -1,2 +1,2 @@
--- What is proved of a read.
+-- What is proved of reads, turns and runs.
 pub mod Feeding

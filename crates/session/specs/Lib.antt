@@ -1,2 +1,2 @@
--- What the program makes of a read, and of the end of its input.
+-- What the program makes of what it reads.
 pub mod Feeding

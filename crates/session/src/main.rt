@@ -5,7 +5,7 @@ use script::Fed;
 use script::Finished;
 ghost use Prim.Native.Nat.{_≤_};
 ghost use lib.ListN.{length};
-ghost use Rattle.session.specs.Feeding.{FedAll, Ends, Turned};
+ghost use Rattle.session.specs.Feeding.{FedAll, Ends, Turned, Ran};
 
 // The number of nodes of the instance (R137).
 const NODES: usize = 64;
@@ -182,6 +182,7 @@ fn turn(
 fn run(storage: &mut [u8], carry: &mut [u8], input: &mut [u8], out: &mut [u8], copied: bool)
     requires { ⌜ 8192 ≤ length (now carry) ⌝ }
     requires { ⌜ 64 ≤ length (now out) ⌝ }
+    ensures { λ _. ⌜ Ran (length (now (out .entry))) (now (storage .entry)) (now (carry .entry)) (now (storage .exit)) (now (carry .exit)) ⌝ }
 {
     let mut turns = u64::MAX;
     let mut kept = 0;
