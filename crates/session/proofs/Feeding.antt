@@ -101,22 +101,22 @@ few carry kept a false e = absurd (true≢false (sym a ∙ rw (le-leb 8192 (leng
 
 module _ (room : ℕ) (mem carry : List ℕ) (kept : ℕ) where
   -- nothing was read
-  pub brought-none : (on : Bool) → Brought room mem carry kept (record { kept = kept; on = on }) mem carry
-  brought-none on = record { piece = []; fed = record { feeds = []; rest = []; through = through-none room [] mem carry kept; whole = λ e. refl } }
+  pub brought-none : (input : List ℕ) (on : Bool) → Brought room mem carry kept input (record { kept = kept; on = on }) mem carry
+  brought-none input on = record { n = 0; fed = record { feeds = []; rest = []; through = through-none room [] mem carry kept; whole = λ e. refl } }
 
   -- what a turn leaves is accepted by the next one
-  stays-on : (out : List ℕ) (r : Stand) (after carried left : List ℕ) → Turned room mem carry kept out r after carried left → accepts carry kept ≡ true → accepts carried (r .kept) ≡ true
-  stays-on out r after carried left (inl b) a = through-accepted room (b .fed .feeds) (b .piece) mem carry kept (b .fed .rest) after carried (r .kept) (b .fed .through) a
-  stays-on out r after carried left (inr o) a = rw (o .begun, o .same) a
+  stays-on : (input out : List ℕ) (r : Stand) (after carried left : List ℕ) → Turned room mem carry kept input out r after carried left → accepts carry kept ≡ true → accepts carried (r .kept) ≡ true
+  stays-on input out r after carried left (inl b) a = through-accepted room (b .fed .feeds) _ mem carry kept (b .fed .rest) after carried (r .kept) (b .fed .through) a
+  stays-on input out r after carried left (inr o) a = rw (o .begun, o .same) a
 
-  pub stays : (out : List ℕ) (r : Stand) (after carried left : List ℕ) → Turned room mem carry kept out r after carried left → 8192 ≤ length carry → kept ≤ 8193 → r .kept ≤ 8193
-  stays out r after carried left t w k = few carried (r .kept) (stays-on out r after carried left t (accepts-true carry kept w k)) _ refl
+  pub stays : (input out : List ℕ) (r : Stand) (after carried left : List ℕ) → Turned room mem carry kept input out r after carried left → 8192 ≤ length carry → kept ≤ 8193 → r .kept ≤ 8193
+  stays input out r after carried left t w k = few carried (r .kept) (stays-on input out r after carried left t (accepts-true carry kept w k)) _ refl
 
 -- ---- a run
 
 -- the output keeps its length
-pub same-room : (m n : ℕ) (mem carry : List ℕ) (kept : ℕ) (out : List ℕ) (r : Stand) (after carried left : List ℕ) → Turned m mem carry kept out r after carried left → m ≡ n → Turned n mem carry kept out r after carried left
-same-room m n mem carry kept out r after carried left f e = rw e at f
+pub same-room : (m n : ℕ) (mem carry : List ℕ) (kept : ℕ) (input out : List ℕ) (r : Stand) (after carried left : List ℕ) → Turned m mem carry kept input out r after carried left → m ≡ n → Turned n mem carry kept input out r after carried left
+same-room m n mem carry kept input out r after carried left f e = rw e at f
 
 module _ (room : ℕ) where
   pub turns-none : (mem carry : List ℕ) (kept : ℕ) → Turns room mem carry kept [] mem carry kept
@@ -125,7 +125,7 @@ module _ (room : ℕ) where
 
   -- one turn more
   pub turns-more : (ts : List Turn) (mem carry : List ℕ) (kept : ℕ) (after carried : List ℕ) (last : ℕ) → Turns room mem carry kept ts after carried last → (t : Turn)
-      → Turned room after carried last (t .out) (t .stand) (t .after) (t .carried) (t .left) → t .stand .on ≡ true
+      → Turned room after carried last (t .input) (t .out) (t .stand) (t .after) (t .carried) (t .left) → t .stand .on ≡ true
       → Turns room mem carry kept (ts ++ (t ∷ [])) (t .after) (t .carried) (t .stand .kept)
   unfolding Turns
   turns-more [] mem carry kept after carried last (m, (c, k)) t f o = (rw (← m, ← c, ← k) f, (o, (refl, (refl, refl))))
@@ -153,9 +153,9 @@ module _ (room : ℕ) (mem₀ carry₀ : List ℕ) where
     pub ran-out : Ran room mem₀ carry₀ mem carry
     ran-out = record { turns = v .turns; bytes = mem; begun = carry; kept = kept; chain = v .chain; last = inr (refl, refl) }
 
-    module _ (out : List ℕ) (r : Stand) (after carried left : List ℕ) (f : Turned room mem carry kept out r after carried left) where
+    module _ (input out : List ℕ) (r : Stand) (after carried left : List ℕ) (f : Turned room mem carry kept input out r after carried left) where
       abbrev T : Turn
-      T = record { out = out; stand = r; after = after; carried = carried; left = left }
+      T = record { input = input; out = out; stand = r; after = after; carried = carried; left = left }
 
       pub running-more : not (r .on) ≡ false → Running room mem₀ carry₀ after carried (r .kept)
       running-more o = record { turns = v .turns ++ (T ∷ []); chain = turns-more room (v .turns) mem₀ carry₀ 0 mem carry kept (v .chain) T f (on (r .on) o) }
@@ -207,7 +207,7 @@ module _ (room : ℕ) (out : List ℕ) (r : Stand) (after carried left : List �
   looped (t ∷ ts) mem carry kept bytes begun last (inl b, (g, ch)) o =
       let l : LoopOf room (t .after) (t .carried) (t .stand .kept) after = looped ts (t .after) (t .carried) (t .stand .kept) bytes begun last ch o in
       record {
-        reads = record { piece = b .piece; feeds = b .fed .feeds; after = t .after; carried = t .carried; kept = t .stand .kept } ∷ l .reads;
+        reads = record { piece = take (b .n) (t .input); feeds = b .fed .feeds; after = t .after; carried = t .carried; kept = t .stand .kept } ∷ l .reads;
         finish = l .finish;
         loop = (rw (b .fed .whole g) at (b .fed .through), l .loop);
         end = l .end;

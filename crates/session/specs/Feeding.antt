@@ -4,6 +4,7 @@ use mathlib.Core.Bool.{true, false}
 use mathlib.Core.List.{List, [], _∷_}
 use mathlib.Core.Logic.{_⊎_}
 use mathlib.Core.Path.{_≡_}
+use lib.ListN.{take}
 use Rattle.script.specs.Feed.{Finishes}
 use Rattle.script.specs.Runs.{Feed, Finish, Through, Read, Loop}
 use Rattle.script.specs.declared.Finished.the-variants.{Done}
@@ -21,10 +22,10 @@ pub record Ends (mem carry : List ℕ) (kept : ℕ) (out after left : List ℕ) 
   pub wrote : ℕ
   pub finishes : Finishes mem carry kept out (Done wrote) after left
 
--- a read has brought some bytes, none where it was interrupted or failed, and these were fed from the begun line on
-pub record Brought (room : ℕ) (mem carry : List ℕ) (kept : ℕ) (r : Stand) (after carried : List ℕ) : Type 0 where
-  pub piece : List ℕ
-  pub fed : FedAll room mem carry kept piece r after carried
+-- a read has brought some bytes, which stand at the front of the input buffer, none where it was interrupted or failed; these were fed from the begun line on
+pub record Brought (room : ℕ) (mem carry : List ℕ) (kept : ℕ) (input : List ℕ) (r : Stand) (after carried : List ℕ) : Type 0 where
+  pub n : ℕ
+  pub fed : FedAll room mem carry kept (take n input) r after carried
 
 -- the input has ended, and the session does not go on
 pub record Over (mem carry : List ℕ) (kept : ℕ) (out : List ℕ) (r : Stand) (after carried left : List ℕ) : Type 0 where
@@ -34,11 +35,12 @@ pub record Over (mem carry : List ℕ) (kept : ℕ) (out : List ℕ) (r : Stand)
   pub ends : Ends mem carry kept out after left
 
 -- one or the other
-abbrev pub Turned : ℕ → List ℕ → List ℕ → ℕ → List ℕ → Stand → List ℕ → List ℕ → List ℕ → Type 0
-Turned room mem carry kept out r after carried left = Brought room mem carry kept r after carried ⊎ Over mem carry kept out r after carried left
+abbrev pub Turned : ℕ → List ℕ → List ℕ → ℕ → List ℕ → List ℕ → Stand → List ℕ → List ℕ → List ℕ → Type 0
+Turned room mem carry kept input out r after carried left = Brought room mem carry kept input r after carried ⊎ Over mem carry kept out r after carried left
 
--- a turn that was made: the lent output, where it has led, and the bytes, the carry and the output after it
+-- a turn that was made: the input buffer after it, the lent output, where it has led, and the bytes, the carry and the output after it
 pub record Turn : Type 0 where
+  pub input : List ℕ
   pub out : List ℕ
   pub stand : Stand
   pub after : List ℕ
@@ -49,7 +51,7 @@ pub record Turn : Type 0 where
 unfoldable pub Turns : ℕ → List ℕ → List ℕ → ℕ → List Turn → List ℕ → List ℕ → ℕ → Type 0
 Turns room mem carry kept [] after carried last = (after ≡ mem) × ((carried ≡ carry) × (last ≡ kept))
 Turns room mem carry kept (t ∷ ts) after carried last =
-    Turned room mem carry kept (t .out) (t .stand) (t .after) (t .carried) (t .left)
+    Turned room mem carry kept (t .input) (t .out) (t .stand) (t .after) (t .carried) (t .left)
     × ((t .stand .on ≡ true)
     × Turns room (t .after) (t .carried) (t .stand .kept) ts after carried last)
 
@@ -60,7 +62,7 @@ pub record Ran (room : ℕ) (mem carry after carried : List ℕ) : Type 0 where
   pub begun : List ℕ
   pub kept : ℕ
   pub chain : Turns room mem carry 0 turns bytes begun kept
-  pub last : ((t : Turn) × (Turned room bytes begun kept (t .out) (t .stand) after carried (t .left) × (t .stand .on ≡ false))) ⊎ ((after ≡ bytes) × (carried ≡ begun))
+  pub last : ((t : Turn) × (Turned room bytes begun kept (t .input) (t .out) (t .stand) after carried (t .left) × (t .stand .on ≡ false))) ⊎ ((after ≡ bytes) × (carried ≡ begun))
 
 -- the loop on some reads, which leaves these bytes
 pub record LoopOf (room : ℕ) (mem carry : List ℕ) (kept : ℕ) (after : List ℕ) : Type 0 where

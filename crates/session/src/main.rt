@@ -153,7 +153,7 @@ fn turn(
     requires { ⌜ 8192 ≤ length (now carry) ⌝ }
     requires { ⌜ kept ≤ 8193 ⌝ }
     requires { ⌜ 64 ≤ length (now out) ⌝ }
-    ensures { λ r. ⌜ Turned (length (now (out .entry))) (now (storage .entry)) (now (carry .entry)) kept (now (out .entry)) r (now (storage .exit)) (now (carry .exit)) (now (out .exit)) ⌝ }
+    ensures { λ r. ⌜ Turned (length (now (out .entry))) (now (storage .entry)) (now (carry .entry)) kept (now (input .exit)) (now (out .entry)) r (now (storage .exit)) (now (carry .exit)) (now (out .exit)) ⌝ }
 {
     let got = libc::read(STDIN_FILENO, input);
     if got == 0 {

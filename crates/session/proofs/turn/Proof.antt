@@ -10,19 +10,25 @@ returns : tie.Need-returns
 returns c = inr (record { off = refl; same = refl; begun = refl; ends = c .before .before .before .before .end .ensures })
 
 returns-2 : tie.Need-returns-2
-returns-2 c = inl (brought-none _ _ _ _ _)
+returns-2 c = inl (brought-none _ _ _ _ _ _)
 
 returns-3 : tie.Need-returns-3
-returns-3 c = inl (brought-none _ _ _ _ _)
+returns-3 c = inl (brought-none _ _ _ _ _ _)
 
 returns-4 : tie.Need-returns-4
-returns-4 c = inl (record { piece = _; fed = c .before .before .before .before .before .before .before .before .feed-all .ensures })
+returns-4 c =
+    let f = c .before .before .before .before .before .before .before .before in
+    inl (record { n = f .before .before .before .before .before .count .result; fed = f .feed-all .ensures })
 
 returns-5 : tie.Need-returns-5
-returns-5 c = inl (record { piece = _; fed = c .before .before .before .before .before .before .before .before .before .before .before .feed-all .ensures })
+returns-5 c =
+    let f = c .before .before .before .before .before .before .before .before .before .before .before in
+    inl (record { n = f .before .before .before .before .before .count .result; fed = f .feed-all .ensures })
 
 returns-6 : tie.Need-returns-6
-returns-6 c = inl (record { piece = _; fed = c .before .before .before .before .before .before .before .before .before .feed-all .ensures })
+returns-6 c =
+    let f = c .before .before .before .before .before .before .before .before .before in
+    inl (record { n = f .before .before .before .before .before .count .result; fed = f .feed-all .ensures })
 
 pub turn-spec : {M : Type 1} → statement M
 turn-spec =
