@@ -16,7 +16,7 @@ use Rattle.rules.specs.Tree.{Mount}
 use Rattle.rules.proofs.Fields.{length-read, length-bytesOf}
 use Rattle.tables.specs.Table.{Col, off, row, putRow, closeUp}
 use Rattle.tables.proofs.Table.{Beneath, Fit}
-use Rattle.tables.specs.Layout.{header, slotTable, nodeTable, capacityOf, countOf, nextOf}
+use Rattle.tables.specs.Layout.{header, slotTable, nodeTable, capacityOf, countOf, nextOf, capacityField, countField, nextField}
 use Rattle.tables.specs.View.{field, slotFrom, nodeFrom, instanceFrom, headOf, slotAt, nodeAt, slotsOf, nodesFrom, nodesOf, view}
 use Rattle.tables.specs.Rule.{laid, laidBy, Bounds}
 use Rattle.tables.specs.Write.{fromPlace, putHeader, setCount, setNext, yesByte, setSlot, rowMountCells, setRowMount, nodeCells, appendNode, removeRow}
@@ -113,15 +113,15 @@ module _ (rest : List ℕ) where
 
     capacity-front : capacityOf (mem ++ rest) ≡ n
     unfolding row get
-    capacity-front = ap (λ (h : List (List ℕ)). field 1 h) (head-front mem long)
+    capacity-front = ap (λ (h : List (List ℕ)). field capacityField h) (head-front mem long)
 
     count-front : countOf (mem ++ rest) ≡ c
     unfolding row get
-    count-front = ap (λ (h : List (List ℕ)). field 2 h) (head-front mem long)
+    count-front = ap (λ (h : List (List ℕ)). field countField h) (head-front mem long)
 
     next-front : nextOf (mem ++ rest) ≡ nextOf mem
     unfolding row get
-    next-front = ap (λ (h : List (List ℕ)). field 3 h) (head-front mem long)
+    next-front = ap (λ (h : List (List ℕ)). field nextField h) (head-front mem long)
 
     nodes-front : nodesFrom n (mem ++ rest) 0 c ≡ nodesFrom n mem 0 c
     unfolding nodesFrom nodeAt
@@ -131,8 +131,8 @@ module _ (rest : List ℕ) where
     unfolding view nodesOf row get
     view-front =
         let h = head-front mem long in
-        let nodes : nodesFrom (field 1 (headOf (mem ++ rest))) (mem ++ rest) 0 (field 2 (headOf (mem ++ rest))) ≡ nodesFrom (field 1 (headOf mem)) mem 0 (field 2 (headOf mem)) =
-        (λ t. nodesFrom (field 1 (h t)) (mem ++ rest) 0 (field 2 (h t))) ∙ nodes-front in
+        let nodes : nodesFrom (field capacityField (headOf (mem ++ rest))) (mem ++ rest) 0 (field countField (headOf (mem ++ rest))) ≡ nodesFrom (field capacityField (headOf mem)) mem 0 (field countField (headOf mem)) =
+        (λ t. nodesFrom (field capacityField (h t)) (mem ++ rest) 0 (field countField (h t))) ∙ nodes-front in
         λ t. instanceFrom (h t) (slots-front mem long t) (nodes t)
 
     pub row-mount-front : (m : Option Mount) (i : ℕ) → i < c → LeavesRest (setRowMount m i) mem rest

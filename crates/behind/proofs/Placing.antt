@@ -10,7 +10,7 @@ use lib.Dec.{eqb}
 use Rattle.rules.specs.Numbers.{rootNumber}
 use Rattle.rules.specs.Tree.{Mount, Node}
 use Rattle.rules.specs.Instance.{Instance, mountOf}
-use Rattle.tables.specs.Layout.{capacityOf, countOf, nextOf}
+use Rattle.tables.specs.Layout.{capacityOf, countOf, nextOf, removalField}
 use Rattle.tables.specs.View.{flag, headOf, nodesOf, view}
 use Rattle.tables.specs.Rule.{laid, Bounds}
 use Rattle.tables.specs.Write.{setSlot, mountCells, setRootMount, setRowMount, removeRow, appendNode}
@@ -62,7 +62,7 @@ module _ (rest : List ℕ) where
     unfolding outMem view
     out-front x =
         ap (λ (i : Instance). cond (i .removal && not (eqb x rootNumber)) (removeMem (nodesOf (mem ++ rest)) x (mem ++ rest)) (mem ++ rest)) (view-front rest mem d)
-        ∙ go (flag 15 (headOf mem) && not (eqb x rootNumber))
+        ∙ go (flag removalField (headOf mem) && not (eqb x rootNumber))
       where
         go : (b : Bool) → cond b (removeMem (nodesOf (mem ++ rest)) x (mem ++ rest)) (mem ++ rest) ≡ cond b (removeMem (nodesOf mem) x mem) mem ++ rest
         go true = gone-front x

@@ -17,7 +17,7 @@ use Rattle.rules.specs.Saved.{SavedNode, State, stateOf, accepted}
 use Rattle.rules.specs.Restore.{fresh, restoredTo, restoreRule}
 use Rattle.rules.proofs.Fields.{length-bytesOf}
 use Rattle.tables.proofs.Table.{Fit}
-use Rattle.tables.specs.Layout.{header, capacityOf, countOf}
+use Rattle.tables.specs.Layout.{header, capacityOf, countOf, counterField, markField}
 use Rattle.tables.specs.View.{view}
 use Rattle.tables.specs.Rule.{laid}
 use Rattle.tables.specs.Write.{fromPlace, putHeader, setNext, yesByte, appendNode}
@@ -70,8 +70,8 @@ module _ (rest : List ℕ) where
       let s₁ : length m₁ ≡ length mem = length-putRow header (fromPlace 3 (bytesOf 8 next ∷ [])) mem 0 in
       let m₂ = setOptions o m₁ in
       let s₂ : length m₂ ≡ length m₁ = length-putRow header (fromPlace 5 (optionCells o)) m₁ 0 in
-      ap (λ (m : List ℕ). putHeader 14 cells (setOptions o m)) (next-front mem l next)
-      ∙ ap (putHeader 14 cells) (header-front rest m₁ (omega arith) 5 (optionCells o) (options-fit o))
+      ap (λ (m : List ℕ). putHeader counterField cells (setOptions o m)) (next-front mem l next)
+      ∙ ap (putHeader counterField cells) (header-front rest m₁ (omega arith) 5 (optionCells o) (options-fit o))
       ∙ header-front rest m₂ (omega arith) 14 cells (omega (arith, length-bytesOf 1 counter, length-bytesOf 1 (yesByte (hasBits (o .inOpts)))))
 
   -- ---- state restore
@@ -123,6 +123,6 @@ module _ (rest : List ℕ) where
       let s₂ = length-write m₁ 512 (replicate 1024 0) in
       let a = length-replicate {A = ℕ} 256 0 in
       let b = length-replicate {A = ℕ} 1024 0 in
-      ap (λ (m : List ℕ). putHeader 0 cells (write m 512 (replicate 1024 0))) (write-before mem rest 256 (replicate 256 0) (omega arith))
-      ∙ ap (putHeader 0 cells) (write-before m₁ rest 512 (replicate 1024 0) (omega arith))
+      ap (λ (m : List ℕ). putHeader markField cells (write m 512 (replicate 1024 0))) (write-before mem rest 256 (replicate 256 0) (omega arith))
+      ∙ ap (putHeader markField cells) (write-before m₁ rest 512 (replicate 1024 0) (omega arith))
       ∙ header-front rest (write m₁ 512 (replicate 1024 0)) (omega arith) 0 cells (spell-fits header (headerOf (newInstance q)))

@@ -21,7 +21,7 @@ use Rattle.tables.specs.declared.mounts.MountOn.{MountOn}
 use Rattle.tables.specs.declared.mounts.MountOn.the-variants.{Point, Nothing}
 use Rattle.placing.specs.declared.Tags.{Tags}
 use Rattle.placing.specs.Place.{freedMem, placeMem, outMem, takeOffMem, InSlots, Frees, Places, TakesOff}
-use Rattle.tables.specs.Layout.{countOf}
+use Rattle.tables.specs.Layout.{countOf, removalField}
 use Rattle.tables.specs.declared.rows.Row.{Row}
 use Rattle.tables.specs.declared.rows.Row.the-variants.{At, Nothing as RowNothing}
 use Rattle.tables.proofs.Places.{row-below, view-mount}
@@ -102,7 +102,7 @@ row-mounted mem m₁ x e f w p =
 
 -- ---- the node taken out, or not; r says whether nodes are removed
 
-module _ (x : ℕ) (mem : List ℕ) (r : Bool) (set : r ≡ flag 15 (headOf mem)) where
+module _ (x : ℕ) (mem : List ℕ) (r : Bool) (set : r ≡ flag removalField (headOf mem)) where
   pub stays-unset : not r ≡ true → mem ≡ outMem x mem
   unfolding outMem
   stays-unset e = rw (sym set ∙ not-true r e)

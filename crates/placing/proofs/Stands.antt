@@ -12,6 +12,7 @@ use Rattle.rules.specs.Tree.{Mount}
 use Rattle.rules.specs.Instance.{Tree, Instance, emptySlot, heldBy, slotOf, tagInSlot, tagOf, mountOf, setMount, withSlot, withTree, cut}
 use Rattle.rules.specs.Mount.{Request, mountOn, freedSlots, freed, placed}
 use Rattle.rules.specs.Unmount.{taken}
+use Rattle.tables.specs.Layout.{removalField}
 use Rattle.tables.specs.View.{flag, headOf, slotAt, slotsOf, nodesOf, view}
 use Rattle.tables.specs.Rule.{laid}
 use Rattle.tables.specs.Write.{MountFits}
@@ -74,7 +75,7 @@ module _ (mem : List ℕ) (e : laid mem ≡ true) where
 module _ (x : ℕ) (mem : List ℕ) (e : laid mem ≡ true) where
   view-out : view (outMem x mem) ≡ cond (view mem .removal && not (eqb x rootNumber)) (withTree (cut x (view mem .tree)) (view mem)) (view mem)
   unfolding outMem view
-  view-out = go (flag 15 (headOf mem) && not (eqb x rootNumber))
+  view-out = go (flag removalField (headOf mem) && not (eqb x rootNumber))
     where
       go : (b : Bool) → view (cond b (removeMem (nodesOf mem) x mem) mem) ≡ cond b (withTree (cut x (view mem .tree)) (view mem)) (view mem)
       go true = view-gone mem (laid-is mem e) x
@@ -82,7 +83,7 @@ module _ (x : ℕ) (mem : List ℕ) (e : laid mem ≡ true) where
 
   pub keeps-out : laid (outMem x mem) ≡ true
   unfolding outMem
-  keeps-out = go (flag 15 (headOf mem) && not (eqb x rootNumber))
+  keeps-out = go (flag removalField (headOf mem) && not (eqb x rootNumber))
     where
       go : (b : Bool) → laid (cond b (removeMem (nodesOf mem) x mem) mem) ≡ true
       go true = keeps-gone mem e x

@@ -9,6 +9,7 @@ use Rattle.rules.specs.Numbers.{rootNumber}
 use Rattle.rules.specs.Tree.{Mount}
 use Rattle.rules.specs.Instance.{mountOf, tagOf}
 use Rattle.rules.specs.Mount.{tagAt, freed}
+use Rattle.tables.specs.Layout.{removalField}
 use Rattle.tables.specs.View.{flag, headOf, nodesOf, view}
 use Rattle.tables.specs.Write.{setSlot}
 use Rattle.tables.specs.Answer.{tagIn, mountIn, nodeMountMem, removeMem}
@@ -29,7 +30,7 @@ placeMem m tag x mem =
 
 -- with removal set, the node is taken out of the table unless it is the root (R100)
 unfoldable pub outMem : ℕ → List ℕ → List ℕ
-outMem x mem = cond (flag 15 (headOf mem) && not (eqb x rootNumber)) (removeMem (nodesOf mem) x mem) mem
+outMem x mem = cond (flag removalField (headOf mem) && not (eqb x rootNumber)) (removeMem (nodesOf mem) x mem) mem
 
 -- the mount is taken off its node, and its index freed (R98)
 unfoldable pub takeOffMem : Mount → ℕ → List ℕ → List ℕ

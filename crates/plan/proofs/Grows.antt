@@ -12,7 +12,7 @@ use Rattle.path.specs.Steps.{part}
 use Rattle.le.specs.Mem.{get}
 use Rattle.tables.specs.Table.{row}
 use Rattle.tables.proofs.Table.{over}
-use Rattle.tables.specs.Layout.{capacityOf, countOf, nextOf}
+use Rattle.tables.specs.Layout.{capacityOf, countOf, nextOf, capacityField, countField, nextField}
 use Rattle.tables.specs.View.{field, view}
 use Rattle.tables.specs.Rule.{Bounds, laid}
 use Rattle.tables.specs.Write.{appendNode}
@@ -32,15 +32,15 @@ module _ (mem : List ℕ) (d : Bounds mem) (above : ℕ) (p : List ℕ) where
 
   pub append-capacity : capacityOf after ≡ capacityOf mem
   unfolding over row get
-  append-capacity = ap (λ (h : List (List ℕ)). field 1 h) (head-append mem d above p)
+  append-capacity = ap (λ (h : List (List ℕ)). field capacityField h) (head-append mem d above p)
 
   pub append-count : countOf after ≡ countOf mem + 1
   unfolding over row get
-  append-count = ap (λ (h : List (List ℕ)). field 2 h) (head-append mem d above p) ∙ cell-back 8 (countOf mem + 1) mem 16 (omega (arith, d .live, d .few-nodes))
+  append-count = ap (λ (h : List (List ℕ)). field countField h) (head-append mem d above p) ∙ cell-back 8 (countOf mem + 1) mem 16 (omega (arith, d .live, d .few-nodes))
 
   pub append-next : nextOf after ≡ nextOf mem + 1
   unfolding over row get
-  append-next = ap (λ (h : List (List ℕ)). field 3 h) (head-append mem d above p) ∙ cell-back 8 (nextOf mem + 1) mem 24 (omega (arith, d .top))
+  append-next = ap (λ (h : List (List ℕ)). field nextField h) (head-append mem d above p) ∙ cell-back 8 (nextOf mem + 1) mem 24 (omega (arith, d .top))
 
   append-laid : countOf mem + 1 < capacityOf mem → nextOf mem < 2 ^ 56 → Bounds after
   append-laid room top = record {

@@ -16,6 +16,7 @@ use Rattle.rules.specs.Outcome.{walked, refused, says, firstOf}
 use Rattle.rules.specs.Unmount.{badPath, reached, walkRule}
 use Rattle.rules.specs.Lookup.{entryOf}
 use Rattle.rules.proofs.Ids.{wrapped-is-whole}
+use Rattle.tables.specs.Layout.{mappingField}
 use Rattle.tables.specs.View.{mappingFrom, headOf, view}
 use Rattle.tables.specs.Rule.{laid}
 use Rattle.tables.specs.Call.{Told, toldBy, tells, toldSmall, answeredBy}
@@ -125,17 +126,17 @@ module _ (mem path : List ℕ) where
 -- ---- the pseudo entry
 
 -- as the code makes it
-pub pseudo-made : (mem : List ℕ) (m : Mapping) (x id : ℕ) (v : VfsInode) → v .0 ≡ orZero (convert 0 x) → m ≡ mappingFrom 7 (headOf mem) → id ≡ wrapped m 0
+pub pseudo-made : (mem : List ℕ) (m : Mapping) (x id : ℕ) (v : VfsInode) → v .0 ≡ orZero (convert 0 x) → m ≡ mappingFrom mappingField (headOf mem) → id ≡ wrapped m 0
     → entryAnswer (record { inode = v; mode = dirMode; uid = id; gid = id; blksize = blockSize }) ≡ pseudoAnswer (view mem) x
 unfolding entryAnswer pseudoAnswer view
 pseudo-made mem m x id v a b c = rw (c, b, a)
 
 module _ (mem : List ℕ) (e : laid mem ≡ true) where
   -- the mapping in force passes its test
-  pub good-mapping : badMapping (mappingFrom 7 (headOf mem)) ≡ false
+  pub good-mapping : badMapping (mappingFrom mappingField (headOf mem)) ≡ false
   good-mapping = laid-ruled mem e .maps
 
   -- the theorem: of a node's number it is the rules' entry
   pub pseudo-is : (y : ℕ) → y < 2 ^ 56 → says (pseudoAnswer (view mem) y) (view mem) ≡ entryOf (view mem) y none
   unfolding pseudoAnswer convert entryOf view
-  pseudo-is y h = rw (le-ltb maxIno y (omega arith), wrapped-is-whole (mappingFrom 7 (headOf mem)) 0 good-mapping (omega arith) .0)
+  pseudo-is y h = rw (le-ltb maxIno y (omega arith), wrapped-is-whole (mappingFrom mappingField (headOf mem)) 0 good-mapping (omega arith) .0)

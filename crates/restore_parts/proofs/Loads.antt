@@ -13,7 +13,7 @@ use Rattle.rules.specs.Restore.{nodesFrom}
 use Rattle.rules.proofs.Fields.{length-bytesOf}
 use Rattle.tables.specs.Table.{row}
 use Rattle.tables.proofs.Table.{over, Fit}
-use Rattle.tables.specs.Layout.{header, capacityOf, countOf, nextOf}
+use Rattle.tables.specs.Layout.{header, capacityOf, countOf, nextOf, capacityField, countField, nextField}
 use Rattle.tables.specs.View.{field, headOf, nodesOf, view}
 use Rattle.tables.specs.Rule.{laidBy, laid, Bounds}
 use Rattle.tables.specs.Write.{fromPlace, setNext}
@@ -49,15 +49,15 @@ module _ (mem : List ℕ) (d : Bounds mem) (x : ℕ) (top : x ≤ 2 ^ 56) where
 
   next-capacity : capacityOf after ≡ capacityOf mem
   unfolding over row get
-  next-capacity = ap (λ (h : List (List ℕ)). field 1 h) next-head
+  next-capacity = ap (λ (h : List (List ℕ)). field capacityField h) next-head
 
   next-count : countOf after ≡ countOf mem
   unfolding over row get
-  next-count = ap (λ (h : List (List ℕ)). field 2 h) next-head
+  next-count = ap (λ (h : List (List ℕ)). field countField h) next-head
 
   next-next : nextOf after ≡ x
   unfolding over row get
-  next-next = ap (λ (h : List (List ℕ)). field 3 h) next-head ∙ next-is
+  next-next = ap (λ (h : List (List ℕ)). field nextField h) next-head ∙ next-is
 
   next-length : length after ≡ length mem
   unfolding setNext

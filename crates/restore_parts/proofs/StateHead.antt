@@ -12,7 +12,7 @@ use Rattle.rules.specs.Create.{unknown}
 use Rattle.rules.specs.RoundTrip.{OptionsFit}
 use Rattle.rules.proofs.Fields.{length-bytesOf}
 use Rattle.tables.specs.Table.{row, putRow}
-use Rattle.tables.specs.Layout.{header}
+use Rattle.tables.specs.Layout.{header, counterField, flagsField, inOptsField, initializedField, knownField, nextField, outOptsField, ownExternalField, ownMappingField, ownRangeField}
 use Rattle.tables.specs.View.{field, headOf, nodesOf, view}
 use Rattle.tables.specs.Rule.{laidBy, laid}
 use Rattle.tables.specs.Write.{fromPlace, putHeader, setNext, yesByte}
@@ -56,7 +56,7 @@ module _ (next counter : ℕ) (o : Options) (mem : List ℕ) where
   abbrev H : List (List ℕ)
   H = over header (fromPlace 3 cells) mem 0
 
-  one-row : setState next counter o mem ≡ putHeader 3 cells mem
+  one-row : setState next counter o mem ≡ putHeader nextField cells mem
   unfolding setState setOptions setNext putHeader putRow
   one-row = refl
 
@@ -65,39 +65,39 @@ module _ (next counter : ℕ) (o : Options) (mem : List ℕ) where
       omega (arith, length-bytesOf 8 next, length-bytesOf 8 (o .inOpts), length-bytesOf 8 (o .outOpts), length-bytesOf 4 (o .mapping .internal), length-bytesOf 4 (o .mapping .external), length-bytesOf 4 (o .mapping .range), length-bytesOf 1 (o .flags), length-bytesOf 1 counter, length-bytesOf 1 init)
 
   module _ (f : OptionsFit o) (top : next ≤ 2 ^ 56) (byte : counter < 256) where
-    next-is : field 3 H ≡ next
+    next-is : field nextField H ≡ next
     unfolding over row
     next-is = cell-back 8 next mem 24 (omega arith)
 
-    in-is : field 5 H ≡ o .inOpts
+    in-is : field inOptsField H ≡ o .inOpts
     unfolding over row
     in-is = cell-back 8 (o .inOpts) mem 40 (f .inOpts)
 
-    out-is : field 6 H ≡ o .outOpts
+    out-is : field outOptsField H ≡ o .outOpts
     unfolding over row
     out-is = cell-back 8 (o .outOpts) mem 48 (f .outOpts)
 
-    internal-is : field 10 H ≡ o .mapping .internal
+    internal-is : field ownMappingField H ≡ o .mapping .internal
     unfolding over row
     internal-is = cell-back 4 (o .mapping .internal) mem 68 (f .internal)
 
-    external-is : field 11 H ≡ o .mapping .external
+    external-is : field ownExternalField H ≡ o .mapping .external
     unfolding over row
     external-is = cell-back 4 (o .mapping .external) mem 72 (f .external)
 
-    range-is : field 12 H ≡ o .mapping .range
+    range-is : field ownRangeField H ≡ o .mapping .range
     unfolding over row
     range-is = cell-back 4 (o .mapping .range) mem 76 (f .range)
 
-    flags-is : field 13 H ≡ o .flags
+    flags-is : field flagsField H ≡ o .flags
     unfolding over row
     flags-is = cell-back 1 (o .flags) mem 80 (let h = f .flags in omega arith)
 
-    counter-is : field 14 H ≡ counter
+    counter-is : field counterField H ≡ counter
     unfolding over row
     counter-is = cell-back 1 counter mem 81 byte
 
-    init-is : not (eqb (field 16 H) 0) ≡ hasBits (o .inOpts)
+    init-is : not (eqb (field initializedField H) 0) ≡ hasBits (o .inOpts)
     unfolding over row
     init-is = ap (λ (v : ℕ). not (eqb v 0)) (cell-back 1 init mem 83 (yes-fits (hasBits (o .inOpts)))) ∙ yes-back (hasBits (o .inOpts))
 
@@ -136,7 +136,7 @@ module _ (next counter : ℕ) (o : Options) (mem : List ℕ) where
           low = omega (arith, next-is);
           top = omega (arith, next-is);
           bits =
-              (λ t. unknown (field 4 (headOf mem)) (record {
+              (λ t. unknown (field knownField (headOf mem)) (record {
                 inOpts = in-is t;
                 outOpts = out-is t;
                 mapping = record { internal = internal-is t; external = external-is t; range = range-is t };

@@ -8,6 +8,7 @@ use Rattle.rules.specs.Numbers.{maxName}
 use Rattle.le.specs.Mem.{bytesOf}
 use Rattle.rules.specs.Instance.{Options}
 use Rattle.rules.specs.Saved.{SavedNode, State}
+use Rattle.tables.specs.Layout.{counterField, inOptsField}
 use Rattle.tables.specs.Write.{putHeader, setNext, yesByte, appendNode}
 
 -- ---- the records
@@ -50,11 +51,11 @@ optionCells o =
 
 -- the options are the state's, with their own mapping (R34, R134)
 unfoldable pub setOptions : Options → List ℕ → List ℕ
-setOptions o mem = putHeader 5 (optionCells o) mem
+setOptions o mem = putHeader inOptsField (optionCells o) mem
 
 -- next number, options, counter, and whether in_opts has a bit; mask, mapping in force and remove flag stand between (R134)
 unfoldable pub setState : ℕ → ℕ → Options → List ℕ → List ℕ
-setState next counter o mem = putHeader 14 (bytesOf 1 counter ∷ [] ∷ bytesOf 1 (yesByte (hasBits (o .inOpts))) ∷ []) (setOptions o (setNext next mem))
+setState next counter o mem = putHeader counterField (bytesOf 1 counter ∷ [] ∷ bytesOf 1 (yesByte (hasBits (o .inOpts))) ∷ []) (setOptions o (setNext next mem))
 
 -- ---- both
 

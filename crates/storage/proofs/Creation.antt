@@ -14,7 +14,7 @@ use Rattle.rules.specs.Create.{Creation, tooSmall, badOptions, newInstance, cre
 use Rattle.rules.specs.Driven.{Driven, creation}
 use Rattle.rules.proofs.Ids.{within}
 use Rattle.tables.specs.Table.{putRow, tab}
-use Rattle.tables.specs.Layout.{mark}
+use Rattle.tables.specs.Layout.{mark, flagsField, markField}
 use Rattle.tables.specs.View.{nodesFrom, view}
 use Rattle.tables.specs.Rule.{laid}
 use Rattle.tables.specs.Write.{putHeader}
@@ -30,19 +30,19 @@ use Rattle.storage.proofs.Slots.{length-slots, slots-empty}
 
 pub words-put : (mem : List ℕ) (n known ins outs : ℕ) →
     put 8 (put 8 (put 8 (put 8 (put 8 (put 8 (put 8 mem 0 mark) 8 n) 16 0) 24 2) 32 known) 40 ins) 48 outs
-    ≡ putHeader 0 (bytesOf 8 mark ∷ bytesOf 8 n ∷ bytesOf 8 0 ∷ bytesOf 8 2 ∷ bytesOf 8 known ∷ bytesOf 8 ins ∷ bytesOf 8 outs ∷ []) mem
+    ≡ putHeader markField (bytesOf 8 mark ∷ bytesOf 8 n ∷ bytesOf 8 0 ∷ bytesOf 8 2 ∷ bytesOf 8 known ∷ bytesOf 8 ins ∷ bytesOf 8 outs ∷ []) mem
 unfolding put putHeader putRow
 words-put mem n known ins outs = refl
 
 pub bytes-put : (mem : List ℕ) (flags : ℕ) → put 8 (put 1 (put 1 (put 1 (put 1 mem 80 flags) 81 1) 82 0) 83 0) 88 0
-    ≡ putHeader 13 (bytesOf 1 flags ∷ bytesOf 1 1 ∷ bytesOf 1 0 ∷ bytesOf 1 0 ∷ bytesOf 8 0 ∷ []) mem
+    ≡ putHeader flagsField (bytesOf 1 flags ∷ bytesOf 1 1 ∷ bytesOf 1 0 ∷ bytesOf 1 0 ∷ bytesOf 8 0 ∷ []) mem
 unfolding put putHeader putRow
 bytes-put mem flags = refl
 
 pub all-put : (mem : List ℕ) (n known : ℕ) (o : VfsOptions) →
-    putHeader 13 (bytesOf 1 (o .flags) ∷ bytesOf 1 1 ∷ bytesOf 1 0 ∷ bytesOf 1 0 ∷ bytesOf 8 0 ∷ [])
+    putHeader flagsField (bytesOf 1 (o .flags) ∷ bytesOf 1 1 ∷ bytesOf 1 0 ∷ bytesOf 1 0 ∷ bytesOf 8 0 ∷ [])
     (put 4 (put 4 (put 4 (put 4 (put 4 (put 4
-    (putHeader 0 (bytesOf 8 mark ∷ bytesOf 8 n ∷ bytesOf 8 0 ∷ bytesOf 8 2 ∷ bytesOf 8 known ∷ bytesOf 8 (o .«in_opts») ∷ bytesOf 8 (o .«out_opts») ∷ []) (emptySlots mem))
+    (putHeader markField (bytesOf 8 mark ∷ bytesOf 8 n ∷ bytesOf 8 0 ∷ bytesOf 8 2 ∷ bytesOf 8 known ∷ bytesOf 8 (o .«in_opts») ∷ bytesOf 8 (o .«out_opts») ∷ []) (emptySlots mem))
     56 (o .«id_mapping» .internal)) 60 (o .«id_mapping» .external)) 64 (o .«id_mapping» .range)) 68 (o .«id_mapping» .internal)) 72 (o .«id_mapping» .external)) 76 (o .«id_mapping» .range))
     ≡ createMem (creationOf n known o) mem
 unfolding put putHeader putRow createMem spell headerOf newInstance

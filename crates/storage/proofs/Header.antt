@@ -13,7 +13,7 @@ use Rattle.rules.specs.Create.{unknown}
 use Rattle.rules.proofs.Ids.{within}
 use Rattle.rules.proofs.Fields.{length-bytesOf}
 use Rattle.tables.specs.Table.{Col}
-use Rattle.tables.specs.Layout.{header}
+use Rattle.tables.specs.Layout.{header, capacityField, countField, flagsField, markField, nextField, rootGidField, rootModeField, rootUidField}
 use Rattle.tables.specs.View.{field, mountFrom, slotsOf, nodesFrom, view}
 use Rattle.tables.specs.Rule.{laidBy, laid}
 use Rattle.tables.specs.Write.{putHeader}
@@ -56,7 +56,7 @@ module _ (i : Instance) (mem : List ℕ) (l : Limits i) (b : 256 ≤ length mem)
   H = over header (spell header vs) mem 0
 
   abbrev after : List ℕ
-  after = putHeader 0 (spell header vs) mem
+  after = putHeader markField (spell header vs) mem
 
   widths : Widths header vs
   unfolding headerOf
@@ -96,7 +96,7 @@ module _ (i : Instance) (mem : List ℕ) (l : Limits i) (b : 256 ≤ length mem)
         indexes = record { slots = slotsOf mem; counter = f 14 (omega arith) t };
         tree = record {
           next = f 3 (omega arith) t;
-          root = mountFrom (f 17 (omega arith) t) (field 18 H) (field 19 H) (field 20 H);
+          root = mountFrom (f 17 (omega arith) t) (field rootUidField H) (field rootGidField H) (field rootModeField H);
           nodes = nodesFrom (f 1 (omega arith) t) mem 0 (f 2 (omega arith) t);
         };
       })
@@ -105,10 +105,10 @@ module _ (i : Instance) (mem : List ℕ) (l : Limits i) (b : 256 ≤ length mem)
   unfolding laid headerOf
   laid-headed long =
       let f : (k : ℕ) → k < 18 → field k H ≡ getD vs k 0 = reads in
-      let n : field 1 H ≡ i .fixed .capacity = f 1 (omega arith) in
-      let c : field 2 H ≡ length (i .tree .nodes) = f 2 (omega arith) in
-      let x : field 3 H ≡ i .tree .next = f 3 (omega arith) in
-      let g : field 13 H ≡ i .options .flags = f 13 (omega arith) in
+      let n : field capacityField H ≡ i .fixed .capacity = f 1 (omega arith) in
+      let c : field countField H ≡ length (i .tree .nodes) = f 2 (omega arith) in
+      let x : field nextField H ≡ i .tree .next = f 3 (omega arith) in
+      let g : field flagsField H ≡ i .options .flags = f 13 (omega arith) in
       let size : length after ≡ length mem = length-header 0 (spell header vs) mem in
       ap₂ laidBy (head-put 0 (spell header vs) mem (spell-fits header vs) b) size
       ∙ is-ruled H (length mem) (record {

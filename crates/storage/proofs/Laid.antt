@@ -13,7 +13,7 @@ use Rattle.rules.specs.Outcome.{Outcome}
 use Rattle.rules.specs.Saved.{every}
 use Rattle.rules.proofs.Tests.{fails}
 use Rattle.tables.specs.Table.{row}
-use Rattle.tables.specs.Layout.{mark, capacityOf, countOf, nextOf}
+use Rattle.tables.specs.Layout.{mark, capacityOf, countOf, nextOf, mappingField}
 use Rattle.tables.specs.View.{mappingFrom, optionsFrom, headOf, view}
 use Rattle.tables.specs.Rule.{laidBy, laid, Bounds}
 use Rattle.tables.specs.Call.{Told, toldBy, toldSmall, answeredBy}
@@ -52,7 +52,7 @@ module _ (mem : List ℕ) where
 
   -- all but the last pass: it decides
   pub by-mapping : 8192 ≤ length mem → get 8 mem 0 ≡ mark → tooSmall (length mem) (capacityOf mem) ≡ false → countOf mem < capacityOf mem → 2 ≤ nextOf mem → nextOf mem ≤ 2 ^ 56
-      → badOptions (get 8 mem 32) (optionsFrom (headOf mem)) ≡ false → not (badMapping (mappingFrom 7 (headOf mem))) ≡ laid mem
+      → badOptions (get 8 mem 32) (optionsFrom (headOf mem)) ≡ false → not (badMapping (mappingFrom mappingField (headOf mem))) ≡ laid mem
   unfolding laid laidBy row get every
   by-mapping a b c d e f g =
       rw (le-leb 8192 (length mem) a, eq-eqb (get 8 mem 0) mark b, c, lt-ltb (countOf mem) (capacityOf mem) d, le-leb 2 (nextOf mem) e, le-leb (nextOf mem) (2 ^ 56) f, g, and-true)

@@ -15,7 +15,7 @@ use Rattle.rules.specs.Numbers.{storageFor}
 use Rattle.rules.specs.Tree.{Mount}
 use Rattle.rules.specs.Instance.{Slot, Instance, withTree, withSlots}
 use Rattle.tables.specs.Table.{tab}
-use Rattle.tables.specs.Layout.{header, slotTable}
+use Rattle.tables.specs.Layout.{header, slotTable, markField}
 use Rattle.tables.specs.View.{nodesFrom, view}
 use Rattle.tables.specs.Rule.{laid}
 use Rattle.tables.specs.Write.{fromPlace, putHeader, yesByte, setSlot, mountCells, setRootMount}
@@ -80,7 +80,7 @@ root-bytes m mem h = row-bytes header (fromPlace 17 (mountCells m)) mem 0 h (fro
     cells none = (number-bytes 8 0, omega arith)
     cells (some o) = (number-bytes 8 (o .index * 2 ^ 56 + o .root), (number-bytes 4 (o .uid), (number-bytes 4 (o .gid), (number-bytes 4 (o .mode), omega arith))))
 
-head-bytes : (i : Instance) (mem : List ℕ) → Bytes mem → Bytes (putHeader 0 (spell header (headerOf i)) mem)
+head-bytes : (i : Instance) (mem : List ℕ) → Bytes mem → Bytes (putHeader markField (spell header (headerOf i)) mem)
 unfolding putHeader
 head-bytes i mem h = row-bytes header (spell header (headerOf i)) mem 0 h (spell-bytes header (headerOf i))
 
@@ -92,7 +92,7 @@ onto i l =
     let ss = i .indexes .slots in
     let m₀ : List ℕ = replicate (storageFor n) 0 in
     let m₁ = putRows n ns 0 m₀ in
-    let m₂ = putHeader 0 (spell header (headerOf i)) m₁ in
+    let m₂ = putHeader markField (spell header (headerOf i)) m₁ in
     let m₃ = putSlots ss 0 m₂ in
     let m₄ = setRootMount (i .tree .root) m₃ in
     let size₀ : length m₀ ≡ storageFor n = length-replicate {A = ℕ} (storageFor n) 0 in

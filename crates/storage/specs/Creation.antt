@@ -10,7 +10,7 @@ use Rattle.rules.specs.Numbers.{DONE, SMALL, BADOPT, BADMAP}
 use Rattle.rules.specs.Instance.{heldBy, emptySlot, counterOf}
 use Rattle.rules.specs.Create.{Creation, newInstance, createRule}
 use Rattle.rules.specs.Driven.{Driven}
-use Rattle.tables.specs.Layout.{header}
+use Rattle.tables.specs.Layout.{header, markField}
 use Rattle.tables.specs.View.{view}
 use Rattle.tables.specs.Rule.{laid}
 use Rattle.tables.specs.Write.{putHeader}
@@ -42,7 +42,7 @@ emptySlots mem = write (write mem 256 (replicate 256 0)) 512 (replicate 1024 0)
 
 -- the bytes of a new instance: its slots and its header; all others keep what they held
 unfoldable pub createMem : Creation → List ℕ → List ℕ
-createMem q mem = putHeader 0 (spell header (headerOf (newInstance q))) (emptySlots mem)
+createMem q mem = putHeader markField (spell header (headerOf (newInstance q))) (emptySlots mem)
 
 -- the answer's number by the rule; the bytes exactly, as they were where it is refused; where it is done they keep the layout rule and stand for the new
 -- instance, whatever they held, and in particular each of the 256 slots is there and empty (past the end a held one would be read) and the counter is 1

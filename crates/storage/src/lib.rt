@@ -6,7 +6,7 @@ ghost use Prim.Native.Nat.{_+_, _*_, _≤_};
 ghost use lib.ListN.{length};
 ghost use Rattle.le.specs.Mem.{write, bytesOf};
 ghost use Rattle.rules.specs.Create.{tooSmall, badOptions};
-ghost use Rattle.tables.specs.Layout.{mark};
+ghost use Rattle.tables.specs.Layout.{mark, flagsField, markField};
 ghost use Rattle.tables.specs.Rule.{laid};
 ghost use Rattle.tables.specs.Write.{putHeader, setRemoval};
 ghost use Rattle.tables.specs.Call.{answeredBy, Does};
@@ -133,7 +133,7 @@ fn put_slots(s: &mut [u8])
 // The mark, N, no node, the first number, and the option bits.
 fn put_words(s: &mut [u8], n: u64, known: u64, in_opts: u64, out_opts: u64)
     requires { ⌜ 8192 ≤ length (now s) ⌝ }
-    ensures { λ _. ⌜ now (s .exit) ≡ putHeader 0 (bytesOf 8 mark ∷ bytesOf 8 n ∷ bytesOf 8 0 ∷ bytesOf 8 2 ∷ bytesOf 8 known ∷ bytesOf 8 «in_opts» ∷ bytesOf 8 «out_opts» ∷ []) (now (s .entry)) ⌝ }
+    ensures { λ _. ⌜ now (s .exit) ≡ putHeader markField (bytesOf 8 mark ∷ bytesOf 8 n ∷ bytesOf 8 0 ∷ bytesOf 8 2 ∷ bytesOf 8 known ∷ bytesOf 8 «in_opts» ∷ bytesOf 8 «out_opts» ∷ []) (now (s .entry)) ⌝ }
 {
     le::fields::put_u64(s, tables::header::MARK_AT, MARK);
     le::fields::put_u64(s, tables::header::CAPACITY_AT, n);
@@ -147,7 +147,7 @@ fn put_words(s: &mut [u8], n: u64, known: u64, in_opts: u64, out_opts: u64)
 // The flags, counter 1, removal unset, not initialized, no mount on the root.
 fn put_rest(s: &mut [u8], flags: u8)
     requires { ⌜ 8192 ≤ length (now s) ⌝ }
-    ensures { λ _. ⌜ now (s .exit) ≡ putHeader 13 (bytesOf 1 flags ∷ bytesOf 1 1 ∷ bytesOf 1 0 ∷ bytesOf 1 0 ∷ bytesOf 8 0 ∷ []) (now (s .entry)) ⌝ }
+    ensures { λ _. ⌜ now (s .exit) ≡ putHeader flagsField (bytesOf 1 flags ∷ bytesOf 1 1 ∷ bytesOf 1 0 ∷ bytesOf 1 0 ∷ bytesOf 8 0 ∷ []) (now (s .entry)) ⌝ }
 {
     le::fields::put_u8(s, tables::header::FLAGS_AT, flags);
     le::fields::put_u8(s, tables::header::COUNTER_AT, rules::FIRST_COUNTER);

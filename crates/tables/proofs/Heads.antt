@@ -7,7 +7,7 @@ use lib.ListN.{length}
 use Rattle.le.specs.Mem.{read, bytesOf}
 use Rattle.rules.proofs.Fields.{length-bytesOf}
 use Rattle.tables.specs.Table.{putRow, closeUp}
-use Rattle.tables.specs.Layout.{header, slotTable, nodeTable}
+use Rattle.tables.specs.Layout.{header, slotTable, nodeTable, capacityField, countField}
 use Rattle.tables.specs.View.{field, nodeFrom, slotFrom, instanceFrom, headOf, slotAt, nodeAt, slotsOf, nodesFrom, nodesOf, view}
 use Rattle.tables.specs.Write.{fromPlace, putHeader, setCount, setNext}
 use Rattle.tables.proofs.Tab.{tab-same}
@@ -55,12 +55,12 @@ module _ (k : ℕ) (xs : List (List ℕ)) (mem : List ℕ) (f : Fit header (from
   head-put l = put-same 1 0 (omega arith) header (fromPlace k xs) mem 0 header-ordered (omega arith) f
 
   -- a write into the header: the view is read off its cells
-  pub view-header : 256 ≤ length mem → view (putHeader k xs mem) ≡ instanceFrom H (slotsOf mem) (nodesFrom (field 1 H) mem 0 (field 2 H))
+  pub view-header : 256 ≤ length mem → view (putHeader k xs mem) ≡ instanceFrom H (slotsOf mem) (nodesFrom (field capacityField H) mem 0 (field countField H))
   unfolding view nodesOf
   view-header l =
       let h : headOf (putHeader k xs mem) ≡ H = head-put l in
-      let nodes : nodesFrom (field 1 (headOf (putHeader k xs mem))) (putHeader k xs mem) 0 (field 2 (headOf (putHeader k xs mem))) ≡ nodesFrom (field 1 H) mem 0 (field 2 H) =
-      nodes-kept (field 1 (headOf (putHeader k xs mem))) 0 (field 2 (headOf (putHeader k xs mem))) ∙ (λ t. nodesFrom (field 1 (h t)) mem 0 (field 2 (h t))) in
+      let nodes : nodesFrom (field capacityField (headOf (putHeader k xs mem))) (putHeader k xs mem) 0 (field countField (headOf (putHeader k xs mem))) ≡ nodesFrom (field capacityField H) mem 0 (field countField H) =
+      nodes-kept (field capacityField (headOf (putHeader k xs mem))) 0 (field countField (headOf (putHeader k xs mem))) ∙ (λ t. nodesFrom (field capacityField (h t)) mem 0 (field countField (h t))) in
       λ t. instanceFrom (h t) (slots-kept t) (nodes t)
 
 -- ---- the header while the rows above it change
@@ -91,12 +91,12 @@ module _ (k : ℕ) (xs : List (List ℕ)) (m′ mem : List ℕ) (f : Fit header 
   pub head-low : headOf (putHeader k xs m′) ≡ J
   head-low = head-put k xs m′ f (omega arith) ∙ over-low 1 header (fromPlace k xs) m′ mem 0 8192 (omega arith) (omega arith) f low
 
-  pub view-low : view (putHeader k xs m′) ≡ instanceFrom J (slotsOf mem) (nodesFrom (field 1 J) m′ 0 (field 2 J))
+  pub view-low : view (putHeader k xs m′) ≡ instanceFrom J (slotsOf mem) (nodesFrom (field capacityField J) m′ 0 (field countField J))
   view-low =
       let h : over header (fromPlace k xs) m′ 0 ≡ J = over-low 1 header (fromPlace k xs) m′ mem 0 8192 (omega arith) (omega arith) f low in
-      view-header k xs m′ f (omega arith) ∙ (λ t. instanceFrom (h t) (low-slots m′ mem low t) (nodesFrom (field 1 (h t)) m′ 0 (field 2 (h t))))
+      view-header k xs m′ f (omega arith) ∙ (λ t. instanceFrom (h t) (low-slots m′ mem low t) (nodesFrom (field capacityField (h t)) m′ 0 (field countField (h t))))
 
-pub two-fields : (c x : ℕ) (mem : List ℕ) → setNext x (setCount c mem) ≡ putHeader 2 (bytesOf 8 c ∷ bytesOf 8 x ∷ []) mem
+pub two-fields : (c x : ℕ) (mem : List ℕ) → setNext x (setCount c mem) ≡ putHeader countField (bytesOf 8 c ∷ bytesOf 8 x ∷ []) mem
 unfolding setNext setCount putHeader putRow
 two-fields c x mem = refl
 

@@ -17,7 +17,7 @@ use Rattle.rules.proofs.Fields.{length-bytesOf}
 use Rattle.rules.proofs.Create.{large-enough, is-large-enough, options-known, known-options}
 use Rattle.rules.proofs.Tests.{pass, passed}
 use Rattle.tables.specs.Table.{row, putRow}
-use Rattle.tables.specs.Layout.{header, slotTable, nodeTable, mark, capacityOf, countOf, nextOf}
+use Rattle.tables.specs.Layout.{header, slotTable, nodeTable, mark, capacityOf, countOf, nextOf, capacityField, countField, flagsField, knownField, mappingField, markField, nextField}
 use Rattle.tables.specs.View.{field, mappingFrom, optionsFrom, headOf, nodesOf}
 use Rattle.tables.specs.Rule.{laidBy, laid, Bounds}
 use Rattle.tables.specs.Write.{fromPlace, putHeader, setCount, setNext, setCounter, setRemoval, yesByte, setSlot, mountCells, rowMountCells, setRootMount, setRowMount, appendNode, removeRow}
@@ -39,25 +39,25 @@ pub record Sized (marker n bytes : ℕ) : Type 0 where
   pub enough : 512 * n + 8192 ≤ bytes
 
 pub record Ruled (h : List (List ℕ)) (bytes : ℕ) : Type 0 where
-  pub size : Sized (field 0 h) (field 1 h) bytes
-  pub live : field 2 h < field 1 h
-  pub low : 2 ≤ field 3 h
-  pub top : field 3 h ≤ 2 ^ 56
-  pub bits : unknown (field 4 h) (optionsFrom h) ≡ false
-  pub flags : field 13 h < 64
-  pub maps : badMapping (mappingFrom 7 h) ≡ false
+  pub size : Sized (field markField h) (field capacityField h) bytes
+  pub live : field countField h < field capacityField h
+  pub low : 2 ≤ field nextField h
+  pub top : field nextField h ≤ 2 ^ 56
+  pub bits : unknown (field knownField h) (optionsFrom h) ≡ false
+  pub flags : field flagsField h < 64
+  pub maps : badMapping (mappingFrom mappingField h) ≡ false
 
 ruled : (h : List (List ℕ)) (bytes : ℕ) → laidBy h bytes ≡ true → Ruled h bytes
 unfolding laidBy
 ruled h bytes e =
     let t = passed _ e in
-    let s = large-enough bytes (field 1 h) (not-true _ (t .1 .1 .0)) in
-    let o = options-known (field 4 h) (optionsFrom h) (not-true _ (t .1 .1 .1 .1 .1 .1 .0)) in
+    let s = large-enough bytes (field capacityField h) (not-true _ (t .1 .1 .0)) in
+    let o = options-known (field knownField h) (optionsFrom h) (not-true _ (t .1 .1 .1 .1 .1 .1 .0)) in
     record {
-      size = record { long = leb-true 8192 bytes (t .0); marked = eqb-true (field 0 h) mark (t .1 .0); some-node = s .0; few-nodes = s .1; enough = s .2 };
-      live = ltb-true (field 2 h) (field 1 h) (t .1 .1 .1 .0);
-      low = leb-true 2 (field 3 h) (t .1 .1 .1 .1 .0);
-      top = leb-true (field 3 h) (2 ^ 56) (t .1 .1 .1 .1 .1 .0);
+      size = record { long = leb-true 8192 bytes (t .0); marked = eqb-true (field markField h) mark (t .1 .0); some-node = s .0; few-nodes = s .1; enough = s .2 };
+      live = ltb-true (field countField h) (field capacityField h) (t .1 .1 .1 .0);
+      low = leb-true 2 (field nextField h) (t .1 .1 .1 .1 .0);
+      top = leb-true (field nextField h) (2 ^ 56) (t .1 .1 .1 .1 .1 .0);
       bits = o .0;
       flags = o .1;
       maps = not-true _ (t .1 .1 .1 .1 .1 .1 .1 .0);
@@ -66,13 +66,13 @@ ruled h bytes e =
 pub is-ruled : (h : List (List ℕ)) (bytes : ℕ) → Ruled h bytes → laidBy h bytes ≡ true
 unfolding laidBy
 is-ruled h bytes r =
-    let s = is-large-enough bytes (field 1 h) (r .size .some-node) (r .size .few-nodes) (r .size .enough) in
-    let o = known-options (field 4 h) (optionsFrom h) (r .bits) (r .flags) in
+    let s = is-large-enough bytes (field capacityField h) (r .size .some-node) (r .size .few-nodes) (r .size .enough) in
+    let o = known-options (field knownField h) (optionsFrom h) (r .bits) (r .flags) in
     pass _ (
       le-leb 8192 bytes (r .size .long),
       (
-        eq-eqb (field 0 h) mark (r .size .marked),
-        (rw s, (lt-ltb (field 2 h) (field 1 h) (r .live), (le-leb 2 (field 3 h) (r .low), (le-leb (field 3 h) (2 ^ 56) (r .top), (rw o, (rw (r .maps), tt)))))),
+        eq-eqb (field markField h) mark (r .size .marked),
+        (rw s, (lt-ltb (field countField h) (field capacityField h) (r .live), (le-leb 2 (field nextField h) (r .low), (le-leb (field nextField h) (2 ^ 56) (r .top), (rw o, (rw (r .maps), tt)))))),
       ),
     )
 

@@ -14,7 +14,7 @@ use Rattle.rules.proofs.Tests.{le-or-lt}
 use Rattle.rules.specs.Tree.{Mount, Node, bare, withMount}
 use Rattle.rules.specs.Instance.{withCounter, withSlot, withTree, removing, grown}
 use Rattle.tables.specs.Table.{row, putRow, closeUp, tab}
-use Rattle.tables.specs.Layout.{header, slotTable, nodeTable, capacityOf, countOf, nextOf}
+use Rattle.tables.specs.Layout.{header, slotTable, nodeTable, capacityOf, countOf, nextOf, capacityField, countField}
 use Rattle.tables.specs.View.{field, mountFrom, nodeFrom, slotFrom, instanceFrom, headOf, slotAt, nodeAt, slotsOf, nodesFrom, nodesOf, view}
 use Rattle.tables.specs.Write.{fromPlace, setCount, setCounter, setRemoval, yesByte, setSlot, mountCells, rowMountCells, MayFit, setRootMount, setRowMount, nodeCells, appendNode, removeRow}
 use Rattle.tables.proofs.Tab.{removeAt, tab-same, tab-set, tab-append, tab-remove}
@@ -80,8 +80,8 @@ module _ (k : ℕ) (h : k < 256) (held : Bool) (tag : ℕ) (mem : List ℕ) (t :
   unfolding view nodesOf
   view-slot =
       let m′ = setSlot k held tag mem in
-      let nodes : nodesFrom (field 1 (headOf m′)) m′ 0 (field 2 (headOf m′)) ≡ nodesFrom (field 1 (headOf mem)) mem 0 (field 2 (headOf mem)) =
-      slot-nodes (field 1 (headOf m′)) 0 (field 2 (headOf m′)) ∙ (λ i. nodesFrom (field 1 (slot-head i)) mem 0 (field 2 (slot-head i))) in
+      let nodes : nodesFrom (field capacityField (headOf m′)) m′ 0 (field countField (headOf m′)) ≡ nodesFrom (field capacityField (headOf mem)) mem 0 (field countField (headOf mem)) =
+      slot-nodes (field capacityField (headOf m′)) 0 (field countField (headOf m′)) ∙ (λ i. nodesFrom (field capacityField (slot-head i)) mem 0 (field countField (slot-head i))) in
       λ i. instanceFrom (slot-head i) (slots-set i) (nodes i)
 
 -- ---- a row
@@ -195,7 +195,7 @@ module _ (mem : List ℕ) (d : Bounds mem) where
       let heads : headOf m′ ≡ headOf mem = low-head m′ mem low in
       let nodes : nodesFrom n m′ 0 c ≡ set (nodesFrom n mem 0 c) i (withMount m (nodeAt n mem i)) =
       nodes-set n cells mem i below fit (d .long) c h (omega (arith, d .live)) ∙ ap (set (nodesFrom n mem 0 c) i) (mount-written m n mem i f) in
-      let all : nodesFrom (field 1 (headOf m′)) m′ 0 (field 2 (headOf m′)) ≡ nodesFrom n m′ 0 c = λ t. nodesFrom (field 1 (heads t)) m′ 0 (field 2 (heads t)) in
+      let all : nodesFrom (field capacityField (headOf m′)) m′ 0 (field countField (headOf m′)) ≡ nodesFrom n m′ 0 c = λ t. nodesFrom (field capacityField (heads t)) m′ 0 (field countField (heads t)) in
       λ t. instanceFrom (heads t) (low-slots m′ mem low t) ((all ∙ nodes) t)
 
   pub view-root-mount : (m : Option Mount) → MayFit m → view (setRootMount m mem) ≡ withTree (record { next = view mem .tree .next; root = m; nodes = view mem .tree .nodes }) (view mem)

@@ -12,79 +12,277 @@ mark = 5927113483044536647
 abbrev pub tableAt : ℕ
 tableAt = 8192
 
--- the header's fields, each a column of one cell
+-- ---- the header: the place of each field, and its number among them
+
+-- the mark
+abbrev pub markAt : ℕ
+markAt = 0
+
+abbrev pub markField : ℕ
+markField = 0
+
+-- N (R9)
+abbrev pub capacityAt : ℕ
+capacityAt = 8
+
+abbrev pub capacityField : ℕ
+capacityField = 1
+
+-- the nodes besides the root (R51)
+abbrev pub countAt : ℕ
+countAt = 16
+
+abbrev pub countField : ℕ
+countField = 2
+
+-- the next number (R49)
+abbrev pub nextAt : ℕ
+nextAt = 24
+
+abbrev pub nextField : ℕ
+nextField = 3
+
+-- the known option bits (R26)
+abbrev pub knownAt : ℕ
+knownAt = 32
+
+abbrev pub knownField : ℕ
+knownField = 4
+
+-- in_opts
+abbrev pub inOptsAt : ℕ
+inOptsAt = 40
+
+abbrev pub inOptsField : ℕ
+inOptsField = 5
+
+-- out_opts
+abbrev pub outOptsAt : ℕ
+outOptsAt = 48
+
+abbrev pub outOptsField : ℕ
+outOptsField = 6
+
+-- the mapping in force: internal, and behind it external and range (R34)
+abbrev pub mappingAt : ℕ
+mappingAt = 56
+
+abbrev pub mappingField : ℕ
+mappingField = 7
+
+abbrev pub externalAt : ℕ
+externalAt = 60
+
+abbrev pub rangeAt : ℕ
+rangeAt = 64
+
+-- the options' own mapping: internal, and behind it external and range (R34)
+abbrev pub ownMappingAt : ℕ
+ownMappingAt = 68
+
+abbrev pub ownMappingField : ℕ
+ownMappingField = 10
+
+abbrev pub ownExternalAt : ℕ
+ownExternalAt = 72
+
+abbrev pub ownExternalField : ℕ
+ownExternalField = 11
+
+abbrev pub ownRangeAt : ℕ
+ownRangeAt = 76
+
+abbrev pub ownRangeField : ℕ
+ownRangeField = 12
+
+-- the flags
+abbrev pub flagsAt : ℕ
+flagsAt = 80
+
+abbrev pub flagsField : ℕ
+flagsField = 13
+
+-- the counter (R80)
+abbrev pub counterAt : ℕ
+counterAt = 81
+
+abbrev pub counterField : ℕ
+counterField = 14
+
+-- the remove flag (R32)
+abbrev pub removalAt : ℕ
+removalAt = 82
+
+abbrev pub removalField : ℕ
+removalField = 15
+
+-- initialized
+abbrev pub initializedAt : ℕ
+initializedAt = 83
+
+abbrev pub initializedField : ℕ
+initializedField = 16
+
+-- the root's mount: its cell, and behind it uid, gid and mode (R5)
+abbrev pub rootCellAt : ℕ
+rootCellAt = 88
+
+abbrev pub rootCellField : ℕ
+rootCellField = 17
+
+abbrev pub rootUidAt : ℕ
+rootUidAt = 96
+
+abbrev pub rootUidField : ℕ
+rootUidField = 18
+
+abbrev pub rootGidAt : ℕ
+rootGidAt = 100
+
+abbrev pub rootGidField : ℕ
+rootGidField = 19
+
+abbrev pub rootModeAt : ℕ
+rootModeAt = 104
+
+abbrev pub rootModeField : ℕ
+rootModeField = 20
+
+-- all of them, each a column of one cell
 abbrev pub header : List Col
 header =
-    -- mark, N, nodes besides the root, next number
-    col 0 8
-    ∷ col 8 8
-    ∷ col 16 8
-    ∷ col 24 8
-    -- known option bits, in_opts, out_opts
-    ∷ col 32 8
-    ∷ col 40 8
-    ∷ col 48 8
-    -- the mapping in force: internal, external, range
-    ∷ col 56 4
-    ∷ col 60 4
-    ∷ col 64 4
-    -- the options' own mapping: internal, external, range
-    ∷ col 68 4
-    ∷ col 72 4
-    ∷ col 76 4
-    -- flags, counter, remove flag, initialized
-    ∷ col 80 1
-    ∷ col 81 1
-    ∷ col 82 1
-    ∷ col 83 1
-    -- the root's mount: cell, uid, gid, mode
-    ∷ col 88 8
-    ∷ col 96 4
-    ∷ col 100 4
-    ∷ col 104 4
+    col markAt 8
+    ∷ col capacityAt 8
+    ∷ col countAt 8
+    ∷ col nextAt 8
+    ∷ col knownAt 8
+    ∷ col inOptsAt 8
+    ∷ col outOptsAt 8
+    ∷ col mappingAt 4
+    ∷ col externalAt 4
+    ∷ col rangeAt 4
+    ∷ col ownMappingAt 4
+    ∷ col ownExternalAt 4
+    ∷ col ownRangeAt 4
+    ∷ col flagsAt 1
+    ∷ col counterAt 1
+    ∷ col removalAt 1
+    ∷ col initializedAt 1
+    ∷ col rootCellAt 8
+    ∷ col rootUidAt 4
+    ∷ col rootGidAt 4
+    ∷ col rootModeAt 4
     ∷ []
 
--- the slots: occupancy, tag
-abbrev pub slotTable : List Col
-slotTable = col 256 1 ∷ col 512 4 ∷ []
+-- ---- the slots: occupancy and tag (R56)
 
--- the nodes: number, parent, mount cell, name's length and last bytes, uid, gid, mode, the name's first bytes
+abbrev pub heldAt : ℕ
+heldAt = 256
+
+abbrev pub heldColumn : ℕ
+heldColumn = 0
+
+abbrev pub tagsAt : ℕ
+tagsAt = 512
+
+abbrev pub tagColumn : ℕ
+tagColumn = 1
+
+abbrev pub slotTable : List Col
+slotTable = col heldAt 1 ∷ col tagsAt 4 ∷ []
+
+-- ---- the nodes, in a table of n rows: where each column begins, and its number among them
+
+-- the number
+abbrev pub numbers : ℕ → ℕ
+numbers n = tableAt
+
+abbrev pub numberColumn : ℕ
+numberColumn = 0
+
+-- the parent
+abbrev pub parents : ℕ → ℕ
+parents n = tableAt + 8 * n
+
+abbrev pub parentColumn : ℕ
+parentColumn = 1
+
+-- the mount's cell
+abbrev pub mounts : ℕ → ℕ
+mounts n = tableAt + 16 * n
+
+abbrev pub mountColumn : ℕ
+mountColumn = 2
+
+-- the name's length and last bytes (R10)
+abbrev pub lasts : ℕ → ℕ
+lasts n = tableAt + 24 * n
+
+abbrev pub lastColumn : ℕ
+lastColumn = 3
+
+-- uid, gid and mode of the mount
+abbrev pub uids : ℕ → ℕ
+uids n = tableAt + 32 * n
+
+abbrev pub uidColumn : ℕ
+uidColumn = 4
+
+abbrev pub gids : ℕ → ℕ
+gids n = tableAt + 36 * n
+
+abbrev pub gidColumn : ℕ
+gidColumn = 5
+
+abbrev pub modes : ℕ → ℕ
+modes n = tableAt + 40 * n
+
+abbrev pub modeColumn : ℕ
+modeColumn = 6
+
+-- the name's first bytes (R10)
+abbrev pub firsts : ℕ → ℕ
+firsts n = tableAt + 44 * n
+
+abbrev pub firstColumn : ℕ
+firstColumn = 7
+
 abbrev pub nodeTable : ℕ → List Col
 nodeTable n =
-    col tableAt 8
-    ∷ col (tableAt + 8 * n) 8
-    ∷ col (tableAt + 16 * n) 8
-    ∷ col (tableAt + 24 * n) 8
-    ∷ col (tableAt + 32 * n) 4
-    ∷ col (tableAt + 36 * n) 4
-    ∷ col (tableAt + 40 * n) 4
-    ∷ col (tableAt + 44 * n) 248
+    col (numbers n) 8
+    ∷ col (parents n) 8
+    ∷ col (mounts n) 8
+    ∷ col (lasts n) 8
+    ∷ col (uids n) 4
+    ∷ col (gids n) 4
+    ∷ col (modes n) 4
+    ∷ col (firsts n) 248
     ∷ []
 
 -- ---- the header's numbers
 
 -- N (R9)
 abbrev pub capacityOf : List ℕ → ℕ
-capacityOf mem = get 8 mem 8
+capacityOf mem = get 8 mem capacityAt
 
 -- the nodes besides the root (R51)
 abbrev pub countOf : List ℕ → ℕ
-countOf mem = get 8 mem 16
+countOf mem = get 8 mem countAt
 
 -- the next number (R49)
 abbrev pub nextOf : List ℕ → ℕ
-nextOf mem = get 8 mem 24
+nextOf mem = get 8 mem nextAt
 
 -- the counter (R80)
 abbrev pub counterByte : List ℕ → ℕ
-counterByte mem = get 1 mem 81
+counterByte mem = get 1 mem counterAt
 
 -- ---- where the name of row i stands, in a table of N rows
 
 -- its length and last bytes
 abbrev pub lastAt : ℕ → ℕ → ℕ
-lastAt n i = tableAt + 24 * n + 8 * i
+lastAt n i = lasts n + 8 * i
 
 -- the bytes before those
 abbrev pub firstAt : ℕ → ℕ → ℕ
-firstAt n i = tableAt + 44 * n + 248 * i
+firstAt n i = firsts n + 248 * i

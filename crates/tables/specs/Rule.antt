@@ -8,7 +8,7 @@ use Rattle.rules.specs.Numbers.{firstNumber, maxNodes, topNumber, storageFor}
 use Rattle.rules.specs.Ids.{badMapping}
 use Rattle.rules.specs.Create.{tooSmall, badOptions}
 use Rattle.rules.specs.Saved.{every}
-use Rattle.tables.specs.Layout.{mark, tableAt, capacityOf, countOf, nextOf}
+use Rattle.tables.specs.Layout.{mark, tableAt, capacityOf, countOf, nextOf, capacityField, countField, knownField, mappingField, markField, nextField}
 use Rattle.tables.specs.View.{field, mappingFrom, optionsFrom, headOf}
 
 -- of the header's cells and the number of bytes: header and slots have room, the mark stands, the root and the nodes are at most N, the next number is within its limits; and N, the number of
@@ -17,13 +17,13 @@ unfoldable pub laidBy : List (List ℕ) → ℕ → Bool
 laidBy h bytes =
     every
     (leb tableAt bytes
-    ∷ eqb (field 0 h) mark
-    ∷ not (tooSmall bytes (field 1 h))
-    ∷ ltb (field 2 h) (field 1 h)
-    ∷ leb firstNumber (field 3 h)
-    ∷ leb (field 3 h) topNumber
-    ∷ not (badOptions (field 4 h) (optionsFrom h))
-    ∷ not (badMapping (mappingFrom 7 h))
+    ∷ eqb (field markField h) mark
+    ∷ not (tooSmall bytes (field capacityField h))
+    ∷ ltb (field countField h) (field capacityField h)
+    ∷ leb firstNumber (field nextField h)
+    ∷ leb (field nextField h) topNumber
+    ∷ not (badOptions (field knownField h) (optionsFrom h))
+    ∷ not (badMapping (mappingFrom mappingField h))
     ∷ [])
 
 -- of the bytes (R21)

@@ -10,7 +10,7 @@ use Rattle.rules.specs.Ids.{Mapping}
 use Rattle.rules.specs.Tree.{Mount, Node}
 use Rattle.rules.specs.Instance.{Options, Slot, Instance}
 use Rattle.tables.specs.Table.{row, tab}
-use Rattle.tables.specs.Layout.{header, slotTable, nodeTable}
+use Rattle.tables.specs.Layout.{header, slotTable, nodeTable, capacityField, countField, counterField, firstColumn, flagsField, gidColumn, heldColumn, inOptsField, initializedField, knownField, lastColumn, mappingField, modeColumn, mountColumn, nextField, numberColumn, outOptsField, ownMappingField, parentColumn, removalField, rootCellField, rootGidField, rootModeField, rootUidField, tagColumn, uidColumn}
 
 -- cell k of a row
 abbrev pub cell : ℕ → List (List ℕ) → List ℕ
@@ -37,15 +37,15 @@ nameFrom (l ∷ last) first = take (l - 7) first ++ take (min l 7) last
 -- a row: node numbers are read modulo 2^56 (R5)
 unfoldable pub nodeFrom : List (List ℕ) → Node
 nodeFrom r = record {
-  number = field 0 r % 2 ^ 56;
-  above = field 1 r % 2 ^ 56;
-  called = nameFrom (cell 3 r) (cell 7 r);
-  mount = mountFrom (field 2 r) (field 4 r) (field 5 r) (field 6 r);
+  number = field numberColumn r % 2 ^ 56;
+  above = field parentColumn r % 2 ^ 56;
+  called = nameFrom (cell lastColumn r) (cell firstColumn r);
+  mount = mountFrom (field mountColumn r) (field uidColumn r) (field gidColumn r) (field modeColumn r);
 }
 
 -- a slot (R56)
 unfoldable pub slotFrom : List (List ℕ) → Slot
-slotFrom r = record { held = flag 0 r; tag = field 1 r }
+slotFrom r = record { held = flag heldColumn r; tag = field tagColumn r }
 
 -- the mapping in three fields from the k-th on (R27)
 abbrev pub mappingFrom : ℕ → List (List ℕ) → Mapping
@@ -57,17 +57,17 @@ mappingAt mem at = record { internal = get 4 mem at; external = get 4 mem (at + 
 
 -- the options, with their own mapping (R27, R34)
 abbrev pub optionsFrom : List (List ℕ) → Options
-optionsFrom h = record { inOpts = field 5 h; outOpts = field 6 h; mapping = mappingFrom 10 h; flags = field 13 h }
+optionsFrom h = record { inOpts = field inOptsField h; outOpts = field outOptsField h; mapping = mappingFrom ownMappingField h; flags = field flagsField h }
 
 -- the instance, by the header's cells, the slots and the nodes
 abbrev pub instanceFrom : List (List ℕ) → List Slot → List Node → Instance
 instanceFrom h slots nodes = record {
-  fixed = record { capacity = field 1 h; known = field 4 h; mapping = mappingFrom 7 h };
-  removal = flag 15 h;
-  initialized = flag 16 h;
+  fixed = record { capacity = field capacityField h; known = field knownField h; mapping = mappingFrom mappingField h };
+  removal = flag removalField h;
+  initialized = flag initializedField h;
   options = optionsFrom h;
-  indexes = record { slots = slots; counter = field 14 h };
-  tree = record { next = field 3 h; root = mountFrom (field 17 h) (field 18 h) (field 19 h) (field 20 h); nodes = nodes };
+  indexes = record { slots = slots; counter = field counterField h };
+  tree = record { next = field nextField h; root = mountFrom (field rootCellField h) (field rootUidField h) (field rootGidField h) (field rootModeField h); nodes = nodes };
 }
 
 -- ---- of the memory
@@ -94,7 +94,7 @@ nodesFrom n mem i k = tab (nodeAt n mem) i k
 
 -- all nodes, in table order (R44)
 unfoldable pub nodesOf : List ℕ → List Node
-nodesOf mem = nodesFrom (field 1 (headOf mem)) mem 0 (field 2 (headOf mem))
+nodesOf mem = nodesFrom (field capacityField (headOf mem)) mem 0 (field countField (headOf mem))
 
 -- the instance that the bytes stand for
 unfoldable pub view : List ℕ → Instance

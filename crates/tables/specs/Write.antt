@@ -8,7 +8,7 @@ use Rattle.le.specs.Mem.{bytesOf, put}
 use Rattle.rules.specs.Ids.{Mapping}
 use Rattle.rules.specs.Tree.{Mount}
 use Rattle.tables.specs.Table.{putRow, closeUp}
-use Rattle.tables.specs.Layout.{header, slotTable, nodeTable, capacityOf, countOf, nextOf}
+use Rattle.tables.specs.Layout.{header, slotTable, nodeTable, capacityOf, countOf, nextOf, countField, counterField, nextField, removalField, rootCellField}
 
 -- ---- the header
 
@@ -22,19 +22,19 @@ putHeader k xs mem = putRow header (fromPlace k xs) mem 0
 
 -- the nodes besides the root
 unfoldable pub setCount : ℕ → List ℕ → List ℕ
-setCount c mem = putHeader 2 (bytesOf 8 c ∷ []) mem
+setCount c mem = putHeader countField (bytesOf 8 c ∷ []) mem
 
 -- the next number
 unfoldable pub setNext : ℕ → List ℕ → List ℕ
-setNext x mem = putHeader 3 (bytesOf 8 x ∷ []) mem
+setNext x mem = putHeader nextField (bytesOf 8 x ∷ []) mem
 
 -- the counter
 unfoldable pub setCounter : ℕ → List ℕ → List ℕ
-setCounter c mem = putHeader 14 (bytesOf 1 c ∷ []) mem
+setCounter c mem = putHeader counterField (bytesOf 1 c ∷ []) mem
 
 -- the remove flag is set (R32)
 unfoldable pub setRemoval : List ℕ → List ℕ
-setRemoval mem = putHeader 15 (bytesOf 1 1 ∷ []) mem
+setRemoval mem = putHeader removalField (bytesOf 1 1 ∷ []) mem
 
 -- a mapping at a place (R27)
 abbrev pub putMapping : Mapping → ℕ → List ℕ → List ℕ
@@ -80,7 +80,7 @@ MayFit (some m) = MountFits m
 
 -- the mount of the root (R76, R98)
 unfoldable pub setRootMount : Option Mount → List ℕ → List ℕ
-setRootMount m mem = putHeader 17 (mountCells m) mem
+setRootMount m mem = putHeader rootCellField (mountCells m) mem
 
 -- the mount of row i (R76, R98)
 unfoldable pub setRowMount : Option Mount → ℕ → List ℕ → List ℕ

@@ -3,7 +3,7 @@ ghost use mathlib.Core.Path.{_≡_};
 ghost use Prim.Native.Nat.{_+_, _≤_};
 ghost use lib.ListN.{length};
 ghost use Rattle.id_map.specs.Mapping.{mappingOf};
-ghost use Rattle.tables.specs.Layout.{capacityOf, countOf, nextOf, counterByte};
+ghost use Rattle.tables.specs.Layout.{capacityOf, countOf, nextOf, counterByte, mappingField, removalField};
 ghost use Rattle.tables.specs.View.{flag, mappingFrom, mappingAt, headOf};
 ghost use Rattle.tables.specs.Rule.{Bounds};
 ghost use Rattle.tables.specs.Write.{setCounter, setRemoval, putMapping};
@@ -88,7 +88,7 @@ pub fn set_counter(s: &mut [u8], c: u8)
 // Whether an unmount takes its node out of the tree (R32).
 pub fn removes(s: &[u8]) -> bool
     requires { ⌜ 8192 ≤ length (now s) ⌝ }
-    ensures { λ r. ⌜ r ≡ flag 15 (headOf (now (s .entry))) ⌝ }
+    ensures { λ r. ⌜ r ≡ flag removalField (headOf (now (s .entry))) ⌝ }
 {
     le::fields::get_u8(s, REMOVAL_AT) != 0
 }
@@ -126,7 +126,7 @@ pub fn put_mapping(s: &mut [u8], at: usize, m: id_map::IdMapping)
 // The mapping in force (R34).
 pub fn mapping(s: &[u8]) -> id_map::IdMapping
     requires { ⌜ 8192 ≤ length (now s) ⌝ }
-    ensures { λ r. ⌜ mappingOf r ≡ mappingFrom 7 (headOf (now (s .entry))) ⌝ }
+    ensures { λ r. ⌜ mappingOf r ≡ mappingFrom mappingField (headOf (now (s .entry))) ⌝ }
 {
     mapping_at(s, MAPPING_AT)
 }

@@ -11,7 +11,7 @@ use Rattle.rules.specs.Numbers.{rootNumber}
 use Rattle.rules.specs.Tree.{Mount}
 use Rattle.rules.specs.Instance.{mountOf}
 use Rattle.tables.specs.Table.{row}
-use Rattle.tables.specs.Layout.{nodeTable, capacityOf}
+use Rattle.tables.specs.Layout.{nodeTable, capacityOf, gidColumn, modeColumn, mountColumn, rootCellField, rootGidField, rootModeField, rootUidField, uidColumn}
 use Rattle.tables.specs.View.{field, mountFrom, nodeFrom, headOf, nodeAt, nodesOf, view}
 use Rattle.tables.specs.Answer.{placeIn}
 use Rattle.tables.proofs.Spells.{from-word}
@@ -29,13 +29,13 @@ module _ (mem : List ℕ) where
   unfolding view
   root-low =
       let h = headOf mem in
-      from-low (field 17 h) (field 18 h) (field 19 h) (field 20 h)
+      from-low (field rootCellField h) (field rootUidField h) (field rootGidField h) (field rootModeField h)
 
   row-low : (i : ℕ) → LowRoot (nodeAt (capacityOf mem) mem i .mount)
   unfolding nodeAt nodeFrom
   row-low i =
       let r = row (nodeTable (capacityOf mem)) mem i in
-      from-low (field 2 r) (field 4 r) (field 5 r) (field 6 r)
+      from-low (field mountColumn r) (field uidColumn r) (field gidColumn r) (field modeColumn r)
 
   node-low : (x : ℕ) → LowRoot (mountOf (view mem .tree) x)
   node-low x = go (eqb x rootNumber) refl (placeIn (nodesOf mem) x) refl

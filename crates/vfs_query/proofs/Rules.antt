@@ -14,6 +14,7 @@ use Rattle.rules.specs.Outcome.{toTree, rootfs, refused, says, firstOf}
 use Rattle.rules.specs.Lookup.{routeTag, routeTree, routeRule, remapped}
 use Rattle.rules.specs.Unmount.{badPath, reached, mountUnder, rootHeld, rootAt, rootRule}
 use Rattle.rules.proofs.Ids.{wrapped-is-whole}
+use Rattle.tables.specs.Layout.{mappingField}
 use Rattle.tables.specs.View.{mappingFrom, headOf, slotAt, view}
 use Rattle.tables.specs.Rule.{laid}
 use Rattle.tables.specs.Answer.{tagIn}
@@ -87,7 +88,7 @@ module _ (i : Instance) (p : List ℕ) where
 
 -- ---- ids: the mapping in force, m, passes its test, so what wraps is the formula in whole numbers
 
-module _ (mem : List ℕ) (e : laid mem ≡ true) (id : ℕ) (low : id < 2 ^ 32) (m : Mapping) (r : ℕ) (f : m ≡ mappingFrom 7 (headOf mem)) where
+module _ (mem : List ℕ) (e : laid mem ≡ true) (id : ℕ) (low : id < 2 ^ 32) (m : Mapping) (r : ℕ) (f : m ≡ mappingFrom mappingField (headOf mem)) where
   whole : (wrapped m id ≡ mapped m id) × (unwrapped m id ≡ unmapped m id)
   whole = wrapped-is-whole m id (ap badMapping f ∙ good-mapping mem e) low
 
