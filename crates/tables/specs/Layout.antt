@@ -64,8 +64,8 @@ abbrev pub outOptsField : ℕ
 outOptsField = 6
 
 -- the mapping in force: internal, and behind it external and range (R34)
-abbrev pub mappingAt : ℕ
-mappingAt = 56
+abbrev pub internalAt : ℕ
+internalAt = 56
 
 abbrev pub mappingField : ℕ
 mappingField = 7
@@ -77,8 +77,8 @@ abbrev pub rangeAt : ℕ
 rangeAt = 64
 
 -- the options' own mapping: internal, and behind it external and range (R34)
-abbrev pub ownMappingAt : ℕ
-ownMappingAt = 68
+abbrev pub ownInternalAt : ℕ
+ownInternalAt = 68
 
 abbrev pub ownMappingField : ℕ
 ownMappingField = 10
@@ -158,10 +158,10 @@ header =
     ∷ col knownAt 8
     ∷ col inOptsAt 8
     ∷ col outOptsAt 8
-    ∷ col mappingAt 4
+    ∷ col internalAt 4
     ∷ col externalAt 4
     ∷ col rangeAt 4
-    ∷ col ownMappingAt 4
+    ∷ col ownInternalAt 4
     ∷ col ownExternalAt 4
     ∷ col ownRangeAt 4
     ∷ col flagsAt 1
