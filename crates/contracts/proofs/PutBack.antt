@@ -28,8 +28,8 @@ use Rattle.tables.specs.Rule.{laid}
 use Rattle.tables.specs.Call.{toldBy}
 use Rattle.vfs.specs.Runs.{Step, Allowed, Run, callsOf, lastOf}
 use Rattle.contracts.specs.Answers.{NoneGives}
-use Rattle.contracts.specs.PutBack.{Queried, Aside, Putting, none-left, one-back, one-aside, Back, EveryBackOfAnswers, EveryLeftOutOfAnswers, EveryPutBackOfAnswers}
-use Rattle.contracts.proofs.Stood.{Stands, ByRule, by-rule, run-stood, ungiven}
+use Rattle.contracts.specs.PutBack.{Queried, Aside, Putting, none-left, one-back, one-aside, Back, EveryQueried, EveryBackOfAnswers, EveryLeftOutOfAnswers, EveryPutBackOfAnswers}
+use Rattle.contracts.proofs.Stood.{Stands, done-laid, ByRule, by-rule, run-stood, ungiven}
 use Rattle.contracts.proofs.Lives.{saved-state, restarts}
 
 -- ---- what a root query told
@@ -129,6 +129,12 @@ has-or-not k (q ∷ ks) =
       | yes e ↦ inl (inl e)
       | no n ↦ ⊎-elim (λ h. inl (inr h)) (λ h. inr (⊎-elim n h)) (has-or-not k ks)
     ]
+
+-- the theorem: what a root query told is where a route leads
+pub every-queried : EveryQueried
+every-queried mem path t x low h p a on c =
+    let l = ap laid (sym (h .on)) ∙ done-laid (h .step) (h .allowed) (λ m. h .told m .code) in
+    told-as p a mem on (view mem) (record { keeps = l; is = refl }) (route x) c ∙ ap toldBy (leads-on (view mem) x t low (queried-there mem path t (indexOf x) l h .tag))
 
 -- ---- from the save on
 

@@ -4,8 +4,8 @@ use mathlib.Core.List.{List, [], _∷_}
 use mathlib.Core.Logic.{_⊎_}
 use mathlib.Core.Option.{some}
 use mathlib.Core.Path.{_≡_}
-use Rattle.rules.specs.Numbers.{DONE, NOENT, indexOf}
-use Rattle.rules.specs.Outcome.{rootfs}
+use Rattle.rules.specs.Numbers.{DONE, NOENT, indexOf, numberOf}
+use Rattle.rules.specs.Outcome.{rootfs, toBackend}
 use Rattle.rules.specs.Mount.{Request}
 use Rattle.rules.specs.Calls.{restore-mount, set-remove-pseudo-root, get-rootfs, route}
 use Rattle.rules.specs.Driven.{Driven}
@@ -52,6 +52,11 @@ pub record Back (mem start : List ℕ) (ss : List Step) (ks : List ℕ) : Type 0
   pub put : Putting mem ss ks
 
 -- ---- the claims
+
+-- on any bytes: a number of the index that a root query told, from 1 on, is routed to the tag that it told (R103, R106)
+abbrev pub EveryQueried : Type 0
+EveryQueried = (mem path : List ℕ) (t x : ℕ) → 0 < indexOf x → Queried mem path t (indexOf x)
+    → (p : Step) → Allowed p → p .before ≡ mem → p .call ≡ route x → p .told ≡ tells (toBackend t (indexOf x) (numberOf x))
 
 -- a number with an index from 1 on whose mount is put back, if a route of it on mem led anywhere: a route of it now tells the same (R106)
 abbrev pub EveryBackOfAnswers : Type 0
