@@ -4,3 +4,4 @@ pub mod Made
 pub mod Stood
 pub mod Answers
 pub mod Lives
+pub mod PutBack

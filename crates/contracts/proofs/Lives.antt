@@ -13,7 +13,7 @@ use Rattle.rules.specs.Outcome.{wrote}
 use Rattle.rules.specs.Calls.{save, restore, rule}
 use Rattle.rules.specs.Laps.{LapsBy}
 use Rattle.rules.specs.Trace.{stepsOf}
-use Rattle.rules.specs.Restart.{Carried, stepsIn as rulesSteps}
+use Rattle.rules.specs.Restart.{Carried, Restarted as RulesRestarted, stepsIn as rulesSteps}
 use Rattle.rules.proofs.Encoded.{state-read}
 use Rattle.rules.proofs.Driven.{facts}
 use Rattle.rules.proofs.Restored.{saved-fits, restore-done}
@@ -69,34 +69,41 @@ restart-of-bytes s a l bytes k f ls h last =
 
 -- ---- a save and a restore
 
--- a done save wrote the state
-wrote-state : (mem d : List ℕ) (n : ℕ) (e : List ℕ) → Writes mem (saving d) d (tells (wrote n)) e → take n e ≡ encode (saved (view mem))
+-- a done save found the layout rule kept, and wrote the state
+wrote-state : (mem d : List ℕ) (n : ℕ) (e : List ℕ) → Writes mem (saving d) d (tells (wrote n)) e → (laid mem ≡ true) × (take n e ≡ encode (saved (view mem)))
 unfolding savedTold
 wrote-state mem d n e w =
     let h = done-holds mem d n e w in
-    (λ m. take (h .count m) (h .bytes m)) ∙ take-append-seam (encode (saved (view mem))) (drop n d)
+    (h .rule, (λ m. take (h .count m) (h .bytes m)) ∙ take-append-seam (encode (saved (view mem))) (drop n d))
 
-saved-state : (mem b : List ℕ) → SavedOf mem b → b ≡ encode (saved (view mem))
+pub saved-state : (mem b : List ℕ) → SavedOf mem b → (laid mem ≡ true) × (b ≡ encode (saved (view mem)))
 unfolding rule savedTold
 saved-state _ _ (by-call κs s out n x w) = wrote-state (s .now) (out .now) n (x .1 .0 .now) w
 saved-state _ _ (by-export κs s out r x w e) =
     let told = told-by-rule wroteAnswers (save (length (out .now))) (save-reads (length (out .now))) (s .now) r (w .answer) in
     wrote-state (s .now) (out .now) (r .written) (x .1 .0 .now) (record { answer = sym (λ m. readAs (e m) (wrote (r .written)) 0) ∙ told; bytes = w .bytes })
 
--- a done restore of it sets its counter
-restarted-carries : (mem start : List ℕ) → Restarted mem start → Carries mem start
-unfolding rule saved restoredTo
-restarted-carries mem start r =
+-- a done restore of it, as the rules have it
+pub restarts : (mem start : List ℕ) → (r : Restarted mem start) → (laid start ≡ true) × RulesRestarted (view mem) (view (r .step .before)) (view start)
+unfolding rule
+restarts mem start r =
     let i = view mem in
     let f = view (r .step .before) in
     let u = by-rule (r .step) (r .allowed) (r .step .before) refl f (record { keeps = done-laid (r .step) (r .allowed) (r .done); is = refl }) in
-    let o : rule f (r .step .call) ≡ rule f (restore (encode (saved i))) = ap (rule f) (r .call ∙ ap restore (saved-state mem (r .bytes) (r .saved))) in
-    let set = restore-done f (encode (saved i)) (sym (λ m. o m .code) ∙ (sym (λ m. u .told m .code) ∙ r .done)) .1 in
+    let o : rule f (r .step .call) ≡ rule f (restore (encode (saved i))) = ap (rule f) (r .call ∙ ap restore (saved-state mem (r .bytes) (r .saved) .1)) in (
+      ap laid (sym (r .leaves)) ∙ u .leaves .keeps,
+      record { done = sym (λ m. o m .code) ∙ (sym (λ m. u .told m .code) ∙ r .done); gives = sym (λ m. o m .after) ∙ (sym (u .leaves .is) ∙ ap view (r .leaves)) },
+    )
+
+-- it sets the counter
+restarted-carries : (mem start : List ℕ) → Restarted mem start → Carries mem start
+unfolding saved restoredTo
+restarted-carries mem start r =
+    let i = view mem in
+    let w = restarts mem start r in
+    let set = restore-done (view (r .step .before)) (encode (saved i)) (w .1 .done) .1 in
     let state = state-read (saved i) (saved-fits i (facts i (r .driven))) in
-    record {
-      keeps = ap laid (sym (r .leaves)) ∙ u .leaves .keeps;
-      counter = ap (λ (x : List ℕ). counterOf (view x)) (sym (r .leaves)) ∙ (ap counterOf (u .leaves .is ∙ ((λ m. o m .after) ∙ set)) ∙ ap (λ (x : State). x .counter) state);
-    }
+    record { keeps = w .0; counter = ap counterOf (sym (w .1 .gives) ∙ set) ∙ ap (λ (x : State). x .counter) state }
 
 -- the lives after a step: its own first, then those after restarts
 after-step : (s : Step) → Allowed s → laid (s .before) ≡ true → (ss : List Step) → Run (s .after) ss → NoneRestored ss → (ls : List Life) → Lives Restarted (lastOf (s .after) ss) ls

@@ -3,3 +3,4 @@ pub mod Reads
 pub mod Made
 pub mod Answers
 pub mod Lives
+pub mod PutBack
