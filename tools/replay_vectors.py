@@ -1,10 +1,10 @@
 #!/usr/bin/env python3
-"""Writes what crates/replay reads, from the Rust's recorded answers, which are what it must write.
+"""Writes what crates/replay_test reads, from the Rust's recorded answers, which are what it must write.
 
     python3 tools/replay_vectors.py
 
-crates/replay/stdout is the recorded list: the program must write each call with the answer that the Rust gave.
-crates/replay/stdin has its calls, one to a line, without their answers. Nothing here asks the port or the model. Each line is
+crates/replay_test/stdout is the recorded list: the program must write each call with the answer that the Rust gave.
+crates/replay_test/stdin has its calls, one to a line, without their answers. Nothing here asks the port or the model. Each line is
 held to its form (oracle/README.md) first, so that the program need not judge one.
 """
 import os

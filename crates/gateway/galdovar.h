@@ -194,10 +194,10 @@ GaldovarIdsAnswer galdovar_remap_attr_id(const uint8_t *storage, size_t storage_
 /* ---- the mount tables */
 
 /* Mounts a backend on a path: tag, root number, largest number, and uid, gid and mode of its root (R3, R68 to R79). */
-GaldovarMountAnswer galdovar_mount(uint8_t *storage, size_t storage_len, const uint8_t *path, size_t path_len, uint32_t tag, uint64_t root, uint64_t max, uint32_t uid, uint32_t gid, uint32_t mode);
+GaldovarMountAnswer galdovar_mount(uint8_t *storage, size_t storage_len, const uint8_t *path, size_t path_len, uint32_t tag, uint64_t root, uint64_t largest, uint32_t uid, uint32_t gid, uint32_t mode);
 
 /* The same at an index that is given; the counter stays (R91 to R95). */
-GaldovarRestoreMountAnswer galdovar_restore_mount(uint8_t *storage, size_t storage_len, uint8_t fs_idx, const uint8_t *path, size_t path_len, uint32_t tag, uint64_t root, uint64_t max, uint32_t uid, uint32_t gid, uint32_t mode);
+GaldovarRestoreMountAnswer galdovar_restore_mount(uint8_t *storage, size_t storage_len, uint8_t fs_idx, const uint8_t *path, size_t path_len, uint32_t tag, uint64_t root, uint64_t largest, uint32_t uid, uint32_t gid, uint32_t mode);
 
 /* Takes the mount off the node that the path leads to, and frees its index: INVAL, NOTFOUND or done (R96 to R100). */
 GaldovarUmountAnswer galdovar_umount(uint8_t *storage, size_t storage_len, const uint8_t *path, size_t path_len);

@@ -46,7 +46,7 @@ pub struct Backend {
     /// The number of its root directory.
     pub root: BackendNumber,
     /// The largest number that it gives to a file.
-    pub max: u64,
+    pub largest: u64,
     /// The user id of its root.
     pub uid: u32,
     /// The group id of its root.
@@ -58,7 +58,7 @@ pub struct Backend {
 impl Backend {
     /// A backend with root number 1, every number up to [`VFS_MAX_INO`], ids 0 and [`DIR_MODE`].
     pub const fn new(tag: Tag) -> Backend {
-        Backend { tag, root: BackendNumber(1), max: VFS_MAX_INO, uid: 0, gid: 0, mode: DIR_MODE }
+        Backend { tag, root: BackendNumber(1), largest: VFS_MAX_INO, uid: 0, gid: 0, mode: DIR_MODE }
     }
 }
 

@@ -100,7 +100,7 @@ fn mounts() {
     let path = "/".repeat(4097);
     leaves(&mut vfs, |v| assert_eq!(v.mount(backend(9), path), refused(VfsError::TooLong, 0)));
     leaves(&mut vfs, |v| assert_eq!(v.mount(backend(9), b"/\xff"), refused(VfsError::Inval, 0)));
-    let big = Backend { max: VFS_MAX_INO + 1, ..backend(9) };
+    let big = Backend { largest: VFS_MAX_INO + 1, ..backend(9) };
     leaves(&mut vfs, |v| assert_eq!(v.mount(big, "/a"), refused(VfsError::Inode, 0)));
     let deep = "/1/2/3/4/5/6";
     leaves(&mut vfs, |v| assert_eq!(v.mount(backend(9), deep), refused(VfsError::NoRoom, 0)));
@@ -140,7 +140,7 @@ fn restored_mounts() {
     let mut no = |b: Backend, i: u8, path: &[u8], e: VfsError| {
         leaves(&mut vfs, |v| assert_eq!(v.restore_mount(b, i, path), Err(e)));
     };
-    let big = Backend { max: VFS_MAX_INO + 1, ..backend(9) };
+    let big = Backend { largest: VFS_MAX_INO + 1, ..backend(9) };
     no(big, 0, &[b'x'; 256], VfsError::TooLong);
     no(big, 0, b"\xff", VfsError::Inval);
     no(big, 0, b"/a", VfsError::BadIndex);

@@ -11,15 +11,15 @@ use Rattle.rules.specs.Bytes.{Bytes}
 use Rattle.rules.specs.Numbers.{maxIno}
 use Rattle.rules.specs.Path.{rooted, tooLong}
 use Rattle.rules.specs.Tree.{Mount}
-use Rattle.rules.specs.Instance.{Instance, mountOf}
-use Rattle.rules.specs.Mount.{Request, planned, noRoom, ended, mountOn, allocation}
-use Rattle.rules.specs.Unmount.{badPath, reached, mountUnder}
+use Rattle.rules.specs.Instance.{Instance, mountOfNode}
+use Rattle.rules.specs.Mount.{Request, planned, noRoom, ended, requestedMount, allocation}
+use Rattle.rules.specs.Reached.{badPath, reached, reachedMount}
 use Rattle.rules.proofs.Fields.{length-bytesOf}
 use Rattle.rules.proofs.Tests.{or-neither}
 use Rattle.rules.proofs.Allocation.{found-bounds}
 use Rattle.tables.specs.Layout.{nextOf}
 use Rattle.tables.specs.View.{view}
-use Rattle.tables.specs.Rule.{laid}
+use Rattle.tables.specs.Laid.{laid}
 use Rattle.tables.specs.Write.{setCounter, setRemoval}
 use Rattle.tables.proofs.Keeps.{laid-is, laid-long}
 use Rattle.placing.specs.Place.{InSlots, placeMem}
@@ -27,10 +27,10 @@ use Rattle.plan.specs.Apply.{appendAll}
 use Rattle.plan.proofs.Spare.{room-left}
 use Rattle.plan.proofs.Fresh.{Fresh, planned-fresh}
 use Rattle.plan.proofs.Walked.{view-walked, keeps-walked}
-use Rattle.vfs.specs.Mounting.{allocMem, endMem, walkMem, plannedMem, foundMem, rootedMem, early, mountMem}
-use Rattle.vfs.specs.Restoring.{restoredMem, stopped, restoreMountMem}
+use Rattle.mount_parts.specs.Mounting.{allocMem, endMem, walkMem, plannedMem, foundMem, rootedMem, early, mountMem}
+use Rattle.mount_parts.specs.RestoredMounting.{restoreMountRestMem, restoreMountStopped, restoreMountMem}
 use Rattle.vfs.specs.Unmounting.{offMem, unmountMem}
-use Rattle.vfs.proofs.MountWays.{counter-in, alloc-view, alloc-keeps}
+use Rattle.mount_parts.proofs.MountWays.{counter-in, alloc-view, alloc-keeps}
 use Rattle.behind.specs.Behind.{LeavesRest}
 use Rattle.behind.proofs.Front.{header-front, view-front, laid-front}
 use Rattle.behind.proofs.Few.{TreeIn, view-in, grown-in, mount-in}
@@ -55,13 +55,13 @@ module _ (rest : List ℕ) where
     alloc-front = ap (λ (i : Instance). setCounter (allocation i .counter) (mem ++ rest)) (view-front rest mem (laid-is mem e)) ∙ counter-front mem e (allocation (view mem) .counter)
 
     -- rows 7 and 8
-    end-front : (k : ℕ) (r : Request) (x : ℕ) → k < 256 → InSlots (mountOf (view mem .tree) x) → LeavesRest (endMem k r x) mem rest
+    end-front : (k : ℕ) (r : Request) (x : ℕ) → k < 256 → InSlots (mountOfNode (view mem .tree) x) → LeavesRest (endMem k r x) mem rest
     unfolding endMem
     end-front k r x h old = go (ltb maxIno (r .root))
       where
-        go : (b : Bool) → cond b (mem ++ rest) (placeMem (mountOn k r) (r .tag) x (mem ++ rest)) ≡ cond b mem (placeMem (mountOn k r) (r .tag) x mem) ++ rest
+        go : (b : Bool) → cond b (mem ++ rest) (placeMem (requestedMount k r) (r .tag) x (mem ++ rest)) ≡ cond b mem (placeMem (requestedMount k r) (r .tag) x mem) ++ rest
         go true = refl
-        go false = place-front rest mem e (mountOn k r) (r .tag) x h old
+        go false = place-front rest mem e (requestedMount k r) (r .tag) x h old
 
   module _ (mem : List ℕ) (e : laid mem ≡ true) where
     -- the walk, then rows 7 and 8
@@ -108,8 +108,8 @@ module _ (rest : List ℕ) where
         go true n = refl
         go false n = found-front n (allocation i .found) refl
 
-    restored-front : (k : ℕ) → k < 256 → LeavesRest (restoredMem k r) mem rest
-    unfolding restoredMem
+    restored-front : (k : ℕ) → k < 256 → LeavesRest (restoreMountRestMem k r) mem rest
+    unfolding restoreMountRestMem
     restored-front k h =
         ap (λ (j : Instance). cond (noRoom j (r .path)) (mem ++ rest) (plannedMem k r (mem ++ rest))) (view-front rest mem (laid-is mem e))
         ∙ go (noRoom i (r .path)) refl
@@ -130,10 +130,10 @@ module _ (rest : List ℕ) where
         go false q false = alloc-front mem e
 
     pub restore-front : (k : ℕ) (r : Request) → k < 256 → LeavesRest (restoreMountMem k r) mem rest
-    unfolding restoreMountMem stopped
-    restore-front k r h = rw (laid-front rest mem e, e) (go (stopped k r) refl)
+    unfolding restoreMountMem restoreMountStopped
+    restore-front k r h = rw (laid-front rest mem e, e) (go (restoreMountStopped k r) refl)
       where
-        go : (t : Bool) → stopped k r ≡ t → cond t (mem ++ rest) (restoredMem k r (mem ++ rest)) ≡ cond t mem (restoredMem k r mem) ++ rest
+        go : (t : Bool) → restoreMountStopped k r ≡ t → cond t (mem ++ rest) (restoreMountRestMem k r (mem ++ rest)) ≡ cond t mem (restoreMountRestMem k r mem) ++ rest
         go true q = refl
         go false q = restored-front mem e b r (or-neither _ _ (or-neither _ _ (or-neither _ _ (or-neither _ _ q .0) .0) .0) .0) k h
 
@@ -141,14 +141,14 @@ module _ (rest : List ℕ) where
     unfolding unmountMem offMem
     unmount-front path =
         rw (laid-front rest mem e, e)
-        (ap (λ (i : Instance). cond (badPath path) (mem ++ rest) (offMem (reached i path) (mountUnder i (reached i path)) (mem ++ rest))) (view-front rest mem (laid-is mem e))
+        (ap (λ (i : Instance). cond (badPath path) (mem ++ rest) (offMem (reached i path) (reachedMount i (reached i path)) (mem ++ rest))) (view-front rest mem (laid-is mem e))
         ∙ go (badPath path) (reached (view mem) path))
       where
-        off : (x : ℕ) (m : Option Mount) → mountOf (view mem .tree) x ≡ m → offMem (some x) m (mem ++ rest) ≡ offMem (some x) m mem ++ rest
+        off : (x : ℕ) (m : Option Mount) → mountOfNode (view mem .tree) x ≡ m → offMem (some x) m (mem ++ rest) ≡ offMem (some x) m mem ++ rest
         off x none q = refl
         off x (some m) q = take-off-front rest mem e m x (subst InSlots q (mount-in (view mem .tree) x (view-in mem b)))
 
-        go : (t : Bool) (o : Option ℕ) → cond t (mem ++ rest) (offMem o (mountUnder (view mem) o) (mem ++ rest)) ≡ cond t mem (offMem o (mountUnder (view mem) o) mem) ++ rest
+        go : (t : Bool) (o : Option ℕ) → cond t (mem ++ rest) (offMem o (reachedMount (view mem) o) (mem ++ rest)) ≡ cond t mem (offMem o (reachedMount (view mem) o) mem) ++ rest
         go true o = refl
         go false none = refl
-        go false (some x) = off x (mountOf (view mem .tree) x) refl
+        go false (some x) = off x (mountOfNode (view mem .tree) x) refl

@@ -10,13 +10,12 @@ use Rattle.le.specs.Mem.{get}
 use Rattle.rules.specs.Bytes.{Bytes}
 use Rattle.rules.specs.Numbers.{rootNumber}
 use Rattle.rules.specs.Tree.{Node, nodeIn}
-use Rattle.rules.specs.Instance.{Tree, mountIn, mountOf, grown}
+use Rattle.rules.specs.Instance.{Tree, mountOfFound, mountOfNode, grown}
 use Rattle.rules.proofs.Fields.{get-fits}
 use Rattle.tables.specs.Table.{row, tab}
-use Rattle.tables.specs.Layout.{capacityOf, countOf}
-use Rattle.tables.proofs.Cells.{mountCellAt}
+use Rattle.tables.specs.Layout.{rootCellAt, capacityOf, countOf, mountCellAt}
 use Rattle.tables.proofs.Spells.{from-word}
-use Rattle.tables.specs.View.{mountFrom, nodeFrom, nodeAt, view}
+use Rattle.tables.specs.View.{mountFromCells, nodeFrom, nodeAt, view}
 use Rattle.tables.proofs.Find.{nodes-of}
 use Rattle.placing.specs.Place.{InSlots}
 use Rattle.plan.proofs.Fresh.{Fresh}
@@ -31,7 +30,7 @@ pub record TreeIn (t : Tree) : Type 0 where
 
 -- ---- in the bytes
 
-from-in : (word uid gid mode : ℕ) → word < 2 ^ 64 → InSlots (mountFrom word uid gid mode)
+from-in : (word uid gid mode : ℕ) → word < 2 ^ 64 → InSlots (mountFromCells word uid gid mode)
 from-in word uid gid mode h = from-word InSlots word uid gid mode tt (omega arith)
 
 module _ (mem : List ℕ) (b : Bytes mem) where
@@ -46,7 +45,7 @@ module _ (mem : List ℕ) (b : Bytes mem) where
 
   pub view-in : TreeIn (view mem .tree)
   unfolding view row get
-  view-in = record { root = from-in _ _ _ _ (get-fits 8 mem 88 b); nodes = subst AllIn (sym (nodes-of mem)) (rows-in (capacityOf mem) 0 (countOf mem)) }
+  view-in = record { root = from-in _ _ _ _ (get-fits 8 mem rootCellAt b); nodes = subst AllIn (sym (nodes-of mem)) (rows-in (capacityOf mem) 0 (countOf mem)) }
 
 -- ---- of new nodes, which have none
 
@@ -64,19 +63,19 @@ grown-in x ns t f i = record { root = i .root; nodes = append-in (t .nodes) ns (
 
 -- ---- so has the mount of any number
 
-node-in : (ns : List Node) (x : ℕ) → AllIn ns → InSlots (mountIn (nodeIn ns x))
+node-in : (ns : List Node) (x : ℕ) → AllIn ns → InSlots (mountOfFound (nodeIn ns x))
 unfolding nodeIn
 node-in [] x a = tt
 node-in (n ∷ ns) x a = go (eqb (n .number) x) (node-in ns x (a .1))
   where
-    go : (b : Bool) → InSlots (mountIn (nodeIn ns x)) → InSlots (mountIn (cond b (some n) (nodeIn ns x)))
+    go : (b : Bool) → InSlots (mountOfFound (nodeIn ns x)) → InSlots (mountOfFound (cond b (some n) (nodeIn ns x)))
     go true k = a .0
     go false k = k
 
-pub mount-in : (t : Tree) (x : ℕ) → TreeIn t → InSlots (mountOf t x)
-unfolding mountOf
+pub mount-in : (t : Tree) (x : ℕ) → TreeIn t → InSlots (mountOfNode t x)
+unfolding mountOfNode
 mount-in t x i = go (eqb x rootNumber)
   where
-    go : (b : Bool) → InSlots (cond b (t .root) (mountIn (nodeIn (t .nodes) x)))
+    go : (b : Bool) → InSlots (cond b (t .root) (mountOfFound (nodeIn (t .nodes) x)))
     go true = i .root
     go false = node-in (t .nodes) x (i .nodes)

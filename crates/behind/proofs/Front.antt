@@ -16,10 +16,10 @@ use Rattle.rules.specs.Tree.{Mount}
 use Rattle.rules.proofs.Fields.{length-read, length-bytesOf}
 use Rattle.tables.specs.Table.{Col, off, row, putRow, closeUp}
 use Rattle.tables.proofs.Table.{Beneath, Fit}
-use Rattle.tables.specs.Layout.{header, slotTable, nodeTable, capacityOf, countOf, nextOf, capacityField, countField, nextField}
+use Rattle.tables.specs.Layout.{tableAt, header, slotTable, nodeTable, capacityOf, countOf, nextOf, capacityField, countField, nextField}
 use Rattle.tables.specs.View.{field, slotFrom, nodeFrom, instanceFrom, headOf, slotAt, nodeAt, slotsOf, nodesFrom, nodesOf, view}
-use Rattle.tables.specs.Rule.{laid, laidBy, Bounds}
-use Rattle.tables.specs.Write.{fromPlace, putHeader, setCount, setNext, yesByte, setSlot, rowMountCells, setRowMount, nodeCells, appendNode, removeRow}
+use Rattle.tables.specs.Laid.{laid, laidBy, Bounds}
+use Rattle.tables.specs.Write.{fromPlace, putHeader, setCount, setNext, yesByte, setHeld, setTag, setSlot, rowMountCells, setRowMount, nodeCells, appendNode, removeRow}
 use Rattle.tables.proofs.Tab.{tab-same}
 use Rattle.tables.proofs.Table.{cell-end, length-putRow, length-closeUp, row-low}
 use Rattle.tables.proofs.Spells.{cells-fit, mount-fit}
@@ -28,7 +28,7 @@ use Rattle.tables.proofs.Keeps.{laid-is, is-ruled, laid-ruled}
 use Rattle.behind.specs.Behind.{LeavesRest}
 
 -- other bytes with the same header keep the layout rule, where they are enough
-same-head : (mem m′ : List ℕ) → laid mem ≡ true → headOf m′ ≡ headOf mem → 512 * capacityOf mem + 8192 ≤ length m′ → laid m′ ≡ true
+same-head : (mem m′ : List ℕ) → laid mem ≡ true → headOf m′ ≡ headOf mem → storageFor (capacityOf mem) ≤ length m′ → laid m′ ≡ true
 unfolding laid row get
 same-head mem m′ e h l =
     let r = laid-ruled mem e in
@@ -81,13 +81,13 @@ module _ (rest : List ℕ) where
 
   -- ---- the instance
 
-  module _ (mem : List ℕ) (long : 8192 ≤ length mem) where
+  module _ (mem : List ℕ) (long : tableAt ≤ length mem) where
     pub header-front : (k : ℕ) (xs : List (List ℕ)) → Fit header (fromPlace k xs) → LeavesRest (putHeader k xs) mem rest
     unfolding putHeader
     header-front k xs f = put-front 1 header (fromPlace k xs) mem 0 (omega arith) (omega arith) f
 
     pub slot-front : (k : ℕ) (held : Bool) (tag : ℕ) → k < 256 → LeavesRest (setSlot k held tag) mem rest
-    unfolding setSlot
+    unfolding setSlot setTag setHeld putRow
     slot-front k held tag h =
         put-front 256 slotTable (bytesOf 1 (yesByte held) ∷ bytesOf 4 tag ∷ []) mem k h (omega arith) (omega (arith, length-bytesOf 1 (yesByte held), length-bytesOf 4 tag))
 
@@ -105,7 +105,7 @@ module _ (rest : List ℕ) where
     abbrev c : ℕ
     c = countOf mem
 
-    long : 8192 ≤ length mem
+    long : tableAt ≤ length mem
     long = omega (arith, d .long)
 
     beneath : Beneath n (nodeTable n) (length mem)
@@ -141,15 +141,15 @@ module _ (rest : List ℕ) where
         ap (λ (k : ℕ). putRow (nodeTable k) (rowMountCells m) (mem ++ rest) i) capacity-front
         ∙ put-front n (nodeTable n) (rowMountCells m) mem i (omega (arith, d .live)) beneath (mount-fit m n)
 
-    pub append-front : (above : ℕ) (p : List ℕ) → length p ≤ 255 → LeavesRest (appendNode above p) mem rest
+    pub append-front : (parent : ℕ) (p : List ℕ) → length p ≤ 255 → LeavesRest (appendNode parent p) mem rest
     unfolding appendNode
-    append-front above p l =
+    append-front parent p l =
         let x : ℕ = nextOf mem in
-        let cells = nodeCells x above p in
+        let cells = nodeCells x parent p in
         let m′ = putRow (nodeTable n) cells mem c in
         let size : length m′ ≡ length mem = length-putRow (nodeTable n) cells mem c in
-        (λ t. setNext (next-front t + 1) (setCount (count-front t + 1) (putRow (nodeTable (capacity-front t)) (nodeCells (next-front t) above p) (mem ++ rest) (count-front t))))
-        ∙ ap (λ (m : List ℕ). setNext (x + 1) (setCount (c + 1) m)) (put-front n (nodeTable n) cells mem c (d .live) beneath (cells-fit n x above p l))
+        (λ t. setNext (next-front t + 1) (setCount (count-front t + 1) (putRow (nodeTable (capacity-front t)) (nodeCells (next-front t) parent p) (mem ++ rest) (count-front t))))
+        ∙ ap (λ (m : List ℕ). setNext (x + 1) (setCount (c + 1) m)) (put-front n (nodeTable n) cells mem c (d .live) beneath (cells-fit n x parent p l))
         ∙ two-fields (c + 1) (x + 1) (m′ ++ rest)
         ∙ header-front m′ (omega (arith, d .long)) 2 (bytesOf 8 (c + 1) ∷ bytesOf 8 (x + 1) ∷ []) (fields-fit (c + 1) (x + 1))
         ∙ ap (λ (m : List ℕ). m ++ rest) (sym (two-fields (c + 1) (x + 1) m′))
@@ -173,6 +173,6 @@ pub first-laid : (s : List ℕ) → laid s ≡ true → laid (take (storageFor (
 first-laid s e =
     let d = laid-is s e in
     let n : ℕ = capacityOf s in
-    let size : length (take (storageFor n) s) ≡ 512 * n + 8192 = length-take-le (storageFor n) s (d .long) in
+    let size : length (take (storageFor n) s) ≡ storageFor n = length-take-le (storageFor n) s (d .long) in
     same-head s (take (storageFor n) s) e
     (sym (head-front (drop (storageFor n) s) (take (storageFor n) s) (omega arith)) ∙ ap headOf (take-append-drop (storageFor n) s)) (omega arith)

@@ -9,14 +9,14 @@ use lib.ListN.{length}
 use lib.Dec.{eqb}
 use Rattle.rules.specs.Numbers.{rootNumber}
 use Rattle.rules.specs.Tree.{Mount, Node}
-use Rattle.rules.specs.Instance.{Instance, mountOf}
+use Rattle.rules.specs.Instance.{Instance, mountOfNode}
 use Rattle.tables.specs.Layout.{capacityOf, countOf, nextOf, removalField}
 use Rattle.tables.specs.View.{flag, headOf, nodesOf, view}
-use Rattle.tables.specs.Rule.{laid, Bounds}
+use Rattle.tables.specs.Laid.{laid, Bounds}
 use Rattle.tables.specs.Write.{setSlot, mountCells, setRootMount, setRowMount, removeRow, appendNode}
 use Rattle.tables.specs.Answer.{placeIn, atPlace, nodeMountMem, removeMem}
 use Rattle.tables.proofs.Spells.{root-fit}
-use Rattle.tables.proofs.Places.{row-below}
+use Rattle.tables.proofs.RowOf.{row-below}
 use Rattle.tables.proofs.Keeps.{laid-is, laid-long, keeps-mount, keeps-append}
 use Rattle.placing.specs.Place.{freedMem, placeMem, outMem, takeOffMem, InSlots}
 use Rattle.placing.proofs.Stands.{keeps-freed, keeps-out}
@@ -69,15 +69,15 @@ module _ (rest : List ℕ) where
         go false = refl
 
   module _ (mem : List ℕ) (e : laid mem ≡ true) where
-    pub place-front : (m : Mount) (tag x : ℕ) → m .index < 256 → InSlots (mountOf (view mem .tree) x) → LeavesRest (placeMem m tag x) mem rest
+    pub place-front : (m : Mount) (tag x : ℕ) → m .index < 256 → InSlots (mountOfNode (view mem .tree) x) → LeavesRest (placeMem m tag x) mem rest
     unfolding placeMem
     place-front m tag x k h =
-        let old : Option Mount = mountOf (view mem .tree) x in
+        let old : Option Mount = mountOfNode (view mem .tree) x in
         let m₁ = freedMem old mem in
-        let k₁ : laid m₁ ≡ true = keeps-freed mem e old h in
+        let k₁ : laid m₁ ≡ true = keeps-freed mem e old in
         let m₂ = nodeMountMem (nodesOf m₁) (some m) x m₁ in
         let put : List ℕ → List ℕ = λ (f : List ℕ). setSlot (m .index) true tag (nodeMountMem (nodesOf f) (some m) x f) in
-        ap (λ (i : Instance). put (freedMem (mountOf (i .tree) x) (mem ++ rest))) (view-front rest mem (laid-is mem e))
+        ap (λ (i : Instance). put (freedMem (mountOfNode (i .tree) x) (mem ++ rest))) (view-front rest mem (laid-is mem e))
         ∙ ap put (freed-front mem e old h)
         ∙ ap (setSlot (m .index) true tag) (mount-front m₁ k₁ (some m) x)
         ∙ slot-front rest m₂ (laid-long m₂ (keeps-mount m₁ k₁ (some m) x)) (m .index) true tag k
@@ -99,9 +99,9 @@ module _ (rest : List ℕ) where
   grown-front [] mem e f c x = refl
   grown-front (n ∷ ns) mem e f c x =
       let d = laid-is mem e in
-      let m′ = appendNode (n .above) (n .called) mem in
-      let next = append-next mem d (n .above) (n .called) in
-      let more = append-count mem d (n .above) (n .called) in
-      let size = append-capacity mem d (n .above) (n .called) in
-      ap (appendAll ns) (append-front rest mem d (n .above) (n .called) (f .2))
-      ∙ grown-front ns m′ (keeps-append mem e (n .above) (n .called) (omega arith) (omega arith)) (rw next (f .3)) (omega arith) (omega arith)
+      let m′ = appendNode (n .parent) (n .name) mem in
+      let next = append-next mem d (n .parent) (n .name) in
+      let more = append-count mem d (n .parent) (n .name) in
+      let size = append-capacity mem d (n .parent) (n .name) in
+      ap (appendAll ns) (append-front rest mem d (n .parent) (n .name) (f .2))
+      ∙ grown-front ns m′ (keeps-append mem e (n .parent) (n .name) (omega arith) (omega arith)) (rw next (f .3)) (omega arith) (omega arith)

@@ -14,22 +14,22 @@ use Rattle.rules.specs.Instance.{Instance, Options}
 use Rattle.rules.specs.Outcome.{nothing, refused, says, _⟹_, firstOf}
 use Rattle.rules.specs.Create.{Creation, newInstance, unknown}
 use Rattle.rules.specs.Saved.{SavedNode, State, stateOf, accepted}
-use Rattle.rules.specs.Restore.{fresh, restoredTo, restoreRule}
+use Rattle.rules.specs.StateRestore.{fresh, stateRestoredTo, restoreStateRule}
 use Rattle.rules.proofs.Fields.{length-bytesOf}
 use Rattle.tables.proofs.Table.{Fit}
-use Rattle.tables.specs.Layout.{header, capacityOf, countOf, counterField, markField}
+use Rattle.tables.specs.Layout.{tableAt, occupancyAt, tagsAt, header, capacityOf, countOf, counterField, markField}
 use Rattle.tables.specs.View.{view}
-use Rattle.tables.specs.Rule.{laid}
+use Rattle.tables.specs.Laid.{laid}
 use Rattle.tables.specs.Write.{fromPlace, putHeader, setNext, yesByte, appendNode}
 use Rattle.tables.proofs.Table.{length-putRow}
 use Rattle.tables.proofs.Keeps.{laid-is, laid-long}
 use Rattle.storage.specs.Header.{spell, headerOf}
 use Rattle.storage.proofs.Header.{spell-fits}
 use Rattle.storage.specs.Creation.{emptySlots, createMem}
-use Rattle.restore_parts.specs.Parts.{Loads, loadNode, loadNodes, hasBits, optionCells, setOptions, setState, stateMem}
-use Rattle.restore_parts.proofs.Records.{AllLoad, count-is, all-load}
-use Rattle.restore_parts.proofs.Loads.{loads, loads-all, loaded-capacity, loaded-count, next-keeps}
-use Rattle.persist.specs.Restoring.{restoreStateMem}
+use Rattle.saved_restore.specs.Parts.{Loads, loadNode, loadNodes, hasBits, optionCells, setOptions, setState, stateMem}
+use Rattle.saved_restore.proofs.Records.{AllLoad, count-is, all-load}
+use Rattle.saved_restore.proofs.Loads.{loads, loads-all, loaded-capacity, loaded-count, next-keeps}
+use Rattle.persist.specs.StateRestoring.{restoreStateMem}
 use Rattle.persist.proofs.StateWays.{room}
 use Rattle.behind.specs.Behind.{LeavesRest}
 use Rattle.behind.proofs.Front.{header-front, view-front, laid-front, append-front}
@@ -37,7 +37,7 @@ use Rattle.behind.proofs.Front.{header-front, view-front, laid-front, a
 module _ (rest : List ℕ) where
   -- ---- the records
 
-  next-front : (mem : List ℕ) → 8192 ≤ length mem → (x : ℕ) → LeavesRest (setNext x) mem rest
+  next-front : (mem : List ℕ) → tableAt ≤ length mem → (x : ℕ) → LeavesRest (setNext x) mem rest
   unfolding setNext
   next-front mem l x = header-front rest mem l 3 (bytesOf 8 x ∷ []) (omega (arith, length-bytesOf 8 x))
 
@@ -45,8 +45,8 @@ module _ (rest : List ℕ) where
   unfolding loadNode
   load-front e mem k f =
       let m′ = setNext (e .number) mem in
-      ap (appendNode (e .above) (e .called)) (next-front mem (laid-long mem k) (e .number))
-      ∙ append-front rest m′ (laid-is m′ (next-keeps mem (laid-is mem k) (e .number) (omega (arith, f .top)) (f .low) k)) (e .above) (e .called) (f .short)
+      ap (appendNode (e .parent) (e .name)) (next-front mem (laid-long mem k) (e .number))
+      ∙ append-front rest m′ (laid-is m′ (next-keeps mem (laid-is mem k) (e .number) (omega (arith, f .top)) (f .low) k)) (e .parent) (e .name) (f .short)
 
   loads-front : (es : List SavedNode) (mem : List ℕ) → laid mem ≡ true → AllLoad es → countOf mem + length es < capacityOf mem → LeavesRest (loadNodes es) mem rest
   unfolding loadNodes AllLoad
@@ -62,7 +62,7 @@ module _ (rest : List ℕ) where
   options-fit o =
       omega (arith, length-bytesOf 8 (o .inOpts), length-bytesOf 8 (o .outOpts), length-bytesOf 4 (o .mapping .internal), length-bytesOf 4 (o .mapping .external), length-bytesOf 4 (o .mapping .range), length-bytesOf 1 (o .flags))
 
-  state-front : (next counter : ℕ) (o : Options) (mem : List ℕ) → 8192 ≤ length mem → LeavesRest (setState next counter o) mem rest
+  state-front : (next counter : ℕ) (o : Options) (mem : List ℕ) → tableAt ≤ length mem → LeavesRest (setState next counter o) mem rest
   unfolding setState setOptions setNext putHeader
   state-front next counter o mem l =
       let cells : List (List ℕ) = bytesOf 1 counter ∷ [] ∷ bytesOf 1 (yesByte (hasBits (o .inOpts))) ∷ [] in
@@ -94,14 +94,14 @@ module _ (rest : List ℕ) where
         eqb
         (firstOf
         ((not f ⟹ refused NOTFRESH (view mem)) ∷ (not a ⟹ refused BADSAVE (view mem)) ∷ (u ⟹ refused BADOPT (view mem)) ∷ (t ⟹ refused NOROOM (view mem)) ∷ [])
-        (says nothing (restoredTo (stateOf saved) (view mem))) .code)
+        (says nothing (stateRestoredTo (stateOf saved) (view mem))) .code)
         DONE
 
     pub restored-front : LeavesRest (restoreStateMem saved) mem rest
-    unfolding restoreStateMem restoreRule firstOf done
+    unfolding restoreStateMem restoreStateRule firstOf done
     restored-front =
         rw (laid-front rest mem k, k)
-        (ap (λ (i : Instance). cond (eqb (restoreRule i saved .code) DONE) (stateMem (stateOf saved) (mem ++ rest)) (mem ++ rest)) (view-front rest mem (laid-is mem k))
+        (ap (λ (i : Instance). cond (eqb (restoreStateRule i saved .code) DONE) (stateMem (stateOf saved) (mem ++ rest)) (mem ++ rest)) (view-front rest mem (laid-is mem k))
         ∙ go (fresh (view mem)) refl (accepted saved) refl (unknown (view mem .fixed .known) (stateOf saved .options)) refl (ltb (view mem .fixed .capacity) (1 + length (stateOf saved .nodes))) refl)
       where
         go : (f : Bool) → fresh (view mem) ≡ f → (a : Bool) → accepted saved ≡ a → (u : Bool) → unknown (view mem .fixed .known) (stateOf saved .options) ≡ u → (t : Bool) → ltb (view mem .fixed .capacity) (1 + length (stateOf saved .nodes)) ≡ t
@@ -120,9 +120,9 @@ module _ (rest : List ℕ) where
       let cells = spell header (headerOf (newInstance q)) in
       let s₁ = length-write mem 256 (replicate 256 0) in
       let m₁ = write mem 256 (replicate 256 0) in
-      let s₂ = length-write m₁ 512 (replicate 1024 0) in
+      let s₂ = length-write m₁ tagsAt (replicate 1024 0) in
       let a = length-replicate {A = ℕ} 256 0 in
       let b = length-replicate {A = ℕ} 1024 0 in
-      ap (λ (m : List ℕ). putHeader markField cells (write m 512 (replicate 1024 0))) (write-before mem rest 256 (replicate 256 0) (omega arith))
-      ∙ ap (putHeader markField cells) (write-before m₁ rest 512 (replicate 1024 0) (omega arith))
-      ∙ header-front rest (write m₁ 512 (replicate 1024 0)) (omega arith) 0 cells (spell-fits header (headerOf (newInstance q)))
+      ap (λ (m : List ℕ). putHeader markField cells (write m tagsAt (replicate 1024 0))) (write-before mem rest occupancyAt (replicate 256 0) (omega arith))
+      ∙ ap (putHeader markField cells) (write-before m₁ rest tagsAt (replicate 1024 0) (omega arith))
+      ∙ header-front rest (write m₁ tagsAt (replicate 1024 0)) (omega arith) 0 cells (spell-fits header (headerOf (newInstance q)))

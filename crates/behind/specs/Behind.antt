@@ -10,20 +10,20 @@ use Rattle.rules.specs.Create.{Creation}
 use Rattle.rules.specs.Mount.{Request}
 use Rattle.tables.specs.Layout.{capacityOf}
 use Rattle.tables.specs.View.{view}
-use Rattle.tables.specs.Rule.{laid}
+use Rattle.tables.specs.Laid.{laid}
 use Rattle.tables.specs.Write.{setRemoval}
 use Rattle.storage.specs.Creation.{createMem}
-use Rattle.vfs.specs.Mounting.{mountMem}
-use Rattle.vfs.specs.Restoring.{restoreMountMem}
+use Rattle.mount_parts.specs.Mounting.{mountMem}
+use Rattle.mount_parts.specs.RestoredMounting.{restoreMountMem}
 use Rattle.vfs.specs.Unmounting.{unmountMem}
-use Rattle.persist.specs.Restoring.{restoreStateMem}
+use Rattle.persist.specs.StateRestoring.{restoreStateMem}
 
 -- with a rest behind them, bytes change as they do without, and the rest stays
 abbrev pub LeavesRest : (List ℕ → List ℕ) → List ℕ → List ℕ → Type 0
 LeavesRest f mem rest = f (mem ++ rest) ≡ f mem ++ rest
 
 -- bytes that keep the layout rule, with any rest behind them: they keep it, they stand for the same instance, and each call that writes leaves the rest
-pub record Apart (mem rest : List ℕ) : Type 0 where
+pub record ApartFromRest (mem rest : List ℕ) : Type 0 where
   pub keeps : laid (mem ++ rest) ≡ true
   pub stands : view (mem ++ rest) ≡ view mem
   pub removal : LeavesRest setRemoval mem rest
@@ -38,7 +38,7 @@ EveryStorage = (s : List ℕ) → laid s ≡ true → laid (take (storageFor (ca
 
 -- so it is of every instance in bytes (R23)
 abbrev pub EveryInstance : Type 0
-EveryInstance = (mem rest : List ℕ) → Bytes mem → laid mem ≡ true → Apart mem rest
+EveryInstance = (mem rest : List ℕ) → Bytes mem → laid mem ≡ true → ApartFromRest mem rest
 
 -- and of a creation on bytes enough for it (R23, R26)
 abbrev pub EveryCreation : Type 0

@@ -5,11 +5,11 @@ use crate::verbs;
 use inode::BackendNumber;
 use inode::NodeNumber;
 use inode::VfsInode;
-use vfs::backend::Backend;
+use mount_parts::backend::Backend;
+use test_words::numbers::least;
+use test_words::numbers::low8;
+use test_words::numbers::low32;
 use vfs_query::Looked;
-use words::numbers::least;
-use words::numbers::low8;
-use words::numbers::low32;
 
 fn create(n: &[u64; 8], s: &mut [u8], regs: &mut [u64; CELLS]) {
     let id_mapping = id_map::IdMapping {
@@ -17,18 +17,18 @@ fn create(n: &[u64; 8], s: &mut [u8], regs: &mut [u64; CELLS]) {
         external: low32(n[6]),
         range: low32(n[7]),
     };
-    let o = storage::VfsOptions {
+    let o = vfs_options::VfsOptions {
         in_opts: n[2],
         out_opts: n[3],
         id_mapping,
         flags: low8(n[4]),
     };
     let a = storage::create(s, n[0] as usize, n[1], o);
-    sink::code(flat::created(a).code, regs);
+    sink::code(flat_instance::created(a).code, regs);
 }
 
 fn options(s: &[u8], regs: &mut [u64; CELLS]) {
-    let a = flat::options(storage::options(s));
+    let a = flat_instance::options(storage::options(s));
     let internal = a.internal as u64;
     let external = a.external as u64;
     let v = [
@@ -44,14 +44,14 @@ fn options(s: &[u8], regs: &mut [u64; CELLS]) {
 
 // Whether there is such a node, and its number.
 fn walk(s: &[u8], path: &[u8], regs: &mut [u64; CELLS]) {
-    let a = flat::walked(pseudo_fs::path_walk(s, path));
+    let a = flat_queries::walked(pseudo_fs::path_walk(s, path));
     let v = [a.has_node as u64, a.node];
     sink::answer(a.code, &v, regs);
 }
 
 // Full number, mode, uid, gid and block size.
 fn looked(l: Looked, regs: &mut [u64; CELLS]) {
-    let a = flat::looked(l);
+    let a = flat_queries::looked(l);
     let mode = a.mode as u64;
     let size = a.blksize as u64;
     let v = [a.inode, mode, a.uid as u64, a.gid as u64, size];
@@ -64,8 +64,11 @@ const BEFORE: u8 = 165;
 // A listing into a buffer: how many bytes were written, and the sum of them all.
 fn listed(n: &[u64; 8], s: &[u8], out: &mut [u8], regs: &mut [u64; CELLS]) {
     le::runs::fill_at(out, 0, out.len(), BEFORE);
-    let a = flat::listed(listing::readdir(s, NodeNumber(n[0]), low32(n[1]), n[2], out));
-    let v = [a.written, words::sums::with_run(words::sums::START, out)];
+    let a = flat_bytes::listed(listing::readdir(s, NodeNumber(n[0]), low32(n[1]), n[2], out));
+    let v = [
+        a.written,
+        test_words::sums::with_run(test_words::sums::START, out),
+    ];
     sink::answer(a.code, &v, regs);
 }
 
@@ -87,7 +90,7 @@ fn placed(k: usize, n: &[u64; 8], s: &mut [u8], path: &[u8], regs: &mut [u64; CE
     let b = Backend {
         tag: low32(n[at]),
         root: BackendNumber(n[at + 1]),
-        max: n[at + 2],
+        largest: n[at + 2],
         uid: low32(n[at + 3]),
         gid: low32(n[at + 4]),
         mode: low32(n[at + 5]),
@@ -101,7 +104,7 @@ fn placed(k: usize, n: &[u64; 8], s: &mut [u8], path: &[u8], regs: &mut [u64; CE
 
 // Index, count, whether a tag was replaced, and that tag.
 fn mount(s: &mut [u8], path: &[u8], b: Backend, regs: &mut [u64; CELLS]) {
-    let a = flat::mounted(vfs::mounting::mount(s, path, b));
+    let a = flat_mounts::mounted(vfs::mounting::mount(s, path, b));
     let count = a.count as u64;
     let v = [
         a.fs_idx as u64,
@@ -114,7 +117,7 @@ fn mount(s: &mut [u8], path: &[u8], b: Backend, regs: &mut [u64; CELLS]) {
 
 // Whether a tag was replaced, that tag, whether one was displaced, and that tag.
 fn mount_at(index: u8, s: &mut [u8], path: &[u8], b: Backend, regs: &mut [u64; CELLS]) {
-    let a = flat::restored_mount(vfs::restoring::restore_mount(s, index, path, b));
+    let a = flat_mounts::restored_mount(vfs::restored_mounting::restore_mount(s, index, path, b));
     let replaced = a.replaced as u64;
     let displaced = a.displaced as u64;
     let v = [
@@ -128,33 +131,38 @@ fn mount_at(index: u8, s: &mut [u8], path: &[u8], b: Backend, regs: &mut [u64; C
 
 // Node, parent, whether a tag was released, and that tag.
 fn umount(s: &mut [u8], path: &[u8], regs: &mut [u64; CELLS]) {
-    let a = flat::unmounted(vfs::unmounting::umount(s, path));
+    let a = flat_mounts::unmounted(vfs::unmounting::umount(s, path));
     let v = [a.node, a.parent, a.has_released as u64, a.released as u64];
     sink::answer(a.code, &v, regs);
 }
 
 // Whether to a backend, its tag, its index, and the number.
 fn route(number: u64, s: &[u8], regs: &mut [u64; CELLS]) {
-    let a = flat::routed(vfs_query::route(s, VfsInode(number)));
+    let a = flat_queries::routed(vfs_query::route(s, VfsInode(number)));
     let v = [a.to_backend as u64, a.tag as u64, a.fs_idx as u64, a.number];
     sink::answer(a.code, &v, regs);
 }
 
 // Whether there is one, its tag, and its index.
 fn root(s: &[u8], path: &[u8], regs: &mut [u64; CELLS]) {
-    let a = flat::rootfs(vfs_query::get_rootfs(s, path));
+    let a = flat_queries::rootfs(vfs_query::get_rootfs(s, path));
     let v = [a.has_backend as u64, a.tag as u64, a.fs_idx as u64];
     sink::answer(a.code, &v, regs);
 }
 
 fn ids(n: &[u64; 8], s: &[u8], regs: &mut [u64; CELLS]) {
-    let a = flat::remapped(vfs_query::remap_attr_id(s, low32(n[0]), low32(n[1]), n[2] != 0));
+    let a = flat_queries::remapped(vfs_query::remap_attr_id(
+        s,
+        low32(n[0]),
+        low32(n[1]),
+        n[2] != 0,
+    ));
     let v = [a.uid as u64, a.gid as u64];
     sink::answer(a.code, &v, regs);
 }
 
 fn init(s: &[u8], regs: &mut [u64; CELLS]) {
-    let a = flat::initialized(storage::initialized(s));
+    let a = flat_instance::initialized(storage::initialized(s));
     let v = [a.initialized as u64];
     sink::answer(a.code, &v, regs);
 }
@@ -191,7 +199,10 @@ fn ask(verb: u64, n: &[u64; 8], s: &[u8], text: &[u8], regs: &mut [u64; CELLS]) 
 pub fn call(verb: u64, n: &[u64; 8], s: &mut [u8], text: &[u8], regs: &mut [u64; CELLS]) {
     match verb {
         verbs::CREATE => create(n, s, regs),
-        verbs::REMOVE => sink::code(flat::removal(storage::set_remove_pseudo_root(s)).code, regs),
+        verbs::REMOVE => sink::code(
+            flat_instance::removal(storage::set_remove_pseudo_root(s)).code,
+            regs,
+        ),
         verbs::MOUNT => placed(0, n, s, text, regs),
         verbs::MOUNT_AT => placed(1, n, s, text, regs),
         verbs::UMOUNT => umount(s, text, regs),

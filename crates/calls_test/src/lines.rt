@@ -6,8 +6,8 @@ use crate::sink;
 use crate::verbs;
 use path::components::part_end;
 use std::num::wrapping_add_u64;
-use steps::loops::Turn;
-use words::numbers::least;
+use test_steps::loops::Turn;
+use test_words::numbers::least;
 
 // One line, with its variables put in.
 pub fn line(
@@ -20,7 +20,7 @@ pub fn line(
     text: &mut [u8],
     regs: &mut [u64; CELLS],
 ) {
-    match words::hex::byte_at(line, 0) {
+    match test_words::hex::byte_at(line, 0) {
         0 | b'#' => {}
         b':' => {
             sink::bytes(line, regs);
@@ -44,12 +44,12 @@ fn worded(
     let mark = part_end(line, 0, b'"');
     let from = least(mark as u64 + 1, line.len());
     let to = part_end(line, from, b' ');
-    let len = words::hex::decoded(&line[from..to], text);
+    let len = test_words::hex::decoded(&line[from..to], text);
     if mark < line.len() {
         regs[regs::TEXT_LEN] = len as u64;
     }
     let end = part_end(line, 0, b' ');
-    let n = words::numbers::numbers(line);
+    let n = test_words::numbers::numbers(line);
     vary(
         &line[0..end],
         &n,
@@ -79,10 +79,10 @@ fn vary(
     let v = (n[0] % VARIABLES) as usize;
     match verb {
         verbs::LOOP => {
-            steps::loops::open(loops, regs[regs::PLACE], n[0] % VARIABLES, n[2]);
+            test_steps::loops::open(loops, regs[regs::PLACE], n[0] % VARIABLES, n[2]);
             regs[v] = n[1];
         }
-        verbs::END => match steps::loops::close(loops) {
+        verbs::END => match test_steps::loops::close(loops) {
             Turn::Again { place, variable } => {
                 regs[regs::PLACE] = place;
                 let named = (variable % VARIABLES) as usize;
@@ -94,7 +94,7 @@ fn vary(
         verbs::ADD => regs[v] = wrapping_add_u64(regs[v], n[1]),
         verbs::SEED => regs[regs::SEED] = n[0],
         verbs::RANDOM => {
-            let x = steps::generator::following(regs[regs::SEED]);
+            let x = test_steps::generator::following(regs[regs::SEED]);
             regs[regs::SEED] = x;
             if n[1] != 0 {
                 regs[v] = x / 256 % n[1];
@@ -120,7 +120,7 @@ fn settle(
         verbs::TEXT => {}
         verbs::MORE => {
             let len = regs[regs::TEXT_LEN];
-            steps::lent::fill(text, len, n[0], words::numbers::low8(n[1]));
+            test_steps::lent::fill(text, len, n[0], test_words::numbers::low8(n[1]));
             regs[regs::TEXT_LEN] = least(wrapping_add_u64(len, n[0]), text.len()) as u64;
         }
         verbs::LENGTH => regs[regs::LENT] = n[0],
@@ -128,7 +128,7 @@ fn settle(
         verbs::VIEWS => regs[regs::VIEWS] = n[0],
         verbs::FOLD => {
             regs[regs::FOLDING] = 1;
-            regs[regs::SUM] = words::sums::START;
+            regs[regs::SUM] = test_words::sums::START;
             regs[regs::CALLS] = 0;
         }
         verbs::PLAIN => {

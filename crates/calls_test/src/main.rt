@@ -1,7 +1,7 @@
 // Reads a script and makes the calls that it says on lent bytes: one line for each answer (docs/TESTS.md).
 use crate::regs::CELLS;
 use libc::STDIN_FILENO;
-use words::numbers::large;
+use test_words::numbers::large;
 
 mod calls;
 mod lines;
@@ -62,7 +62,7 @@ fn run(
         }
         let end = path::components::part_end(input, at, b'\n');
         regs[regs::PLACE] = end as u64 + 1;
-        let n = expand::expanded(&input[at..end], regs, line);
+        let n = test_expand::expanded(&input[at..end], regs, line);
         lines::line(
             &line[0..n],
             &mut loops,

@@ -3,9 +3,9 @@ use crate::regs::CELLS;
 use crate::regs::SAVED;
 use crate::sink;
 use crate::verbs;
-use steps::lent;
-use words::numbers::least;
-use words::numbers::low8;
+use test_steps::lent;
+use test_words::numbers::least;
+use test_words::numbers::low8;
 
 // A verb that sets, keeps or compares bytes. A place is of the lent bytes or of the saved ones: past the end of either, nothing is set.
 pub fn change(

@@ -31,7 +31,7 @@ pub const PLACE: usize = 16;
 pub const TEXT_LEN: usize = 17;
 
 // How many cells there are.
-pub const CELLS: usize = expand::CELLS;
+pub const CELLS: usize = test_expand::CELLS;
 
 // The place of the first saved byte, for the verbs of a script that set bytes; those below are of the lent bytes.
 pub const SAVED: u64 = 1114112;

@@ -8,7 +8,7 @@ pub fn bytes(s: &[u8], regs: &mut [u64; CELLS]) {
     if regs[regs::FOLDING] == 0 {
         io::write_all(STDOUT_FILENO, s);
     } else {
-        regs[regs::SUM] = words::sums::with_run(regs[regs::SUM], s);
+        regs[regs::SUM] = test_words::sums::with_run(regs[regs::SUM], s);
     }
 }
 

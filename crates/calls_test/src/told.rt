@@ -4,7 +4,7 @@ use crate::regs::CELLS;
 use crate::sink;
 use crate::verbs;
 use le::runs::same_at;
-use words::numbers::least;
+use test_words::numbers::least;
 
 // Where the counter stands in the storage, and what is behind it (docs/LAYOUT.md).
 const COUNTER_AT: usize = 81;
@@ -22,7 +22,7 @@ pub fn call(
     text: &[u8],
     regs: &mut [u64; CELLS],
 ) {
-    steps::lent::copy(before, storage, regs[regs::WATCH]);
+    test_steps::lent::copy(before, storage, regs[regs::WATCH]);
     sink::bytes(name, regs);
     made(verb, n, storage, saved, text, regs);
     left(verb, storage, before, regs);
@@ -48,7 +48,7 @@ fn made(
 
 // The rest of its line: the counter, what the call left, and the sum of the tables.
 fn left(verb: u64, storage: &[u8], before: &[u8], regs: &mut [u64; CELLS]) {
-    sink::number(words::hex::byte_at(storage, COUNTER_AT) as u64, regs);
+    sink::number(test_words::hex::byte_at(storage, COUNTER_AT) as u64, regs);
     if regs[regs::WATCH] != 0 {
         sink::byte(b' ', regs);
         watched(verb, storage, before, regs);
@@ -101,7 +101,7 @@ fn marked(storage: &[u8], before: &[u8], regs: &mut [u64; CELLS]) {
 // The sum of the tables; 0 where the bytes break the layout rule.
 fn viewed(s: &[u8], regs: &mut [u64; CELLS]) {
     if storage::is_laid(s) {
-        sink::number(view_sum::sum_of(s), regs);
+        sink::number(test_view_sum::sum_of(s), regs);
     } else {
         sink::number(0, regs);
     }

@@ -7,18 +7,20 @@ use Prim.Native.Nat.{ℕ}
 use lib.Dec.{eqb}
 use Rattle.rules.specs.Numbers.{rootNumber, DONE, indexOf}
 use Rattle.rules.specs.Tree.{Mount, parentIn}
-use Rattle.rules.specs.Instance.{Instance, mountOf}
-use Rattle.rules.specs.Outcome.{mounted, restored, unmounted, walked, truth, Outcome}
-use Rattle.rules.specs.Mount.{Request, mountAs, mountRule, restoreAs, restoreMountRule}
-use Rattle.rules.specs.Unmount.{walkRule, unmounts, unmountAt, unmountRule, rootHeld, rootAt, rootRule}
+use Rattle.rules.specs.Instance.{Instance, mountOfNode}
+use Rattle.rules.specs.Outcome.{mounted, restoredMount, unmounted, walked, truth, Outcome}
+use Rattle.rules.specs.Mount.{Request, mountByIndex, mountRule, restoreMountByIndex, restoreMountRule}
+use Rattle.rules.specs.Reached.{walkRule}
+use Rattle.rules.specs.Unmount.{unmounts, unmountAt, unmountRule}
+use Rattle.rules.specs.Rootfs.{rootHeld, rootAt, rootRule}
 use Rattle.rules.specs.Lookup.{routeTag, routeTree, routeRule, entryOf, entryAt, lookupBy, lookupRule, remapRule}
 use Rattle.rules.specs.Listing.{ListRequest, listRule}
-use Rattle.rules.specs.Restore.{saveRule, restoreRule}
-use Rattle.rules.specs.Calls.{Call, mount, restore-mount, umount, set-remove-pseudo-root, path-walk, get-rootfs, route, lookup, readdir, remap-attr-id, options, initialized, save, restore, rule}
+use Rattle.rules.specs.StateRestore.{saveRule, restoreStateRule}
+use Rattle.rules.specs.Calls.{Call, mount, restore-mount, umount, set-remove-pseudo-root, ask, path-walk, get-rootfs, route, lookup, readdir, remap-attr-id, options, initialized, save-to-bytes, restore-from-bytes, rule}
 use Rattle.rules.proofs.Rows.{each-of, either}
 use Rattle.tables.specs.View.{view}
-use Rattle.tables.specs.Rule.{laid}
-use Rattle.tables.specs.Call.{Told, toldBy, tells, toldSmall, answeredBy}
+use Rattle.tables.specs.Laid.{laid}
+use Rattle.call_form.specs.Form.{Told, toldBy, tells, toldSmall, answeredBy}
 use Rattle.flat.specs.Flat.{codeNumbers, initializedNumbers, optionsNumbers, mountNumbers, restoreMountNumbers, umountNumbers, rootfsNumbers, walkNumbers, routeNumbers, lookupNumbers, wroteNumbers, idsNumbers}
 use Rattle.contracts.specs.Reads.{codeRead, initializedRead, optionsRead, mountRead, restoreMountRead, umountRead, rootfsRead, walkRead, routeRead, lookupRead, wroteRead, idsRead}
 
@@ -99,12 +101,12 @@ mounted-back : (k : ℕ) (t : Option ℕ) (n : ℕ) → Back mountAnswers (recor
 mounted-back k none n = refl
 mounted-back k (some t) n = refl
 
-mount-as : (i : Instance) (r : Request) (o : Option ℕ) → BackBy mountAnswers (mountAs i r o)
-unfolding mountAs
+mount-as : (i : Instance) (r : Request) (o : Option ℕ) → BackBy mountAnswers (mountByIndex i r o)
+unfolding mountByIndex
 mount-as i r none = refl
 mount-as i r (some k) = each-of (BackBy mountAnswers) _ _ (refl, (refl, mounted-back k _ _))
 
-restored-back : (a d : Option ℕ) → Back restoreMountAnswers (tells (restored a d))
+restored-back : (a d : Option ℕ) → Back restoreMountAnswers (tells (restoredMount a d))
 restored-back none none = refl
 restored-back none (some d) = refl
 restored-back (some a) none = refl
@@ -149,7 +151,7 @@ unfolding entryOf
 entry-of i x none = refl
 entry-of i x (some m) = refl
 
-entry-at : (i : Instance) (o : Option ℕ) → BackBy lookupAnswers (entryAt (mountOf (i .tree)) i o)
+entry-at : (i : Instance) (o : Option ℕ) → BackBy lookupAnswers (entryAt (mountOfNode (i .tree)) i o)
 unfolding entryAt
 entry-at i none = refl
 entry-at i (some x) = entry-of i x _
@@ -172,55 +174,55 @@ unfolding rule mountRule
 mount-reads r = record { small = refl; all = λ i. each-of (BackBy mountAnswers) _ _ (refl, (refl, (refl, (refl, mount-as i r _)))) }
 
 pub restore-mount-reads : (k : ℕ) (r : Request) → Reads restoreMountAnswers (restore-mount k r)
-unfolding rule restoreMountRule restoreAs
+unfolding rule restoreMountRule restoreMountByIndex
 restore-mount-reads k r = record {
   small = refl;
-  all = λ i. each-of (BackBy restoreMountAnswers) _ _ (refl, (refl, (refl, (refl, (refl, each-of (BackBy restoreMountAnswers) _ _ (refl, (refl, restored-back _ _)))))));
+  all = λ i. each-of (BackBy restoreMountAnswers) _ _ (refl, (refl, (refl, (refl, (refl, (refl, each-of (BackBy restoreMountAnswers) _ _ (refl, restored-back _ _)))))));
 }
 
 pub umount-reads : (path : List ℕ) → Reads umountAnswers (umount path)
 unfolding rule unmountRule
 umount-reads path = record { small = refl; all = λ i. each-of (BackBy umountAnswers) _ _ (refl, unmount-at i _ _) }
 
-pub restore-reads : (b : List ℕ) → Reads codeAnswers (restore b)
-unfolding rule restoreRule
+pub restore-reads : (b : List ℕ) → Reads codeAnswers (restore-from-bytes b)
+unfolding rule restoreStateRule
 restore-reads b = record { small = refl; all = λ i. each-of (BackBy codeAnswers) _ _ (refl, (refl, (refl, (refl, refl)))) }
 
-pub walk-reads : (path : List ℕ) → Reads walkAnswers (path-walk path)
+pub walk-reads : (path : List ℕ) → Reads walkAnswers (ask (path-walk path))
 unfolding rule walkRule
 walk-reads path = record { small = refl; all = λ i. each-of (BackBy walkAnswers) _ _ (refl, walked-back _) }
 
-pub rootfs-reads : (path : List ℕ) → Reads rootfsAnswers (get-rootfs path)
+pub rootfs-reads : (path : List ℕ) → Reads rootfsAnswers (ask (get-rootfs path))
 unfolding rule rootRule
 rootfs-reads path = record { small = refl; all = λ i. each-of (BackBy rootfsAnswers) _ _ (refl, root-at i _) }
 
-pub route-reads : (x : ℕ) → Reads routeAnswers (route x)
+pub route-reads : (x : ℕ) → Reads routeAnswers (ask (route x))
 unfolding rule routeRule
 route-reads x = record { small = refl; all = λ i. either (BackBy routeAnswers) (eqb (indexOf x) 0) (λ e. route-tree i _ _) (λ e. route-tag i _ _ _) }
 
-pub lookup-reads : (x : ℕ) (name : List ℕ) → Reads lookupAnswers (lookup x name)
+pub lookup-reads : (x : ℕ) (name : List ℕ) → Reads lookupAnswers (ask (lookup x name))
 unfolding rule lookupRule lookupBy
 lookup-reads x name = record {
   small = refl;
   all = λ i. each-of (BackBy lookupAnswers) _ _ (refl, (refl, (entry-at i (some x), (entry-at i (some (parentIn (i .tree .nodes) x)), (refl, entry-at i _)))));
 }
 
-pub remap-reads : (out : Bool) (uid gid : ℕ) → Reads idsAnswers (remap-attr-id out uid gid)
+pub remap-reads : (out : Bool) (uid gid : ℕ) → Reads idsAnswers (ask (remap-attr-id out uid gid))
 unfolding rule remapRule
 remap-reads out uid gid = record { small = refl; all = λ i. refl }
 
-pub options-reads : Reads optionsAnswers options
+pub options-reads : Reads optionsAnswers (ask options)
 unfolding rule
 options-reads = record { small = refl; all = λ i. refl }
 
-pub initialized-reads : Reads initializedAnswers initialized
+pub initialized-reads : Reads initializedAnswers (ask initialized)
 unfolding rule
 initialized-reads = record { small = refl; all = λ i. truth-back (i .initialized) }
 
-pub readdir-reads : (q : ListRequest) → Reads wroteAnswers (readdir q)
+pub readdir-reads : (q : ListRequest) → Reads wroteAnswers (ask (readdir q))
 unfolding rule listRule
 readdir-reads q = record { small = refl; all = λ i. each-of (BackBy wroteAnswers) _ _ (refl, (refl, refl)) }
 
-pub save-reads : (n : ℕ) → Reads wroteAnswers (save n)
+pub save-reads : (n : ℕ) → Reads wroteAnswers (ask (save-to-bytes n))
 unfolding rule saveRule
 save-reads n = record { small = refl; all = λ i. each-of (BackBy wroteAnswers) _ _ (refl, refl) }

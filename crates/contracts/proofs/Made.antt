@@ -1,5 +1,5 @@
 -- Every step that a contract allows is one of which the theorems on bytes speak. Assumes nothing.
-use mathlib.Core.Path.{_≡_, refl, sym, ap, _∙_, subst}
+use mathlib.Core.Path.{_≡_, sym, ap, _∙_, subst}
 use mathlib.Core.Bool.{true, not}
 use mathlib.Core.List.{List, [], _∷_}
 use mathlib.Core.Logic.{⊎-elim}
@@ -9,16 +9,15 @@ use lib.ListN.{length}
 use Rattle.rules.specs.Numbers.{DONE}
 use Rattle.rules.specs.Instance.{Instance}
 use Rattle.rules.specs.Create.{Creation}
-use Rattle.rules.specs.Driven.{Driven}
-use Rattle.rules.specs.Lookup.{remapRule}
-use Rattle.rules.specs.Calls.{Call, mount, restore-mount, umount, set-remove-pseudo-root, path-walk, get-rootfs, route, lookup, readdir, remap-attr-id, options, initialized, save, restore, rule}
-use Rattle.rules.proofs.Still.{walk-still, root-still, route-still, lookup-still, list-still, save-still}
+use Rattle.rules.specs.claims.Driven.{Driven}
+use Rattle.rules.specs.Calls.{Query, path-walk, get-rootfs, route, lookup, readdir, remap-attr-id, options, initialized, save-to-bytes, Call, mount, restore-mount, umount, set-remove-pseudo-root, restore-from-bytes, ask, rule}
+use Rattle.rules.proofs.Still.{asked-stays}
 use Rattle.tables.specs.View.{view}
-use Rattle.tables.specs.Rule.{laid}
-use Rattle.tables.specs.Call.{answeredBy, DoesBy}
+use Rattle.tables.specs.Laid.{laid}
+use Rattle.call_form.specs.Form.{answeredBy, DoesBy}
 use Rattle.storage.specs.Creation.{creationOf, Creates}
 use Rattle.storage.proofs.Creation.{creates-driven}
-use Rattle.vfs.specs.Mounting.{requestOf}
+use Rattle.mount_parts.specs.Mounting.{requestOf}
 use Rattle.vfs.specs.Runs.{Allowed, Run, lastOf}
 use Rattle.vfs.proofs.Runs.{stays-driven, read-allowed}
 use Rattle.gateway.specs.Calls.{creationBy, requestBy}
@@ -35,46 +34,48 @@ module _ (p : Plain) (c : Call) (h : Reads p c) (mem : List ℕ) (r : p .Answer)
   changes : (after exact : List ℕ) → DoesBy (p .numbers) mem (λ (i : Instance). rule i c) r after exact → Allowed (stepBy mem c (p .reads r) after)
   changes after exact d = record { answer = told-by-rule (d .answer); stands = d .stands; keeps = d .keeps }
 
-  -- a call that leaves it
-  looks : ((i : Instance) → rule i c .after ≡ i) → r ≡ p .numbers (answeredBy mem (λ (i : Instance). rule i c)) → Allowed (stepBy mem c (p .reads r) mem)
-  looks same e = read-allowed mem (p .reads r) c same (told-by-rule e)
+-- a query, which leaves it
+looks : (p : Plain) (q : Query) → Reads p (ask q) → (mem : List ℕ) (r : p .Answer) → r ≡ p .numbers (answeredBy mem (λ (i : Instance). rule i (ask q)))
+    → Allowed (stepBy mem (ask q) (p .reads r) mem)
+unfolding rule
+looks p q h mem r e = read-allowed mem (p .reads r) (ask q) (λ i. asked-stays i q .after) (told-by-rule p (ask q) h mem r e)
 
 -- ---- the theorems
 
 pub every-contract : EveryContract
-unfolding rule remapRule
+unfolding rule
 every-contract _ (by-remove κs s r x d) = changes bare set-remove-pseudo-root (bare-reads _) (s .now) _ _ _ d
 every-contract _ (by-mount κs s path b r x d) = changes bare (mount (requestOf (path .now) b)) (bare-reads _) (s .now) _ _ _ d
 every-contract _ (by-restore-mount κs s k path b r x d) = changes bare (restore-mount k (requestOf (path .now) b)) (bare-reads _) (s .now) _ _ _ d
 every-contract _ (by-umount κs s path r x d) = changes bare (umount (path .now)) (bare-reads _) (s .now) _ _ _ d
-every-contract _ (by-restore κs s b r x d) = changes bare (restore (b .now)) (bare-reads _) (s .now) _ _ _ d
-every-contract _ (by-walk κs s path r x e) = looks bare (path-walk (path .now)) (bare-reads _) (s .now) _ (λ i. walk-still i (path .now) .after) e
-every-contract _ (by-rootfs κs s path r x e) = looks bare (get-rootfs (path .now)) (bare-reads _) (s .now) _ (λ i. root-still i (path .now) .after) e
-every-contract _ (by-route κs s n r x e) = looks bare (route (n .0)) (bare-reads _) (s .now) _ (λ i. route-still i (n .0) .after) e
-every-contract _ (by-lookup κs s n name r x e) = looks bare (lookup (n .0) (name .now)) (bare-reads _) (s .now) _ (λ i. lookup-still i (n .0) (name .now) .after) e
-every-contract _ (by-remap κs s uid gid out r x e) = looks bare (remap-attr-id out uid gid) (bare-reads _) (s .now) _ (λ i. refl) e
-every-contract _ (by-options κs s r x e) = looks bare options (bare-reads _) (s .now) _ (λ i. refl) e
-every-contract _ (by-initialized κs s r x e) = looks bare initialized (bare-reads _) (s .now) _ (λ i. refl) e
-every-contract _ (by-readdir κs s n size offset out r x w) = looks bare (readdir _) (bare-reads _) (s .now) _ (λ i. list-still i _ .after) (w .answer)
-every-contract _ (by-save κs s out r x w) = looks bare (save (length (out .now))) (bare-reads _) (s .now) _ (λ i. save-still i (length (out .now)) .after) (w .answer)
+every-contract _ (by-restore κs s b r x d) = changes bare (restore-from-bytes (b .now)) (bare-reads _) (s .now) _ _ _ d
+every-contract _ (by-walk κs s path r x e) = looks bare (path-walk (path .now)) (bare-reads _) (s .now) _ e
+every-contract _ (by-rootfs κs s path r x e) = looks bare (get-rootfs (path .now)) (bare-reads _) (s .now) _ e
+every-contract _ (by-route κs s n r x e) = looks bare (route (n .0)) (bare-reads _) (s .now) _ e
+every-contract _ (by-lookup κs s n name r x e) = looks bare (lookup (n .0) (name .now)) (bare-reads _) (s .now) _ e
+every-contract _ (by-remap κs s uid gid out r x e) = looks bare (remap-attr-id out uid gid) (bare-reads _) (s .now) _ e
+every-contract _ (by-options κs s r x e) = looks bare options (bare-reads _) (s .now) _ e
+every-contract _ (by-initialized κs s r x e) = looks bare initialized (bare-reads _) (s .now) _ e
+every-contract _ (by-readdir κs s n size offset out r x w) = looks bare (readdir _) (bare-reads _) (s .now) _ (w .answer)
+every-contract _ (by-save κs s out r x w) = looks bare (save-to-bytes (length (out .now))) (bare-reads _) (s .now) _ (w .answer)
 
 pub every-export : EveryExport
-unfolding rule remapRule
+unfolding rule
 every-export _ (by-remove κs s r x d) = changes _ _ remove-reads (s .now) r _ _ d
 every-export _ (by-mount κs s path tag root largest uid gid mode r x d) = changes _ _ (mount-reads (requestBy (path .now) tag root largest uid gid mode)) (s .now) r _ _ d
 every-export _ (by-restore-mount κs s k path tag root largest uid gid mode r x d) =
     changes _ _ (restore-mount-reads k (requestBy (path .now) tag root largest uid gid mode)) (s .now) r _ _ d
 every-export _ (by-umount κs s path r x d) = changes _ _ (umount-reads (path .now)) (s .now) r _ _ d
 every-export _ (by-restore κs s b r x d) = changes _ _ (restore-reads (b .now)) (s .now) r _ _ d
-every-export _ (by-walk κs s path r x e) = looks _ _ (walk-reads (path .now)) (s .now) r (λ i. walk-still i (path .now) .after) e
-every-export _ (by-rootfs κs s path r x e) = looks _ _ (rootfs-reads (path .now)) (s .now) r (λ i. root-still i (path .now) .after) e
-every-export _ (by-route κs s n r x e) = looks _ _ (route-reads n) (s .now) r (λ i. route-still i n .after) e
-every-export _ (by-lookup κs s n name r x e) = looks _ _ (lookup-reads n (name .now)) (s .now) r (λ i. lookup-still i n (name .now) .after) e
-every-export _ (by-remap κs s uid gid out r x e) = looks _ _ (remap-reads (not (eqb out 0)) uid gid) (s .now) r (λ i. refl) e
-every-export _ (by-options κs s r x e) = looks _ _ options-reads (s .now) r (λ i. refl) e
-every-export _ (by-initialized κs s r x e) = looks _ _ initialized-reads (s .now) r (λ i. refl) e
-every-export _ (by-readdir κs s n size offset out r x w) = looks _ _ (readdir-reads _) (s .now) r (λ i. list-still i _ .after) (w .answer)
-every-export _ (by-save κs s out r x w) = looks _ _ (save-reads (length (out .now))) (s .now) r (λ i. save-still i (length (out .now)) .after) (w .answer)
+every-export _ (by-walk κs s path r x e) = looks _ _ (walk-reads (path .now)) (s .now) r e
+every-export _ (by-rootfs κs s path r x e) = looks _ _ (rootfs-reads (path .now)) (s .now) r e
+every-export _ (by-route κs s n r x e) = looks _ _ (route-reads n) (s .now) r e
+every-export _ (by-lookup κs s n name r x e) = looks _ _ (lookup-reads n (name .now)) (s .now) r e
+every-export _ (by-remap κs s uid gid out r x e) = looks _ _ (remap-reads (not (eqb out 0)) uid gid) (s .now) r e
+every-export _ (by-options κs s r x e) = looks _ _ options-reads (s .now) r e
+every-export _ (by-initialized κs s r x e) = looks _ _ initialized-reads (s .now) r e
+every-export _ (by-readdir κs s n size offset out r x w) = looks _ _ (readdir-reads _) (s .now) r (w .answer)
+every-export _ (by-save κs s out r x w) = looks _ _ (save-reads (length (out .now))) (s .now) r (w .answer)
 
 pub every-run-by : EveryRunBy
 unfolding RunBy Run

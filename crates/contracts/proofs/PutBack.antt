@@ -10,25 +10,26 @@ use native.Mathlib.Decide.{ℕ-discrete}
 use lib.ListN.{length}
 use Rattle.rules.specs.Numbers.{indexOf, NOENT, INVAL}
 use Rattle.rules.specs.Tree.{Mount}
-use Rattle.rules.specs.Instance.{Instance, tagOf, mountOf}
+use Rattle.rules.specs.Instance.{Instance, tagOf, mountOfNode}
 use Rattle.rules.specs.Outcome.{rootfs, Outcome, refused}
-use Rattle.rules.specs.Unmount.{reached, mountUnder, rootHeld, rootAt, rootRule}
-use Rattle.rules.specs.Calls.{Call, set-remove-pseudo-root, get-rootfs, route, rule}
-use Rattle.rules.specs.Driven.{IsAt}
-use Rattle.rules.specs.Laps.{Has}
-use Rattle.rules.specs.Trace.{afterAll}
-use Rattle.rules.specs.PutBack.{Aside as RulesAside, Putting as RulesPutting, none-left as rules-none, one-back as rules-back, one-aside as rules-aside, Back as RulesBack, AnswersAs}
+use Rattle.rules.specs.Reached.{reached, reachedMount}
+use Rattle.rules.specs.Rootfs.{rootHeld, rootAt, rootRule}
+use Rattle.rules.specs.Calls.{Call, set-remove-pseudo-root, ask, get-rootfs, route, rule}
+use Rattle.rules.specs.claims.Driven.{IsAt}
+use Rattle.rules.specs.claims.Laps.{Has}
+use Rattle.rules.specs.claims.Trace.{afterAll}
+use Rattle.rules.specs.claims.PutBack.{Aside, Putting as RulesPutting, none-left as rules-none, one-back as rules-back, one-aside as rules-aside, Back as RulesBack, AnswersAs}
 use Rattle.rules.proofs.Rows.{each-of}
 use Rattle.rules.proofs.Still.{route-still}
 use Rattle.rules.proofs.Kept.{leads-on, leads-off}
 use Rattle.rules.proofs.PutBack.{every-back, every-left-out}
 use Rattle.rules.proofs.Room.{every-put-back}
 use Rattle.tables.specs.View.{view}
-use Rattle.tables.specs.Rule.{laid}
-use Rattle.tables.specs.Call.{toldBy}
+use Rattle.tables.specs.Laid.{laid}
+use Rattle.call_form.specs.Form.{toldBy}
 use Rattle.vfs.specs.Runs.{Step, Allowed, Run, callsOf, lastOf}
 use Rattle.contracts.specs.Answers.{NoneGives}
-use Rattle.contracts.specs.PutBack.{Queried, Aside, Putting, none-left, one-back, one-aside, Back, EveryQueried, EveryBackOfAnswers, EveryLeftOutOfAnswers, EveryPutBackOfAnswers}
+use Rattle.contracts.specs.PutBack.{Queried, AsideOfBytes, PuttingOfBytes, none-left, one-back, one-aside, BackOfBytes, EveryQueried, EveryBackOfAnswers, EveryLeftOutOfAnswers, EveryPutBackOfAnswers}
 use Rattle.contracts.proofs.Stood.{Stands, done-laid, ByRule, by-rule, run-stood, ungiven}
 use Rattle.contracts.proofs.Lives.{saved-state, restarts}
 
@@ -38,7 +39,7 @@ use Rattle.contracts.proofs.Lives.{saved-state, restarts}
 record There (i : Instance) (path : List ℕ) (t k : ℕ) : Type 0 where
   node : ℕ
   leads : reached i path ≡ some node
-  stood : IsAt k (mountOf (i .tree) node)
+  stood : IsAt k (mountOfNode (i .tree) node)
   tag : tagOf i k ≡ some t
 
 module _ (i : Instance) (t k : ℕ) where
@@ -53,22 +54,22 @@ module _ (i : Instance) (t k : ℕ) where
       let same = Option·some-injective (u, n) (t, k) both in
       (λ m. same m .1, ap (tagOf i) (sym (λ m. same m .1)) ∙ (e ∙ (λ m. some (same m .0))))
 
-  mount-there : (path : List ℕ) (x : ℕ) → reached i path ≡ some x → (m : Option Mount) → mountOf (i .tree) x ≡ m → Answers (rootAt i m) → There i path t k
+  mount-there : (path : List ℕ) (x : ℕ) → reached i path ≡ some x → (m : Option Mount) → mountOfNode (i .tree) x ≡ m → Answers (rootAt i m) → There i path t k
   unfolding rootAt
   mount-there path x e none s q = let z : _≡_ {A = ℕ} 0 1 = cc in absurd (omega arith)
   mount-there path x e (some m) s q =
       let h = held-there (m .index) (tagOf i (m .index)) refl q in
       record { node = x; leads = e; stood = subst (IsAt k) (sym s) (h .0); tag = h .1 }
 
-  node-there : (path : List ℕ) (o : Option ℕ) → reached i path ≡ o → Answers (rootAt i (mountUnder i o)) → There i path t k
+  node-there : (path : List ℕ) (o : Option ℕ) → reached i path ≡ o → Answers (rootAt i (reachedMount i o)) → There i path t k
   unfolding rootAt
   node-there path none e q = let z : _≡_ {A = ℕ} 0 1 = cc in absurd (omega arith)
-  node-there path (some x) e q = mount-there path x e (mountOf (i .tree) x) refl q
+  node-there path (some x) e q = mount-there path x e (mountOfNode (i .tree) x) refl q
 
   refused-not : (code : ℕ) (path : List ℕ) → Answers (refused code i) → There i path t k
   refused-not code path q = let z : _≡_ {A = ℕ} 0 1 = cc in absurd (omega arith)
 
-  root-there : (path : List ℕ) → Answers (rule i (get-rootfs path)) → There i path t k
+  root-there : (path : List ℕ) → Answers (rule i (ask (get-rootfs path))) → There i path t k
   unfolding rule rootRule
   root-there path = each-of (λ (o : Outcome). Answers o → There i path t k) _ _ (refused-not INVAL path, node-there path (reached i path) refl)
 
@@ -80,17 +81,17 @@ queried-there mem path t k l h =
 
 -- ---- the steps, as calls on the instance
 
-sets-aside : (j : Instance) (c : Call) → c ≡ set-remove-pseudo-root → RulesAside j c
+sets-aside : (j : Instance) (c : Call) → c ≡ set-remove-pseudo-root → Aside j c
 unfolding rule
-sets-aside j c e = subst (RulesAside j) (sym e) (record { tree = refl; slots = refl })
+sets-aside j c e = subst (Aside j) (sym e) (record { tree = refl; slots = refl })
 
-still-aside : (j : Instance) (c : Call) → rule j c .after ≡ j → RulesAside j c
+still-aside : (j : Instance) (c : Call) → rule j c .after ≡ j → Aside j c
 still-aside j c e = record { tree = ap (λ (a : Instance). a .tree) e; slots = ap (λ (a : Instance). a .indexes .slots) e }
 
-aside : (s : Step) (j : Instance) → view (s .before) ≡ j → ByRule j s → Aside s → RulesAside j (s .call)
+aside : (s : Step) (j : Instance) → view (s .before) ≡ j → ByRule j s → AsideOfBytes s → Aside j (s .call)
 aside s j e h = ⊎-elim (λ same. still-aside j (s .call) (sym (h .leaves .is) ∙ (ap view same ∙ e))) (sets-aside j (s .call))
 
-putting : (mem : List ℕ) → laid mem ≡ true → (ss : List Step) (ks : List ℕ) → Putting mem ss ks → (now : List ℕ) (j : Instance) → Stands now j → Run now ss
+putting : (mem : List ℕ) → laid mem ≡ true → (ss : List Step) (ks : List ℕ) → PuttingOfBytes mem ss ks → (now : List ℕ) (j : Instance) → Stands now j → Run now ss
     → RulesPutting (view mem) j (callsOf ss) ks
 unfolding Run callsOf
 putting mem l _ _ none-left now j h r = rules-none j
@@ -110,15 +111,15 @@ putting mem l _ _ (one-aside s ss ks b p) now j h (e, (a, r)) =
 told-as : (s : Step) → Allowed s → (mem : List ℕ) → s .before ≡ mem → (i : Instance) → Stands mem i → (c : Call) → s .call ≡ c → s .told ≡ toldBy (rule i c)
 told-as s a mem on i h c e = by-rule s a mem on i h .told ∙ ap (λ (d : Call). toldBy (rule i d)) e
 
-same-told : (i j : Instance) (x : ℕ) → AnswersAs (rule j (route x)) (rule i (route x)) → toldBy (rule j (route x)) ≡ toldBy (rule i (route x))
+same-told : (i j : Instance) (x : ℕ) → AnswersAs (rule j (ask (route x))) (rule i (ask (route x))) → toldBy (rule j (ask (route x))) ≡ toldBy (rule i (ask (route x)))
 unfolding rule
 same-told i j x e = λ m. record { code = e .0 m; answer = e .1 m; count = length ((route-still j x .visits ∙ sym (route-still i x .visits)) m) }
 
 -- a route that is not done is refused
-not-done : (i : Instance) (x : ℕ) → 0 < indexOf x → (rule i (route x) .code ≡ 0 → ⊥) → rule i (route x) ≡ refused NOENT i
+not-done : (i : Instance) (x : ℕ) → 0 < indexOf x → (rule i (ask (route x)) .code ≡ 0 → ⊥) → rule i (ask (route x)) ≡ refused NOENT i
 not-done i x p n = go (tagOf i (indexOf x)) refl
   where
-    go : (o : Option ℕ) → tagOf i (indexOf x) ≡ o → rule i (route x) ≡ refused NOENT i
+    go : (o : Option ℕ) → tagOf i (indexOf x) ≡ o → rule i (ask (route x)) ≡ refused NOENT i
     go none e = leads-off i x p e
     go (some t) e = absurd (n (λ m. leads-on i x t p e m .code))
 
@@ -134,11 +135,11 @@ has-or-not k (q ∷ ks) =
 pub every-queried : EveryQueried
 every-queried mem path t x low h p a on c =
     let l = ap laid (sym (h .on)) ∙ done-laid (h .step) (h .allowed) (λ m. h .told m .code) in
-    told-as p a mem on (view mem) (record { keeps = l; is = refl }) (route x) c ∙ ap toldBy (leads-on (view mem) x t low (queried-there mem path t (indexOf x) l h .tag))
+    told-as p a mem on (view mem) (record { keeps = l; is = refl }) (ask (route x)) c ∙ ap toldBy (leads-on (view mem) x t low (queried-there mem path t (indexOf x) l h .tag))
 
 -- ---- from the save on
 
-module _ (mem start : List ℕ) (ss : List Step) (ks : List ℕ) (b : Back mem start ss ks) where
+module _ (mem start : List ℕ) (ss : List Step) (ks : List ℕ) (b : BackOfBytes mem start ss ks) where
   keeps : laid mem ≡ true
   keeps = saved-state mem (b .restarted .bytes) (b .restarted .saved) .0
 
@@ -161,7 +162,7 @@ pub left-out-of-answers : EveryLeftOutOfAnswers
 left-out-of-answers mem start ss ks b x low n rs run given q a at c =
     let j = afterAll (view start) (callsOf ss) in
     let w = run-stood rs (lastOf start ss) j (ended mem start ss ks b) run in
-    told-as q a (lastOf (lastOf start ss) rs) at (afterAll j (callsOf rs)) (w .1) (route x) c
+    told-as q a (lastOf (lastOf start ss) rs) at (afterAll j (callsOf rs)) (w .1) (ask (route x)) c
     ∙ ap toldBy (every-left-out (view mem) _ (view start) (callsOf ss) ks (back mem start ss ks b) x low n (callsOf rs) (ungiven (indexOf x) rs j (w .0) given))
 
 -- the theorem: what was put back, and what led nowhere
@@ -169,8 +170,8 @@ pub back-of-answers : EveryBackOfAnswers
 unfolding Run lastOf NoneGives
 back-of-answers mem start ss ks b x low p a on c led q d at e =
     let i = view mem in
-    let before = told-as p a mem on i (record { keeps = keeps mem start ss ks b; is = refl }) (route x) c in
-    let after = told-as q d (lastOf start ss) at (afterAll (view start) (callsOf ss)) (ended mem start ss ks b) (route x) e in
+    let before = told-as p a mem on i (record { keeps = keeps mem start ss ks b; is = refl }) (ask (route x)) c in
+    let after = told-as q d (lastOf start ss) at (afterAll (view start) (callsOf ss)) (ended mem start ss ks b) (ask (route x)) e in
     ⊎-elim
     (λ h. after ∙ (same-told i (afterAll (view start) (callsOf ss)) x (every-back i _ (view start) (callsOf ss) ks (back mem start ss ks b) x low h) ∙ sym before))
     (λ n. left-out-of-answers mem start ss ks b x low n [] tt tt q d at e ∙ sym (before ∙ ap toldBy (not-done i x low (λ z. n (led ((λ m. before m .code) ∙ z))))))

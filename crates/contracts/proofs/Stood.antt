@@ -11,16 +11,16 @@ use Rattle.rules.specs.Numbers.{DONE}
 use Rattle.rules.specs.Instance.{Instance}
 use Rattle.rules.specs.Mount.{Request}
 use Rattle.rules.specs.Calls.{mount, rule}
-use Rattle.rules.specs.Laps.{Step as RulesStep, total, lastFound}
-use Rattle.rules.specs.Trace.{Unrestored, afterAll, stepsOf}
-use Rattle.rules.specs.Kept.{Ungiven}
+use Rattle.rules.specs.claims.Laps.{SearchStep, total, lastFound}
+use Rattle.rules.specs.claims.Trace.{WithoutStateRestore, afterAll, stepsOf}
+use Rattle.rules.specs.claims.Kept.{Ungiven}
 use Rattle.rules.proofs.Turn.{mounts-allocate, only-mounts, found-no-restore}
 use Rattle.tables.specs.View.{view}
-use Rattle.tables.specs.Rule.{laid}
-use Rattle.tables.specs.Call.{Told, toldBy, toldSmall, answeredBy}
+use Rattle.tables.specs.Laid.{laid}
+use Rattle.call_form.specs.Form.{Told, toldBy, toldSmall, answeredBy}
 use Rattle.storage.proofs.Laid.{told-by}
 use Rattle.vfs.specs.Runs.{Step, Allowed, Run, callsOf, counts, lastOf}
-use Rattle.contracts.specs.Answers.{TellsIndex, LastTells, NoneRestored, NoneGives}
+use Rattle.contracts.specs.Answers.{TellsIndex, LastTells, NoStateRestores, NoneGives}
 
 -- ---- bytes
 
@@ -93,8 +93,8 @@ module _ (i : Instance) (s : Step) (t : s .told ≡ toldBy (rule i (s .call))) w
             answer = (λ j. t j .answer) ∙ ((λ j. o j .answer) ∙ (m .1 .told .1 ∙ rw same refl));
           }
 
-pub unrestored : (ss : List Step) (i : Instance) → Stood i ss → NoneRestored ss → Unrestored i (callsOf ss)
-unfolding Stood NoneRestored Unrestored callsOf
+pub unrestored : (ss : List Step) (i : Instance) → Stood i ss → NoStateRestores ss → WithoutStateRestore i (callsOf ss)
+unfolding Stood NoStateRestores WithoutStateRestore callsOf
 unrestored [] i h n = tt
 unrestored (s ∷ ss) i (t, h) (n, ns) = (λ b c e. n b c ((λ j. t j .code) ∙ e), unrestored ss (rule i (s .call) .after) h ns)
 
@@ -107,11 +107,11 @@ ungiven k (s ∷ ss) i (t, h) (n, ns) =
 -- ---- steps beside those of the allocator
 
 -- the count is told, and an index that is told was found
-pub record Follow (s : Step) (r : RulesStep) : Type 0 where
+pub record Follow (s : Step) (r : SearchStep) : Type 0 where
   pub count : s .told .count ≡ length (r .visits)
   pub found : (k : ℕ) → TellsIndex k s → r .found ≡ some k
 
-abbrev pub Follows : List Step → List RulesStep → Type 0
+abbrev pub Follows : List Step → List SearchStep → Type 0
 Follows [] [] = Unit {0}
 Follows [] (r ∷ rs) = ⊥
 Follows (s ∷ ss) [] = ⊥
@@ -122,20 +122,20 @@ unfolding Stood stepsOf callsOf
 stood-follows [] i h = tt
 stood-follows (s ∷ ss) i (t, h) = (record { count = λ j. t j .count; found = found-told i s t }, stood-follows ss (rule i (s .call) .after) h)
 
-pub follows-append : (ss : List Step) (rs : List RulesStep) (ss′ : List Step) (rs′ : List RulesStep) → Follows ss rs → Follows ss′ rs′ → Follows (ss ++ ss′) (rs ++ rs′)
+pub follows-append : (ss : List Step) (rs : List SearchStep) (ss′ : List Step) (rs′ : List SearchStep) → Follows ss rs → Follows ss′ rs′ → Follows (ss ++ ss′) (rs ++ rs′)
 follows-append [] [] ss′ rs′ f g = g
 follows-append [] (r ∷ rs) ss′ rs′ f g = absurd f
 follows-append (s ∷ ss) [] ss′ rs′ f g = absurd f
 follows-append (s ∷ ss) (r ∷ rs) ss′ rs′ (f, fs) g = (f, follows-append ss rs ss′ rs′ fs g)
 
-pub same-sum : (ss : List Step) (rs : List RulesStep) → Follows ss rs → counts ss ≡ total rs
+pub same-sum : (ss : List Step) (rs : List SearchStep) → Follows ss rs → counts ss ≡ total rs
 unfolding counts total
 same-sum [] [] f = refl
 same-sum [] (r ∷ rs) f = absurd f
 same-sum (s ∷ ss) [] f = absurd f
 same-sum (s ∷ ss) (r ∷ rs) (f, fs) = λ j. f .count j + same-sum ss rs fs j
 
-pub same-last : (k : ℕ) (ss : List Step) (rs : List RulesStep) → Follows ss rs → LastTells k ss → (x : Option ℕ) → lastFound x rs ≡ some k
+pub same-last : (k : ℕ) (ss : List Step) (rs : List SearchStep) → Follows ss rs → LastTells k ss → (x : Option ℕ) → lastFound x rs ≡ some k
 unfolding LastTells lastFound
 same-last k [] rs f l x = absurd l
 same-last k (s ∷ ss) [] f l x = absurd f

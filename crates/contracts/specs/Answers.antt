@@ -11,14 +11,14 @@ use Rattle.rules.specs.Tree.{nodeIn}
 use Rattle.rules.specs.Instance.{heldIn, counterOf}
 use Rattle.rules.specs.Outcome.{mounted, toBackend}
 use Rattle.rules.specs.Mount.{Request}
-use Rattle.rules.specs.Calls.{mount, route, restore}
-use Rattle.rules.specs.Exactly.{Decides, tests}
-use Rattle.rules.specs.Allocation.{FirstFree}
-use Rattle.rules.specs.Laps.{Has}
-use Rattle.rules.specs.Kept.{named, namedIn}
+use Rattle.rules.specs.Calls.{mount, ask, route, restore-from-bytes}
+use Rattle.rules.specs.claims.Exactly.{Decides, tests}
+use Rattle.rules.specs.claims.Allocation.{FirstFree}
+use Rattle.rules.specs.claims.Laps.{Has}
+use Rattle.rules.specs.claims.Kept.{named, namedIn}
 use Rattle.tables.specs.View.{view}
-use Rattle.tables.specs.Rule.{laid}
-use Rattle.tables.specs.Call.{tells, refuses}
+use Rattle.tables.specs.Laid.{laid}
+use Rattle.call_form.specs.Form.{tells, refuses}
 use Rattle.vfs.specs.Runs.{Step, Allowed, Run, callsOf, counts, lastOf}
 
 -- ---- what answers tell
@@ -38,9 +38,9 @@ LastTells k (s ∷ []) = TellsIndex k s
 LastTells k (s ∷ q ∷ ss) = LastTells k (q ∷ ss)
 
 -- no state restore tells that it is done (R87)
-unfoldable pub NoneRestored : List Step → Type 0
-NoneRestored [] = Unit {0}
-NoneRestored (s ∷ ss) = ((b : List ℕ) → s .call ≡ restore b → s .told .code ≡ DONE → ⊥) × NoneRestored ss
+unfoldable pub NoStateRestores : List Step → Type 0
+NoStateRestores [] = Unit {0}
+NoStateRestores (s ∷ ss) = ((b : List ℕ) → s .call ≡ restore-from-bytes b → s .told .code ≡ DONE → ⊥) × NoStateRestores ss
 
 -- a call tells that it is done, and gives k away: a mount tells k, or a restored mount names it (R75, R93)
 abbrev pub GivesAway : ℕ → Step → Type 0
@@ -70,24 +70,24 @@ WholeLaps n = (0 < n) × (n % 256 ≡ 0)
 -- first one, 257 of a FULL included, sum to whole laps (R82, R87)
 abbrev pub EveryLapOfAnswers : Type 0
 EveryLapOfAnswers = (s : Step) → Allowed s → Bytes (s .before) → (k : ℕ) → TellsIndex k s
-    → (ss : List Step) → Run (s .after) ss → NoneRestored ss → LastTells k ss → WholeLaps (counts ss)
+    → (ss : List Step) → Run (s .after) ss → NoStateRestores ss → LastTells k ss → WholeLaps (counts ss)
 
 -- such a mount; steps follow whose counts sum to less than a lap, and no restored mount among them names k; then a number of that index is routed to the tag of the
 -- mount, or it is refused NOENT (R82, R87, R106)
 abbrev pub EveryKeptOfAnswers : Type 0
 EveryKeptOfAnswers = (s : Step) → Allowed s → Bytes (s .before) → (k : ℕ) → (m : TellsIndex k s)
-    → (ss : List Step) → Run (s .after) ss → NoneRestored ss → (Has k (namedIn (callsOf ss)) → ⊥) → counts ss < 256
-    → (q : Step) → Allowed q → q .before ≡ lastOf (s .after) ss → (x : ℕ) → q .call ≡ route x → indexOf x ≡ k
+    → (ss : List Step) → Run (s .after) ss → NoStateRestores ss → (Has k (namedIn (callsOf ss)) → ⊥) → counts ss < 256
+    → (q : Step) → Allowed q → q .before ≡ lastOf (s .after) ss → (x : ℕ) → q .call ≡ ask (route x) → indexOf x ≡ k
     → (q .told ≡ refuses NOENT) ⊎ (q .told ≡ tells (toBackend (m .request .tag) k (numberOf x)))
 
 -- a route tells that the number x, with an index from 1 on, leads to the backend of the tag t; no step after it gives the index away; then a route of x that is done
 -- tells the same: so a gateway judges a kept number by its mark (R76, R85, R93, R106)
 abbrev pub EveryJudgedOfBytes : Type 0
-EveryJudgedOfBytes = (p : Step) → Allowed p → (x t : ℕ) → 0 < indexOf x → p .call ≡ route x → p .told ≡ tells (toBackend t (indexOf x) (numberOf x))
+EveryJudgedOfBytes = (p : Step) → Allowed p → (x t : ℕ) → 0 < indexOf x → p .call ≡ ask (route x) → p .told ≡ tells (toBackend t (indexOf x) (numberOf x))
     → (ss : List Step) → Run (p .after) ss → NoneGives (indexOf x) ss
-    → (q : Step) → Allowed q → q .before ≡ lastOf (p .after) ss → q .call ≡ route x → q .told .code ≡ DONE → q .told ≡ p .told
+    → (q : Step) → Allowed q → q .before ≡ lastOf (p .after) ss → q .call ≡ ask (route x) → q .told .code ≡ DONE → q .told ≡ p .told
 
 -- a number below the next one that no node has is given to no node again, over any steps without a done state restore (R49)
 abbrev pub NeverAgainOfBytes : Type 0
 NeverAgainOfBytes = (mem : List ℕ) → laid mem ≡ true → (x : ℕ) → x < view mem .tree .next → nodeIn (view mem .tree .nodes) x ≡ none
-    → (ss : List Step) → Run mem ss → NoneRestored ss → nodeIn (view (lastOf mem ss) .tree .nodes) x ≡ none
+    → (ss : List Step) → Run mem ss → NoStateRestores ss → nodeIn (view (lastOf mem ss) .tree .nodes) x ≡ none

@@ -8,16 +8,16 @@ use denote.Ref.{RefT}
 use lib.Dec.{eqb}
 use lib.ListN.{length}
 use Rattle.rules.specs.Numbers.{DONE}
-use Rattle.rules.specs.Calls.{Call, mount, restore-mount, umount, set-remove-pseudo-root, path-walk, get-rootfs, route, lookup, readdir, remap-attr-id, options, initialized, save, restore}
-use Rattle.rules.specs.Driven.{Typed, Driven}
+use Rattle.rules.specs.Calls.{Call, mount, restore-mount, umount, set-remove-pseudo-root, ask, path-walk, get-rootfs, route, lookup, readdir, remap-attr-id, options, initialized, save-to-bytes, restore-from-bytes}
+use Rattle.rules.specs.claims.Driven.{Typed, Driven}
 use Rattle.tables.specs.View.{view}
-use Rattle.tables.specs.Rule.{laid}
-use Rattle.tables.specs.Call.{Told}
+use Rattle.tables.specs.Laid.{laid}
+use Rattle.call_form.specs.Form.{Told}
 use Rattle.inode.specs.declared.VfsInode.{VfsInode}
 use Rattle.inode.specs.declared.NodeNumber.{NodeNumber}
 use Rattle.storage.specs.Answers.{removalTold, initializedTold, optionsTold}
 use Rattle.storage.specs.Creation.{createdCode}
-use Rattle.storage.specs.declared.VfsOptions.{VfsOptions}
+use Rattle.vfs_options.specs.declared.VfsOptions.{VfsOptions}
 use Rattle.storage.specs.declared.Created.{Created as CreatedAnswer}
 use Rattle.storage.specs.declared.Removal.{Removal}
 use Rattle.storage.specs.declared.IsInitialized.{IsInitialized}
@@ -31,18 +31,18 @@ use Rattle.vfs_query.specs.declared.Routed.{Routed}
 use Rattle.vfs_query.specs.declared.Rootfs.{Rootfs}
 use Rattle.vfs_query.specs.declared.Looked.{Looked}
 use Rattle.vfs_query.specs.declared.Remapped.{Remapped}
-use Rattle.vfs.specs.Mounting.{requestOf, mountedTold}
-use Rattle.vfs.specs.Restoring.{restoredTold}
+use Rattle.mount_parts.specs.Mounting.{requestOf, mountedTold}
+use Rattle.mount_parts.specs.RestoredMounting.{restoredMountTold}
 use Rattle.vfs.specs.Unmounting.{unmountedTold}
 use Rattle.vfs.specs.Runs.{Step, Allowed, Run, lastOf}
-use Rattle.vfs.specs.declared.backend.Backend.{Backend}
-use Rattle.vfs.specs.declared.mounting.Mounted.{Mounted}
-use Rattle.vfs.specs.declared.restoring.RestoredMount.{RestoredMount}
+use Rattle.mount_parts.specs.declared.backend.Backend.{Backend}
+use Rattle.mount_parts.specs.declared.mounting.Mounted.{Mounted}
+use Rattle.mount_parts.specs.declared.restored_mounting.RestoredMount.{RestoredMount}
 use Rattle.vfs.specs.declared.unmounting.Unmounted.{Unmounted}
 use Rattle.persist.specs.Saving.{savedTold}
-use Rattle.persist.specs.Restoring.{stateTold}
+use Rattle.persist.specs.StateRestoring.{stateRestoredTold}
 use Rattle.persist.specs.declared.saving.Saved.{Saved}
-use Rattle.persist.specs.declared.restoring.StateRestored.{StateRestored}
+use Rattle.persist.specs.declared.state_restoring.StateRestored.{StateRestored}
 use Rattle.flat.specs.declared.CodeAnswer.{CodeAnswer}
 use Rattle.flat.specs.declared.InitializedAnswer.{InitializedAnswer}
 use Rattle.flat.specs.declared.OptionsAnswer.{OptionsAnswer}
@@ -68,10 +68,10 @@ use Rattle.vfs_query.proofs.route.Reads as query-route
 use Rattle.vfs_query.proofs.lookup.Reads as query-lookup
 use Rattle.vfs_query.proofs.remap_attr_id.Reads as query-remap
 use Rattle.vfs.proofs.mounting.mount.Reads as vfs-mount
-use Rattle.vfs.proofs.restoring.restore_mount.Reads as vfs-restore-mount
+use Rattle.vfs.proofs.restored_mounting.restore_mount.Reads as vfs-restore-mount
 use Rattle.vfs.proofs.unmounting.umount.Reads as vfs-umount
 use Rattle.persist.proofs.saving.save_to_bytes.Reads as persist-save
-use Rattle.persist.proofs.restoring.restore_from_bytes.Reads as persist-restore
+use Rattle.persist.proofs.state_restoring.restore_from_bytes.Reads as persist-restore
 use Rattle.gateway.proofs.instance.galdovar_create.Reads as galdovar-create
 use Rattle.gateway.proofs.instance.galdovar_set_remove_pseudo_root.Reads as galdovar-remove
 use Rattle.gateway.proofs.instance.galdovar_options.Reads as galdovar-options
@@ -105,21 +105,21 @@ pub data Called : Step → Type 0 where
   by-mount : (κs : _) (s path : Lent) (b : Backend) (r : Mounted) (x : _) → vfs-mount.Post κs (s, (path, (b, tt))) r x
       → Called (stepBy (s .now) (mount (requestOf (path .now) b)) (mountedTold r) (x .0 .now))
   by-restore-mount : (κs : _) (s : Lent) (k : ℕ) (path : Lent) (b : Backend) (r : RestoredMount) (x : _) → vfs-restore-mount.Post κs (s, (k, (path, (b, tt)))) r x
-      → Called (stepBy (s .now) (restore-mount k (requestOf (path .now) b)) (restoredTold r) (x .0 .now))
+      → Called (stepBy (s .now) (restore-mount k (requestOf (path .now) b)) (restoredMountTold r) (x .0 .now))
   by-umount : (κs : _) (s path : Lent) (r : Unmounted) (x : _) → vfs-umount.Post κs (s, (path, tt)) r x → Called (stepBy (s .now) (umount (path .now)) (unmountedTold r) (x .0 .now))
-  by-restore : (κs : _) (s b : Lent) (r : StateRestored) (x : _) → persist-restore.Post κs (s, (b, tt)) r x → Called (stepBy (s .now) (restore (b .now)) (stateTold r) (x .0 .now))
-  by-walk : (κs : _) (s path : Lent) (r : PathWalk) (x : _) → tree-walk.Post κs (s, (path, tt)) r x → Called (stepBy (s .now) (path-walk (path .now)) (pathWalkTold r) (s .now))
-  by-rootfs : (κs : _) (s path : Lent) (r : Rootfs) (x : _) → query-rootfs.Post κs (s, (path, tt)) r x → Called (stepBy (s .now) (get-rootfs (path .now)) (rootfsTold r) (s .now))
-  by-route : (κs : _) (s : Lent) (n : VfsInode) (r : Routed) (x : _) → query-route.Post κs (s, (n, tt)) r x → Called (stepBy (s .now) (route (n .0)) (routedTold r) (s .now))
+  by-restore : (κs : _) (s b : Lent) (r : StateRestored) (x : _) → persist-restore.Post κs (s, (b, tt)) r x → Called (stepBy (s .now) (restore-from-bytes (b .now)) (stateRestoredTold r) (x .0 .now))
+  by-walk : (κs : _) (s path : Lent) (r : PathWalk) (x : _) → tree-walk.Post κs (s, (path, tt)) r x → Called (stepBy (s .now) (ask (path-walk (path .now))) (pathWalkTold r) (s .now))
+  by-rootfs : (κs : _) (s path : Lent) (r : Rootfs) (x : _) → query-rootfs.Post κs (s, (path, tt)) r x → Called (stepBy (s .now) (ask (get-rootfs (path .now))) (rootfsTold r) (s .now))
+  by-route : (κs : _) (s : Lent) (n : VfsInode) (r : Routed) (x : _) → query-route.Post κs (s, (n, tt)) r x → Called (stepBy (s .now) (ask (route (n .0))) (routedTold r) (s .now))
   by-lookup : (κs : _) (s : Lent) (n : NodeNumber) (name : Lent) (r : Looked) (x : _) → query-lookup.Post κs (s, (n, (name, tt))) r x
-      → Called (stepBy (s .now) (lookup (n .0) (name .now)) (lookedTold r) (s .now))
+      → Called (stepBy (s .now) (ask (lookup (n .0) (name .now))) (lookedTold r) (s .now))
   by-remap : (κs : _) (s : Lent) (uid gid : ℕ) (out : Bool) (r : Remapped) (x : _) → query-remap.Post κs (s, (uid, (gid, (out, tt)))) r x
-      → Called (stepBy (s .now) (remap-attr-id out uid gid) (remappedTold r) (s .now))
-  by-options : (κs : _) (s : Lent) (r : OptionsOf) (x : _) → storage-options.Post κs (s, tt) r x → Called (stepBy (s .now) options (optionsTold r) (s .now))
-  by-initialized : (κs : _) (s : Lent) (r : IsInitialized) (x : _) → storage-initialized.Post κs (s, tt) r x → Called (stepBy (s .now) initialized (initializedTold r) (s .now))
+      → Called (stepBy (s .now) (ask (remap-attr-id out uid gid)) (remappedTold r) (s .now))
+  by-options : (κs : _) (s : Lent) (r : OptionsOf) (x : _) → storage-options.Post κs (s, tt) r x → Called (stepBy (s .now) (ask options) (optionsTold r) (s .now))
+  by-initialized : (κs : _) (s : Lent) (r : IsInitialized) (x : _) → storage-initialized.Post κs (s, tt) r x → Called (stepBy (s .now) (ask initialized) (initializedTold r) (s .now))
   by-readdir : (κs : _) (s : Lent) (n : NodeNumber) (size offset : ℕ) (out : Lent) (r : Listed) (x : _) → listing-readdir.Post κs (s, (n, (size, (offset, (out, tt))))) r x
-      → Called (stepBy (s .now) (readdir (record { node = n .0; size = size; offset = offset; buffer = length (out .now) })) (listedTold r) (s .now))
-  by-save : (κs : _) (s out : Lent) (r : Saved) (x : _) → persist-save.Post κs (s, (out, tt)) r x → Called (stepBy (s .now) (save (length (out .now))) (savedTold r) (s .now))
+      → Called (stepBy (s .now) (ask (readdir (record { node = n .0; size = size; offset = offset; buffer = length (out .now) }))) (listedTold r) (s .now))
+  by-save : (κs : _) (s out : Lent) (r : Saved) (x : _) → persist-save.Post κs (s, (out, tt)) r x → Called (stepBy (s .now) (ask (save-to-bytes (length (out .now)))) (savedTold r) (s .now))
 
 -- ---- the exports
 
@@ -133,19 +133,19 @@ pub data Exported : Step → Type 0 where
       → galdovar-restore-mount.Post κs (s, (k, (path, (tag, (root, (largest, (uid, (gid, (mode, tt))))))))) r x
       → Exported (stepBy (s .now) (restore-mount k (requestBy (path .now) tag root largest uid gid mode)) (restoreMountRead r) (x .0 .now))
   by-umount : (κs : _) (s path : Lent) (r : UmountAnswer) (x : _) → galdovar-umount.Post κs (s, (path, tt)) r x → Exported (stepBy (s .now) (umount (path .now)) (umountRead r) (x .0 .now))
-  by-restore : (κs : _) (s b : Lent) (r : CodeAnswer) (x : _) → galdovar-restore.Post κs (s, (b, tt)) r x → Exported (stepBy (s .now) (restore (b .now)) (codeRead r) (x .0 .now))
-  by-walk : (κs : _) (s path : Lent) (r : WalkAnswer) (x : _) → galdovar-walk.Post κs (s, (path, tt)) r x → Exported (stepBy (s .now) (path-walk (path .now)) (walkRead r) (s .now))
-  by-rootfs : (κs : _) (s path : Lent) (r : RootfsAnswer) (x : _) → galdovar-rootfs.Post κs (s, (path, tt)) r x → Exported (stepBy (s .now) (get-rootfs (path .now)) (rootfsRead r) (s .now))
-  by-route : (κs : _) (s : Lent) (n : ℕ) (r : RouteAnswer) (x : _) → galdovar-route.Post κs (s, (n, tt)) r x → Exported (stepBy (s .now) (route n) (routeRead r) (s .now))
+  by-restore : (κs : _) (s b : Lent) (r : CodeAnswer) (x : _) → galdovar-restore.Post κs (s, (b, tt)) r x → Exported (stepBy (s .now) (restore-from-bytes (b .now)) (codeRead r) (x .0 .now))
+  by-walk : (κs : _) (s path : Lent) (r : WalkAnswer) (x : _) → galdovar-walk.Post κs (s, (path, tt)) r x → Exported (stepBy (s .now) (ask (path-walk (path .now))) (walkRead r) (s .now))
+  by-rootfs : (κs : _) (s path : Lent) (r : RootfsAnswer) (x : _) → galdovar-rootfs.Post κs (s, (path, tt)) r x → Exported (stepBy (s .now) (ask (get-rootfs (path .now))) (rootfsRead r) (s .now))
+  by-route : (κs : _) (s : Lent) (n : ℕ) (r : RouteAnswer) (x : _) → galdovar-route.Post κs (s, (n, tt)) r x → Exported (stepBy (s .now) (ask (route n)) (routeRead r) (s .now))
   by-lookup : (κs : _) (s : Lent) (n : ℕ) (name : Lent) (r : LookupAnswer) (x : _) → galdovar-lookup.Post κs (s, (n, (name, tt))) r x
-      → Exported (stepBy (s .now) (lookup n (name .now)) (lookupRead r) (s .now))
+      → Exported (stepBy (s .now) (ask (lookup n (name .now))) (lookupRead r) (s .now))
   by-remap : (κs : _) (s : Lent) (uid gid out : ℕ) (r : IdsAnswer) (x : _) → galdovar-remap.Post κs (s, (uid, (gid, (out, tt)))) r x
-      → Exported (stepBy (s .now) (remap-attr-id (not (eqb out 0)) uid gid) (idsRead r) (s .now))
-  by-options : (κs : _) (s : Lent) (r : OptionsAnswer) (x : _) → galdovar-options.Post κs (s, tt) r x → Exported (stepBy (s .now) options (optionsRead r) (s .now))
-  by-initialized : (κs : _) (s : Lent) (r : InitializedAnswer) (x : _) → galdovar-initialized.Post κs (s, tt) r x → Exported (stepBy (s .now) initialized (initializedRead r) (s .now))
+      → Exported (stepBy (s .now) (ask (remap-attr-id (not (eqb out 0)) uid gid)) (idsRead r) (s .now))
+  by-options : (κs : _) (s : Lent) (r : OptionsAnswer) (x : _) → galdovar-options.Post κs (s, tt) r x → Exported (stepBy (s .now) (ask options) (optionsRead r) (s .now))
+  by-initialized : (κs : _) (s : Lent) (r : InitializedAnswer) (x : _) → galdovar-initialized.Post κs (s, tt) r x → Exported (stepBy (s .now) (ask initialized) (initializedRead r) (s .now))
   by-readdir : (κs : _) (s : Lent) (n size offset : ℕ) (out : Lent) (r : WroteAnswer) (x : _) → galdovar-readdir.Post κs (s, (n, (size, (offset, (out, tt))))) r x
-      → Exported (stepBy (s .now) (readdir (record { node = n; size = size; offset = offset; buffer = length (out .now) })) (wroteRead r) (s .now))
-  by-save : (κs : _) (s out : Lent) (r : WroteAnswer) (x : _) → galdovar-save.Post κs (s, (out, tt)) r x → Exported (stepBy (s .now) (save (length (out .now))) (wroteRead r) (s .now))
+      → Exported (stepBy (s .now) (ask (readdir (record { node = n; size = size; offset = offset; buffer = length (out .now) }))) (wroteRead r) (s .now))
+  by-save : (κs : _) (s out : Lent) (r : WroteAnswer) (x : _) → galdovar-save.Post κs (s, (out, tt)) r x → Exported (stepBy (s .now) (ask (save-to-bytes (length (out .now)))) (wroteRead r) (s .now))
 
 -- ---- the claims
 
@@ -167,16 +167,16 @@ abbrev pub EveryRunBy : Type 0
 EveryRunBy = (mem : List ℕ) (ss : List Step) → RunBy mem ss → Run mem ss
 
 -- bytes that a creation left, the call or the export, which told that it is done; its mask is a number of 64 bits (R26)
-pub data Created : List ℕ → Type 0 where
+pub data CreatedBytes : List ℕ → Type 0 where
   by-create : (κs : _) (s : Lent) (n known : ℕ) (o : VfsOptions) (r : CreatedAnswer) (x : _) → storage-create.Post κs (s, (n, (known, (o, tt)))) r x
-      → known < 2 ^ 64 → createdCode r ≡ DONE → Created (x .0 .now)
+      → known < 2 ^ 64 → createdCode r ≡ DONE → CreatedBytes (x .0 .now)
   by-export : (κs : _) (s : Lent) (n known ins outs flags internal external range : ℕ) (r : CodeAnswer) (x : _)
       → galdovar-create.Post κs (s, (n, (known, (ins, (outs, (flags, (internal, (external, (range, tt))))))))) r x
-      → known < 2 ^ 64 → r .code ≡ DONE → Created (x .0 .now)
+      → known < 2 ^ 64 → r .code ≡ DONE → CreatedBytes (x .0 .now)
 
 -- keep the layout rule and stand for a driven instance
 abbrev pub EveryCreated : Type 0
-EveryCreated = (mem : List ℕ) → Created mem → (laid mem ≡ true) × Driven (view mem)
+EveryCreated = (mem : List ℕ) → CreatedBytes mem → (laid mem ≡ true) × Driven (view mem)
 
 -- the bytes that the steps restore are bytes
 unfoldable pub TypedIn : List Step → Type 0

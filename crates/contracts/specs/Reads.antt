@@ -4,8 +4,8 @@ use mathlib.Core.Bool.{cond, not}
 use mathlib.Core.Option.{Option, none, some}
 use lib.Dec.{eqb}
 use Rattle.rules.specs.Numbers.{DONE}
-use Rattle.rules.specs.Outcome.{Answer, nothing, mounted, restored, unmounted, walked, rootfs, toTree, toBackend, entry, ids, wrote, settings, truth}
-use Rattle.tables.specs.Call.{Told}
+use Rattle.rules.specs.Outcome.{Answer, nothing, mounted, restoredMount, unmounted, walked, rootfs, toTree, toBackend, entry, ids, wrote, settings, truth}
+use Rattle.call_form.specs.Form.{Told}
 use Rattle.flat.specs.declared.CodeAnswer.{CodeAnswer}
 use Rattle.flat.specs.declared.InitializedAnswer.{InitializedAnswer}
 use Rattle.flat.specs.declared.OptionsAnswer.{OptionsAnswer}
@@ -18,7 +18,7 @@ use Rattle.flat.specs.declared.RouteAnswer.{RouteAnswer}
 use Rattle.flat.specs.declared.LookupAnswer.{LookupAnswer}
 use Rattle.flat.specs.declared.WroteAnswer.{WroteAnswer}
 use Rattle.flat.specs.declared.IdsAnswer.{IdsAnswer}
-use Rattle.gateway.specs.Calls.{mappingBy}
+use Rattle.rules.specs.Ids.{mappingBy}
 
 -- a value where the field before it is not 0, else none (R16)
 abbrev pub valueIf : {A : Type 0} → ℕ → A → Option A
@@ -47,7 +47,7 @@ mountRead r = readAs (r .code) (mounted (r .«fs_idx») (valueIf (r .«has_repla
 
 -- the tag replaced or none, the tag displaced or none (R93)
 abbrev pub restoreMountRead : RestoreMountAnswer → Told
-restoreMountRead r = readAs (r .code) (restored (valueIf (r .«has_replaced») (r .replaced)) (valueIf (r .«has_displaced») (r .displaced))) 0
+restoreMountRead r = readAs (r .code) (restoredMount (valueIf (r .«has_replaced») (r .replaced)) (valueIf (r .«has_displaced») (r .displaced))) 0
 
 -- node, parent, and the tag released or none (R97)
 abbrev pub umountRead : UmountAnswer → Told

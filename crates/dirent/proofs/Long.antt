@@ -1,4 +1,4 @@
--- An entry whose name has 8 bytes or more, laid word by word: zeros, whole words, and the last eight bytes over them. Assumes nothing.
+-- A name that has 8 bytes or more, laid word by word: zeros, whole words, and the last eight bytes over them. Assumes nothing.
 use mathlib.Core.Path.{_≡_, refl, sym, ap, ap₂, _∙_}
 use mathlib.Core.Logic.{inl, inr}
 use mathlib.Core.List.{List, [], _∷_, _++_, append-assoc}
@@ -7,12 +7,12 @@ use native.Mathlib.Nat.{add-zero, zero-add}
 use native.Mathlib.Omega.{arith}
 use lib.ListN.{length, getD, replicate, length-append, length-replicate}
 use Rattle.rules.specs.Fields.{bytesOf, fields}
-use Rattle.rules.specs.Listing.{padding, recordOf, direntRow, dirent}
+use Rattle.rules.specs.Listing.{padding, direntRow, dirent}
 use Rattle.rules.proofs.Fields.{length-read, length-bytesOf, bytes-back, get-fits, read-add, read-all}
 use Rattle.le.specs.Mem.{read, get, write, put, Bytes}
 use Rattle.le.proofs.Lens.{length-write, zeros, write-append, get-one, read-apart, read-part, read-within, read-same, read-filled}
-use Rattle.dirent.specs.Lays.{Lays}
-use Rattle.dirent.proofs.Records.{frontOf, front-length, entry-length, lays-in, lays-out}
+use Rattle.dirent.specs.Lays.{Lays, nameField}
+use Rattle.dirent.proofs.Records.{sized-in, sized-out}
 
 -- ---- words copied: the first of n stands there, and i are done
 
@@ -161,20 +161,14 @@ module _ (m : List ℕ) (at z k pad rest : ℕ) (r t : List ℕ) (long : length 
       ∙ ap (λ (x : List ℕ). write x (at + k + 8) (replicate pad 0))
       (write-append m at p t ∙ ap (λ (x : ℕ). write (write m at p) (at + x) t) (length-read r 0 k)))
 
--- ---- the entry
+-- ---- the name
 
-module _ (d : List ℕ) (ino off : ℕ) (src : List ℕ) (from len last : ℕ) (b : Bytes src) (some : 8 ≤ len) (small : last < 2 ^ 56) where
+module _ (d : List ℕ) (at : ℕ) (src : List ℕ) (from len last : ℕ) (b : Bytes src) (some : 8 ≤ len) (small : last < 2 ^ 56) where
   abbrev name : List ℕ
   name = read src from (len - 7) ++ bytesOf 7 last
 
   size : length name ≡ len
   size = length-append (read src from (len - 7)) (bytesOf 7 last) ∙ omega (arith, length-read src from (len - 7), length-bytesOf 7 last)
-
-  long : length (dirent ino off name) ≡ 24 + (len + 7) / 8 * 8
-  long = omega (arith, entry-length ino off name, size)
-
-  pub long-out : length d < 24 + (len + 7) / 8 * 8 → Lays d (length d) (dirent ino off name ∷ []) 0 d
-  long-out h = lays-out d (length d) (dirent ino off name) 0 d (record { short = omega (arith, long); count = refl; bytes = refl })
 
   -- the last eight bytes
   ending : (v : ℕ) → v ≡ get 1 src (from + (len - 8)) → bytesOf 8 (last * 256 + v) ≡ read src (from + (len - 8)) 1 ++ bytesOf 7 last
@@ -186,29 +180,21 @@ module _ (d : List ℕ) (ino off : ℕ) (src : List ℕ) (from len last : ℕ) (
       let high : (last * 256 + v) / 256 ≡ last = omega arith in
       rw (low, high, g)
 
-  module _ (e₁ e₂ e₃ e₄ : List ℕ) (v : ℕ) (h : 24 + (len + 7) / 8 * 8 ≤ length d) (q₁ : e₁ ≡ write d 0 (fields direntRow (ino ∷ off ∷ len ∷ 0 ∷ [])))
-      (q₂ : e₂ ≡ put 8 e₁ (24 + (len + 7) / 8 * 8 - 8) 0) (q₃ : e₃ ≡ write e₂ 24 (read src from (8 * (len / 8)))) (qv : v ≡ get 1 src (from + (len - 8)))
-      (q₄ : e₄ ≡ put 8 e₃ (24 + (len - 8)) (last * 256 + v)) where
-    abbrev front : List ℕ
-    front = frontOf ino off name
-
+  module _ (e₁ e₂ e₃ : List ℕ) (v : ℕ) (h : at + (len + 7) / 8 * 8 ≤ length d) (q₁ : e₁ ≡ put 8 d (at + (len + 7) / 8 * 8 - 8) 0)
+      (q₂ : e₂ ≡ write e₁ at (read src from (8 * (len / 8)))) (qv : v ≡ get 1 src (from + (len - 8))) (q₃ : e₃ ≡ put 8 e₂ (at + (len - 8)) (last * 256 + v)) where
     abbrev tail : List ℕ
     tail = bytesOf 8 (last * 256 + v)
 
     abbrev pad : ℕ
-    pad = padding (24 + len)
+    pad = padding len
 
-    first : e₁ ≡ write d 0 front
-    first = q₁ ∙ ap (λ (n : ℕ). write d 0 (fields direntRow (ino ∷ off ∷ n ∷ 0 ∷ []))) (sym size)
-
-    -- the writes behind the fixed part
-    over : e₄ ≡ write e₁ 24 ((read (read src from (8 * (len / 8))) 0 (len - 8) ++ tail) ++ replicate pad 0)
+    -- the writes
+    over : e₃ ≡ write d at ((read (read src from (8 * (len / 8))) 0 (len - 8) ++ tail) ++ replicate pad 0)
     unfolding put
     over =
-        let l : length e₁ ≡ length d = ap length first ∙ length-write d 0 front in
-        let z : e₂ ≡ write e₁ (24 + (len + 7) / 8 * 8 - 8) (replicate 8 0) = q₂ ∙ ap (write e₁ (24 + (len + 7) / 8 * 8 - 8)) (zeros 8) in
-        q₄ ∙ ap (λ (x : List ℕ). write x (24 + (len - 8)) tail) (q₃ ∙ ap (λ (x : List ℕ). write x 24 (read src from (8 * (len / 8)))) z)
-        ∙ laid-over e₁ 24 (24 + (len + 7) / 8 * 8 - 8) (len - 8) pad (length d - (24 + (len + 7) / 8 * 8)) (read src from (8 * (len / 8))) tail (omega arith) (omega arith) (omega arith) (omega arith)
+        let z : e₁ ≡ write d (at + (len + 7) / 8 * 8 - 8) (replicate 8 0) = q₁ ∙ ap (write d (at + (len + 7) / 8 * 8 - 8)) (zeros 8) in
+        q₃ ∙ ap (λ (x : List ℕ). write x (at + (len - 8)) tail) (q₂ ∙ ap (λ (x : List ℕ). write x at (read src from (8 * (len / 8)))) z)
+        ∙ laid-over d at (at + (len + 7) / 8 * 8 - 8) (len - 8) pad (length d - (at + (len + 7) / 8 * 8)) (read src from (8 * (len / 8))) tail (omega arith) (omega arith) (omega arith) (omega arith)
         (omega (arith, length-read src from (8 * (len / 8)))) (omega (arith, length-read src from (8 * (len / 8)))) (length-bytesOf 8 (last * 256 + v))
 
     -- they are the name
@@ -220,16 +206,22 @@ module _ (d : List ℕ) (ino off : ℕ) (src : List ℕ) (from len last : ℕ) (
         ap₂ (λ (x y : List ℕ). x ++ y) p (ending v qv) ∙ sym (append-assoc (read src from (len - 8)) (read src (from + (len - 8)) 1) (bytesOf 7 last))
         ∙ ap (λ (x : List ℕ). x ++ bytesOf 7 last) (sym (read-add src from (len - 8) 1) ∙ ap (read src from) n)
 
-    all : e₄ ≡ write d 0 (dirent ino off name)
-    unfolding dirent recordOf
-    all =
-        let zs : List ℕ = replicate pad 0 in
-        let n : length front + length name ≡ 24 + len = omega (arith, front-length ino off name, size) in
-        let f : 0 + length front ≡ 24 = omega (arith, front-length ino off name) in
-        over ∙ ap (λ (x : List ℕ). write e₁ 24 (x ++ zs)) spelt ∙ ap (λ (x : List ℕ). write x 24 (name ++ zs)) first
-        ∙ sym
-        (ap (λ (x : ℕ). write d 0 (front ++ (name ++ replicate (padding x) 0))) n ∙ write-append d 0 front (name ++ zs)
-        ∙ ap (λ (x : ℕ). write (write d 0 front) x (name ++ zs)) f)
+    pub long-words : e₃ ≡ write d at (nameField name)
+    unfolding nameField
+    long-words = over ∙ ap (λ (x : List ℕ). write d at (x ++ replicate pad 0)) spelt ∙ ap (λ (n : ℕ). write d at (name ++ replicate (padding n) 0)) (sym size)
 
-    pub long-in : Lays d (length d) (dirent ino off name ∷ []) (24 + (len + 7) / 8 * 8) e₄
-    long-in = lays-in d (length d) (dirent ino off name) (24 + (len + 7) / 8 * 8) e₄ (record { fits = omega (arith, long); count = sym long; bytes = all })
+-- ---- the entry
+
+module _ (src : List ℕ) (from len last : ℕ) (some : 8 ≤ len) where
+  abbrev text : List ℕ
+  text = read src from (len - 7) ++ bytesOf 7 last
+
+  text-length : len ≡ length text
+  text-length = omega (arith, length-append (read src from (len - 7)) (bytesOf 7 last), length-read src from (len - 7), length-bytesOf 7 last)
+
+  pub long-out : (d : List ℕ) (ino off : ℕ) → length d < 24 + (len + 7) / 8 * 8 → Lays d (length d) (dirent ino off text ∷ []) 0 d
+  long-out d ino off h = sized-out d ino off text len text-length h
+
+  pub long-in : (d : List ℕ) (ino off r : ℕ) (e f : List ℕ) → r ≡ 24 + (len + 7) / 8 * 8 → r ≤ length d → e ≡ write d 0 (fields direntRow (ino ∷ off ∷ len ∷ 0 ∷ [])) → f ≡ write e 24 (nameField text)
+      → Lays d (length d) (dirent ino off text ∷ []) r f
+  long-in d ino off r e f q h a b = sized-in d ino off text len text-length r e f q h a b

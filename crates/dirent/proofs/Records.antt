@@ -1,7 +1,7 @@
 -- One record: how long it is, what is told of it where it is laid or not, and its parts written one by one. Assumes nothing.
 use mathlib.Core.Path.{_≡_, refl, sym, ap, _∙_}
 use mathlib.Core.List.{List, [], _∷_, _++_, append-nil}
-use Prim.Native.Nat.{ℕ, _+_, _-_, _%_, _^_, _≤_, _<_}
+use Prim.Native.Nat.{ℕ, _+_, _-_, _*_, _/_, _%_, _^_, _≤_, _<_}
 use native.Mathlib.Nat.{zero-add}
 use native.Mathlib.Omega.{arith}
 use native.Mathlib.Decide.{decLe}
@@ -9,17 +9,20 @@ use lib.ListN.{length, drop, replicate, length-append, length-replicate}
 use borrow.Author.Tests.{le-leb, lt-leb}
 use Rattle.rules.specs.Fields.{fields}
 use Rattle.rules.specs.Listing.{padding, recordOf, direntRow, dirent, laidRecords}
-use Rattle.rules.proofs.Fields.{length-read, total, fields-length}
-use Rattle.le.specs.Mem.{read, write, put}
-use Rattle.le.proofs.Lens.{length-write, write-append, put-write, low-bytes}
-use Rattle.le.proofs.Writes.{write-over, write-front, write-read}
-use Rattle.dirent.specs.Lays.{Lays, EveryEights, LaysOver}
+use Rattle.rules.proofs.Fields.{fields-length}
+use Rattle.le.specs.Mem.{write, put}
+use Rattle.le.proofs.Lens.{write-append, put-write, low-bytes}
+use Rattle.le.proofs.Writes.{write-over}
+use Rattle.dirent.specs.Lays.{Lays, nameField, EveryWhole, EveryEights, LaysOver}
 
 -- ---- how long it is
 
 record-length : (f p : List ℕ) → length (recordOf f p) ≡ length f + length p + padding (length f + length p)
 unfolding recordOf
 record-length f p = simp (length-append, length-replicate) (omega arith)
+
+pub record-whole : EveryWhole
+record-whole f p e = omega (arith, record-length f p)
 
 record-eights : (f p : List ℕ) → length (recordOf f p) % 8 ≡ 0
 record-eights f p = omega (arith, record-length f p)
@@ -29,15 +32,11 @@ frontOf ino off name = fields direntRow (ino ∷ off ∷ length name ∷ 0 ∷ [
 
 module _ (ino off : ℕ) (name : List ℕ) where
   pub front-length : length (frontOf ino off name) ≡ 24
-  unfolding total
   front-length = fields-length direntRow (ino ∷ off ∷ length name ∷ 0 ∷ []) refl
 
-  pub entry-length : length (dirent ino off name) ≡ 24 + length name + padding (24 + length name)
-  unfolding dirent
-  entry-length = omega (arith, front-length, record-length (frontOf ino off name) name)
-
   pub entry-some : 0 < length (dirent ino off name)
-  entry-some = omega (arith, entry-length)
+  unfolding dirent
+  entry-some = omega (arith, front-length, record-length (frontOf ino off name) name)
 
 pub entry-eights : EveryEights
 unfolding dirent
@@ -106,62 +105,17 @@ module _ (d : List ℕ) (room : ℕ) (r : List ℕ) (n : ℕ) (e : List ℕ) whe
 
 -- ---- part by part
 
--- the name and the zeros, behind what stands there
-name-behind : (d : List ℕ) (front : ℕ) (p e₁ e₂ : List ℕ) → e₁ ≡ write d front p
-    → e₂ ≡ write e₁ (front + length p) (replicate (padding (front + length p)) 0) → e₂ ≡ write d 0 (recordOf (read d 0 front) p)
+-- a fixed part at 0, and behind it the name with its zeros
+pub parts : (d f p e₁ e₂ : List ℕ) → e₁ ≡ write d 0 f → e₂ ≡ write e₁ (length f) (p ++ replicate (padding (length f + length p)) 0) → e₂ ≡ write d 0 (recordOf f p)
 unfolding recordOf
-name-behind d front p e₁ e₂ a b =
-    let f : List ℕ = read d 0 front in
-    let tail : List ℕ = p ++ replicate (padding (front + length p)) 0 in
-    let l : length f ≡ front = length-read d 0 front in
-    let same : write d 0 (f ++ tail) ≡ write d front tail =
-    write-append d 0 f tail ∙ (λ i. write (write-read d 0 front i) ((zero-add (length f) ∙ l) i) tail) in
-    b ∙ ap (λ (m : List ℕ). write m (front + length p) (replicate (padding (front + length p)) 0)) a
-    ∙ sym (ap (λ (k : ℕ). write d 0 (f ++ (p ++ replicate (padding (k + length p)) 0))) l ∙ same ∙ write-append d front p (replicate (padding (front + length p)) 0))
+parts d f p e₁ e₂ a b =
+    let t : List ℕ = p ++ replicate (padding (length f + length p)) 0 in
+    b ∙ ap (λ (m : List ℕ). write m (length f) t) a ∙ sym (write-append d 0 f t ∙ ap (λ (k : ℕ). write (write d 0 f) k t) (zero-add (length f)))
 
--- such a record is laid where it fits, and else not
-module _ (d : List ℕ) (front : ℕ) (p : List ℕ) where
-  abbrev pub nameEnd : ℕ
-  nameEnd = front + length p + padding (front + length p)
-
-  behind-length : length (recordOf (read d 0 front) p) ≡ nameEnd
-  behind-length = record-length (read d 0 front) p ∙ ap (λ (k : ℕ). k + length p + padding (k + length p)) (length-read d 0 front)
-
-  pub name-in : (e₁ e₂ : List ℕ) → nameEnd ≤ length d → e₁ ≡ write d front p → e₂ ≡ write e₁ (front + length p) (replicate (padding (front + length p)) 0)
-      → Lays d (length d) (recordOf (read d 0 front) p ∷ []) nameEnd e₂
-  name-in e₁ e₂ h a b =
-      lays-in d (length d) (recordOf (read d 0 front) p) nameEnd e₂
-      (record { fits = omega (arith, behind-length); count = sym behind-length; bytes = name-behind d front p e₁ e₂ a b })
-
-  pub name-out : length d < nameEnd → Lays d (length d) (recordOf (read d 0 front) p ∷ []) 0 d
-  name-out h = lays-out d (length d) (recordOf (read d 0 front) p) 0 d (record { short = omega (arith, behind-length); count = refl; bytes = refl })
-
--- another fixed part, as long
-module _ (d f g p : List ℕ) (n : ℕ) (e : List ℕ) (l : length f ≡ length g) (w : Lays d (length d) (recordOf f p ∷ []) n e) where
-  as-long : length (recordOf f p) ≡ length (recordOf g p)
-  as-long = record-length f p ∙ ap (λ (k : ℕ). k + length p + padding (k + length p)) l ∙ sym (record-length g p)
-
-  anew : length (recordOf f p) ≤ length d → e ≡ write d 0 (recordOf f p) → write e 0 g ≡ write d 0 (recordOf g p)
-  unfolding recordOf
-  anew h b =
-      let zeros : ℕ → List ℕ = λ k. replicate (padding (k + length p)) 0 in
-      ap (λ (m : List ℕ). write m 0 g) b ∙ write-front d f g (p ++ zeros (length f)) l h ∙ ap (λ (k : ℕ). write d 0 (g ++ (p ++ zeros k))) l
-
-  front-in : (n ≡ 0 → ⊥) → Lays d (length d) (recordOf g p ∷ []) n (write e 0 g)
-  front-in z =
-      let v = was-laid d (length d) (recordOf f p) n e w z in
-      lays-in d (length d) (recordOf g p) n (write e 0 g)
-      (record { fits = omega (arith, as-long, v .fits); count = v .count ∙ as-long; bytes = anew (v .fits) (v .bytes) })
-
-  front-room : (n ≡ 0 → ⊥) → length f ≤ length e
-  front-room z =
-      let v = was-laid d (length d) (recordOf f p) n e w z in
-      omega (arith, record-length f p, v .fits, ap length (v .bytes) ∙ length-write d 0 (recordOf f p))
-
-  front-out : 0 < length f → n ≡ 0 → Lays d (length d) (recordOf g p ∷ []) 0 e
-  front-out s z =
-      let v = was-not d (length d) (recordOf f p) n e w (omega (arith, record-length f p)) z in
-      lays-out d (length d) (recordOf g p) 0 e (record { short = omega (arith, as-long, v .short); count = refl; bytes = v .bytes })
+-- the zeros of a name are those behind n bytes more, a multiple of 8
+name-zeros : (n : ℕ) (p : List ℕ) → n % 8 ≡ 0 → nameField p ≡ p ++ replicate (padding (n + length p)) 0
+unfolding nameField
+name-zeros n p e = let k : padding (length p) ≡ padding (n + length p) = omega arith in ap (λ (z : ℕ). p ++ replicate z 0) k
 
 -- the fixed part of an entry, field by field
 
@@ -169,34 +123,56 @@ row-on : (w v : ℕ) (ws vs d : List ℕ) (at : ℕ) (e : List ℕ) → e ≡ pu
 unfolding fields
 row-on w v ws vs d at e q = ap (λ (m : List ℕ). write m (at + w) (fields ws vs)) q ∙ put-write w d at v (fields ws vs)
 
-pub front-fields : (d : List ℕ) (ino off n : ℕ) (e₁ e₂ e₃ e₄ : List ℕ)
-    → e₁ ≡ put 8 d 0 ino → e₂ ≡ put 8 e₁ 8 off → e₃ ≡ put 4 e₂ 16 n → e₄ ≡ put 4 e₃ 20 0 → e₄ ≡ write d 0 (fields direntRow (ino ∷ off ∷ n ∷ 0 ∷ []))
+pub front-fields : (d : List ℕ) (at ino off n : ℕ) (e₁ e₂ e₃ e₄ : List ℕ)
+    → e₁ ≡ put 8 d at ino → e₂ ≡ put 8 e₁ (at + 8) off → e₃ ≡ put 4 e₂ (at + 16) n → e₄ ≡ put 4 e₃ (at + 20) 0 → e₄ ≡ write d at (fields direntRow (ino ∷ off ∷ n ∷ 0 ∷ []))
 unfolding fields put
-front-fields d ino off n e₁ e₂ e₃ e₄ q₁ q₂ q₃ q₄ =
-    row-on 4 0 [] [] e₃ 20 e₄ q₄ ∙ row-on 4 n (4 ∷ []) (0 ∷ []) e₂ 16 e₃ q₃
-    ∙ row-on 8 off (4 ∷ 4 ∷ []) (n ∷ 0 ∷ []) e₁ 8 e₂ q₂ ∙ row-on 8 ino (8 ∷ 4 ∷ 4 ∷ []) (off ∷ n ∷ 0 ∷ []) d 0 e₁ q₁
+front-fields d at ino off n e₁ e₂ e₃ e₄ q₁ q₂ q₃ q₄ =
+    let p : at + 8 + 8 ≡ at + 16 = omega arith in
+    let q : at + 16 + 4 ≡ at + 20 = omega arith in
+    row-on 4 0 [] [] e₃ (at + 20) e₄ q₄ ∙ ap (λ (k : ℕ). write e₃ k (fields (4 ∷ []) (0 ∷ []))) (sym q) ∙ row-on 4 n (4 ∷ []) (0 ∷ []) e₂ (at + 16) e₃ q₃
+    ∙ ap (λ (k : ℕ). write e₂ k (fields (4 ∷ 4 ∷ []) (n ∷ 0 ∷ []))) (sym p) ∙ row-on 8 off (4 ∷ 4 ∷ []) (n ∷ 0 ∷ []) e₁ (at + 8) e₂ q₂
+    ∙ row-on 8 ino (8 ∷ 4 ∷ 4 ∷ []) (off ∷ n ∷ 0 ∷ []) d at e₁ q₁
 
 -- the name length stands in four bytes
 front-low : (ino off n : ℕ) → fields direntRow (ino ∷ off ∷ n % 256 ^ 4 ∷ 0 ∷ []) ≡ fields direntRow (ino ∷ off ∷ n ∷ 0 ∷ [])
 unfolding fields
 front-low ino off n = rw (low-bytes 4 n)
 
--- an entry whose name is laid behind the 24 bytes that stood there
-module _ (d : List ℕ) (ino off : ℕ) (name : List ℕ) (n : ℕ) (e : List ℕ) (w : Lays d (length d) (recordOf (read d 0 24) name ∷ []) n e) where
-  abbrev before : List ℕ
-  before = read d 0 24
+-- an entry: its fixed part at 0, and its name at 24
+module _ (d : List ℕ) (ino off : ℕ) (name : List ℕ) where
+  abbrev front : List ℕ
+  front = frontOf ino off name
 
-  as-before : length before ≡ length (frontOf ino off name)
-  as-before = length-read d 0 24 ∙ sym (front-length ino off name)
-
-  pub entry-room : (n ≡ 0 → ⊥) → 24 ≤ length e
-  entry-room z = omega (arith, length-read d 0 24, front-room d before (frontOf ino off name) name n e as-before w z)
-
-  pub entry-in : (e₁ : List ℕ) → (n ≡ 0 → ⊥) → e₁ ≡ write e 0 (fields direntRow (ino ∷ off ∷ length name % 256 ^ 4 ∷ 0 ∷ []))
-      → Lays d (length d) (dirent ino off name ∷ []) n e₁
+  pub entry-whole : length (dirent ino off name) ≡ 24 + (length name + 7) / 8 * 8
   unfolding dirent
-  entry-in e₁ z q = rw (q ∙ ap (write e 0) (front-low ino off (length name))) (front-in d before (frontOf ino off name) name n e as-before w z)
+  entry-whole = omega (arith, front-length ino off name, record-whole front name (rw (front-length ino off name)))
 
-  pub entry-out : n ≡ 0 → Lays d (length d) (dirent ino off name ∷ []) 0 e
+  pub entry-out : length d < 24 + (length name + 7) / 8 * 8 → Lays d (length d) (dirent ino off name ∷ []) 0 d
+  entry-out h = lays-out d (length d) (dirent ino off name) 0 d (record { short = omega (arith, entry-whole); count = refl; bytes = refl })
+
+  pub entry-in : (n : ℕ) (e₁ e₂ : List ℕ) → n ≡ 24 + (length name + 7) / 8 * 8 → n ≤ length d → e₁ ≡ write d 0 front → e₂ ≡ write e₁ 24 (nameField name)
+      → Lays d (length d) (dirent ino off name ∷ []) n e₂
   unfolding dirent
-  entry-out z = front-out d before (frontOf ino off name) name n e as-before w (omega (arith, length-read d 0 24)) z
+  entry-in n e₁ e₂ q h a b =
+      let l : length front ≡ 24 = front-length ino off name in
+      let t : e₂ ≡ write e₁ (length front) (name ++ replicate (padding (length front + length name)) 0) =
+      b ∙ ap (λ (k : ℕ). write e₁ k (nameField name)) (sym l) ∙ ap (write e₁ (length front)) (name-zeros (length front) name (rw l)) in
+      lays-in d (length d) (dirent ino off name) n e₂ (record { fits = omega (arith, entry-whole); count = q ∙ sym entry-whole; bytes = parts d front name e₁ e₂ a t })
+
+  -- the name length in its four bytes; the name, and then the zeros
+  pub entry-run : (e₁ e₂ e₃ : List ℕ) → 24 + length name + padding (24 + length name) ≤ length d → e₁ ≡ write d 0 (fields direntRow (ino ∷ off ∷ length name % 256 ^ 4 ∷ 0 ∷ []))
+      → e₂ ≡ write e₁ 24 name → e₃ ≡ write e₂ (24 + length name) (replicate (padding (24 + length name)) 0)
+      → Lays d (length d) (dirent ino off name ∷ []) (24 + length name + padding (24 + length name)) e₃
+  entry-run e₁ e₂ e₃ h a b c =
+      let zs : List ℕ = replicate (padding (24 + length name)) 0 in
+      entry-in (24 + length name + padding (24 + length name)) e₁ e₃ (omega arith) h (a ∙ ap (write d 0) (front-low ino off (length name)))
+      (c ∙ ap (λ (m : List ℕ). write m (24 + length name) zs) b ∙ sym (write-append e₁ 24 name zs) ∙ ap (write e₁ 24) (sym (name-zeros 24 name refl)))
+
+-- the same, by another spelling of the length of the name
+module _ (d : List ℕ) (ino off : ℕ) (name : List ℕ) (l : ℕ) (size : l ≡ length name) where
+  pub sized-out : length d < 24 + (l + 7) / 8 * 8 → Lays d (length d) (dirent ino off name ∷ []) 0 d
+  sized-out h = entry-out d ino off name (omega (arith, size))
+
+  pub sized-in : (r : ℕ) (e f : List ℕ) → r ≡ 24 + (l + 7) / 8 * 8 → r ≤ length d → e ≡ write d 0 (fields direntRow (ino ∷ off ∷ l ∷ 0 ∷ [])) → f ≡ write e 24 (nameField name)
+      → Lays d (length d) (dirent ino off name ∷ []) r f
+  sized-in r e f q h a b = entry-in d ino off name r e f (omega (arith, size)) h (a ∙ ap (λ (m : ℕ). write d 0 (fields direntRow (ino ∷ off ∷ m ∷ 0 ∷ []))) size) b

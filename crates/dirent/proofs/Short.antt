@@ -1,17 +1,17 @@
--- An entry whose name has 1 to 7 bytes and comes as a number: name and zeros are the bytes of one number. Assumes nothing.
-use mathlib.Core.Path.{_≡_, refl, sym, ap, _∙_}
+-- A name that has 1 to 7 bytes and comes as a number: name and zeros are the bytes of one number. Assumes nothing.
+use mathlib.Core.Path.{_≡_, sym, ap, _∙_}
 use mathlib.Core.List.{List, [], _∷_, _++_}
 use Prim.Native.Nat.{ℕ, _+_, _-_, _*_, _%_, _^_, _≤_, _<_}
 use native.Mathlib.Omega.{arith}
 use lib.ListN.{length, replicate}
 use lib.Pow.{pow-pos, shl-exact}
 use Rattle.rules.specs.Fields.{bytesOf, fields}
-use Rattle.rules.specs.Listing.{padding, recordOf, direntRow, dirent}
+use Rattle.rules.specs.Listing.{padding, direntRow, dirent}
 use Rattle.rules.proofs.Fields.{bytes-bits, length-bytesOf}
 use Rattle.le.specs.Mem.{write, put}
-use Rattle.le.proofs.Lens.{masked, write-append}
-use Rattle.dirent.specs.Lays.{Lays}
-use Rattle.dirent.proofs.Records.{frontOf, front-length, entry-length, lays-in, lays-out}
+use Rattle.le.proofs.Lens.{masked}
+use Rattle.dirent.specs.Lays.{Lays, nameField}
+use Rattle.dirent.proofs.Records.{sized-in, sized-out}
 
 -- ---- the mask
 
@@ -29,41 +29,26 @@ above l h =
     let t : 2 ^ (8 * l) ≡ 256 ^ l = bytes-bits l in
     omega arith
 
--- ---- the entry
+-- ---- the name
 
-module _ (d : List ℕ) (ino off l w : ℕ) (some : 1 ≤ l) (few : l ≤ 7) where
-  abbrev name : List ℕ
-  name = bytesOf l w
-
-  size : length name ≡ l
-  size = length-bytesOf l w
-
-  long : length (dirent ino off name) ≡ 32
-  long = omega (arith, entry-length ino off name, size)
-
-  -- fixed part, and the number
-  spelt : dirent ino off name ≡ frontOf ino off name ++ bytesOf 8 (w % 256 ^ l)
-  unfolding dirent recordOf
-  spelt =
-      let k : padding (length (frontOf ino off name) + length name) ≡ 8 - l = omega (arith, front-length ino off name, size) in
+module _ (l w : ℕ) (few : l ≤ 7) where
+  -- with its zeros it is a number
+  spelt : 1 ≤ l → bytesOf 8 (w % 256 ^ l) ≡ nameField (bytesOf l w)
+  unfolding nameField
+  spelt some =
+      let k : padding (length (bytesOf l w)) ≡ 8 - l = omega (arith, length-bytesOf l w) in
       let e : l + (8 - l) ≡ 8 = omega arith in
-      ap (λ (n : ℕ). frontOf ino off name ++ (name ++ replicate n 0)) k
-      ∙ ap (λ (bs : List ℕ). frontOf ino off name ++ bs) (sym (masked l (8 - l) w) ∙ ap (λ (n : ℕ). bytesOf n (w % 256 ^ l)) e)
+      ap (λ (n : ℕ). bytesOf n (w % 256 ^ l)) (sym e) ∙ masked l (8 - l) w ∙ ap (λ (n : ℕ). bytesOf l w ++ replicate n 0) (sym k)
 
-  pub short-in : (e f : List ℕ) → 32 ≤ length d → e ≡ write d 0 (fields direntRow (ino ∷ off ∷ l ∷ 0 ∷ []))
-      → f ≡ put 8 e 24 (w % (1 * 2 ^ (8 * l) % 2 ^ 64)) → Lays d (length d) (dirent ino off name ∷ []) 32 f
+  pub short-word : (d e : List ℕ) (at : ℕ) → 1 ≤ l → e ≡ put 8 d at (w % (1 * 2 ^ (8 * l) % 2 ^ 64)) → e ≡ write d at (nameField (bytesOf l w))
   unfolding put
-  short-in e f h a b =
-      let front : List ℕ = frontOf ino off name in
-      let g : e ≡ write d 0 front = a ∙ ap (λ (n : ℕ). write d 0 (fields direntRow (ino ∷ off ∷ n ∷ 0 ∷ []))) (sym size) in
-      let r : f ≡ write e 24 (bytesOf 8 (w % 256 ^ l)) = b ∙ ap (λ (n : ℕ). write e 24 (bytesOf 8 (w % n))) (above l few) in
-      let t : write d 0 (front ++ bytesOf 8 (w % 256 ^ l)) ≡ write (write d 0 front) (0 + length front) (bytesOf 8 (w % 256 ^ l)) =
-      write-append d 0 front (bytesOf 8 (w % 256 ^ l)) in
-      let at : 0 + length front ≡ 24 = omega (arith, front-length ino off name) in
-      let all : f ≡ write d 0 (dirent ino off name) =
-      r ∙ ap (λ (x : List ℕ). write x 24 (bytesOf 8 (w % 256 ^ l))) g
-      ∙ sym (t ∙ ap (λ (n : ℕ). write (write d 0 front) n (bytesOf 8 (w % 256 ^ l))) at) ∙ ap (write d 0) (sym spelt) in
-      lays-in d (length d) (dirent ino off name) 32 f (record { fits = omega (arith, long); count = sym long; bytes = all })
+  short-word d e at some q = q ∙ ap (λ (n : ℕ). write d at (bytesOf 8 (w % n))) (above l few) ∙ ap (write d at) (spelt some)
 
-  pub short-out : length d < 32 → Lays d (length d) (dirent ino off name ∷ []) 0 d
-  short-out h = lays-out d (length d) (dirent ino off name) 0 d (record { short = omega (arith, long); count = refl; bytes = refl })
+  -- ---- the entry
+
+  pub short-out : (d : List ℕ) (ino off : ℕ) → 1 ≤ l → length d < 32 → Lays d (length d) (dirent ino off (bytesOf l w) ∷ []) 0 d
+  short-out d ino off some h = sized-out d ino off (bytesOf l w) l (sym (length-bytesOf l w)) (omega arith)
+
+  pub short-in : (d : List ℕ) (ino off : ℕ) → 1 ≤ l → (e f : List ℕ) → 32 ≤ length d → e ≡ write d 0 (fields direntRow (ino ∷ off ∷ l ∷ 0 ∷ [])) → f ≡ write e 24 (nameField (bytesOf l w))
+      → Lays d (length d) (dirent ino off (bytesOf l w) ∷ []) 32 f
+  short-in d ino off some e f h a b = sized-in d ino off (bytesOf l w) l (sym (length-bytesOf l w)) 32 e f (omega arith) h a b

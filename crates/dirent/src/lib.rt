@@ -2,8 +2,7 @@
 use inner::FRONT;
 ghost use mathlib.Core.List.{[], _∷_};
 ghost use lib.ListN.{length};
-ghost use Rattle.le.specs.Mem.{read};
-ghost use Rattle.rules.specs.Listing.{recordOf, dirent};
+ghost use Rattle.rules.specs.Listing.{dirent};
 ghost use Rattle.dirent.specs.Lays.{Lays};
 
 pub mod inner;
@@ -11,10 +10,10 @@ pub mod inner;
 // One more than the largest number of four bytes, in which the name length stands (R64).
 const TWO_32: usize = 4294967296;
 
-// Lays the name behind the fixed part, which is the caller's to write, and zeros to a multiple of 8: the length of the
-// whole record, or 0 with every byte as it was where that does not fit (R64, R65).
-fn put_name(out: &mut [u8], name: &[u8]) -> usize
-    ensures { λ r. ⌜ Lays (now (out .entry)) (length (now (out .entry))) (recordOf (read (now (out .entry)) 0 24) (now (name .entry)) ∷ []) r (now (out .exit)) ⌝ }
+// Lays a directory entry at the start of the lent bytes: its length, or 0 and all as it was where it does not fit. The whole
+// length is tested, then come the fixed part, the name and the zeros (R64, R65).
+pub fn write_dirent(out: &mut [u8], ino: u64, off: u64, name: &[u8]) -> usize
+    ensures { λ r. ⌜ Lays (now (out .entry)) (length (now (out .entry))) (dirent ino off (now (name .entry)) ∷ []) r (now (out .exit)) ⌝ }
 {
     if out.len() < FRONT {
         return 0;
@@ -28,19 +27,8 @@ fn put_name(out: &mut [u8], name: &[u8]) -> usize
     if room < pad {
         return 0;
     }
+    inner::put_front(out, 0, ino, off, (name.len() % TWO_32) as u32);
     le::runs::copy_at(out, FRONT, name);
     le::runs::fill_at(out, end, pad, 0);
     end + pad
-}
-
-// Lays a directory entry at the start of the lent bytes: its length, or 0 and all as it was where it does not fit (R64, R65).
-pub fn write_dirent(out: &mut [u8], ino: u64, off: u64, name: &[u8]) -> usize
-    ensures { λ r. ⌜ Lays (now (out .entry)) (length (now (out .entry))) (dirent ino off (now (name .entry)) ∷ []) r (now (out .exit)) ⌝ }
-{
-    let size = put_name(out, name);
-    if size == 0 {
-        return 0;
-    }
-    inner::put_front(out, ino, off, (name.len() % TWO_32) as u32);
-    size
 }

@@ -4,9 +4,9 @@ use mathlib.Core.List.{List, [], _∷_}
 use mathlib.Core.Option.{Option, none, some}
 use lib.ListN.{getD}
 use Rattle.rules.specs.Numbers.{orZero}
-use Rattle.rules.specs.Outcome.{Answer, nothing, mounted, restored, unmounted, walked, rootfs, toTree, toBackend, entry, ids, wrote, settings, truth}
+use Rattle.rules.specs.Outcome.{Answer, nothing, mounted, restoredMount, unmounted, walked, rootfs, toTree, toBackend, entry, ids, wrote, settings, truth}
 use Rattle.tables.specs.Write.{yesByte}
-use Rattle.tables.specs.Call.{Told}
+use Rattle.call_form.specs.Form.{Told}
 use Rattle.flat.specs.declared.CodeAnswer.{CodeAnswer}
 use Rattle.flat.specs.declared.InitializedAnswer.{InitializedAnswer}
 use Rattle.flat.specs.declared.OptionsAnswer.{OptionsAnswer}
@@ -32,7 +32,7 @@ has (some x) = 1
 abbrev pub plainNumbers : Answer → List ℕ
 plainNumbers nothing = []
 plainNumbers (mounted k t) = k ∷ has t ∷ orZero t ∷ []
-plainNumbers (restored a d) = has a ∷ orZero a ∷ has d ∷ orZero d ∷ []
+plainNumbers (restoredMount a d) = has a ∷ orZero a ∷ has d ∷ orZero d ∷ []
 plainNumbers (unmounted x p t) = x ∷ p ∷ has t ∷ orZero t ∷ []
 plainNumbers (walked x) = has x ∷ orZero x ∷ []
 plainNumbers (rootfs none) = []

@@ -1,3 +1,2 @@
--- What the numbers of an answer are, and that they tell the answers apart.
+-- What the numbers of an answer are.
 pub mod Flat
-pub mod Apart

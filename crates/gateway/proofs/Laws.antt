@@ -7,8 +7,8 @@ use Rattle.rules.specs.Instance.{Instance}
 use Rattle.rules.specs.Outcome.{Outcome}
 use Rattle.rules.specs.Create.{Creation}
 use Rattle.rules.specs.Mount.{Request}
-use Rattle.tables.specs.Call.{Told, answeredBy, WritesBy, DoesBy, Writes, Does}
-use Rattle.inode.specs.Converted.{codeOf, fullOf, convertCode, Converts}
+use Rattle.call_form.specs.Form.{Told, answeredBy, WritesBy, DoesBy, Writes, Does}
+use Rattle.inode.specs.Converted.{convertedCode, fullOf, convertCode, Converts}
 use Rattle.inode.specs.declared.Converted.{Converted}
 use Rattle.storage.specs.Creation.{Creates}
 use Rattle.flat.specs.Flat.{codeAlone, inodeNumbers}
@@ -37,6 +37,6 @@ writes-by numbers mem f d t r e h w = record { answer = by-told numbers r t (ans
 pub creates-by : (mem : List ℕ) (q : Creation) (code : ℕ) (r : CodeAnswer) (after : List ℕ) → r ≡ codeAlone code → Creates mem q code after → Creates mem q (r .code) after
 creates-by mem q code r after e d = rw e d
 
-pub converts-by : (index number : ℕ) (a : Converted) (r : InodeAnswer) → r ≡ inodeNumbers (codeOf a) (fullOf a) → Converts index number a
+pub converts-by : (index number : ℕ) (a : Converted) (r : InodeAnswer) → r ≡ inodeNumbers (convertedCode a) (fullOf a) → Converts index number a
     → r ≡ inodeNumbers (convertCode number) (convert index number)
 converts-by index number a r e d = rw (sym (d .code), sym (d .full)) e

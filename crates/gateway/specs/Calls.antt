@@ -1,13 +1,9 @@
 -- What the numbers of an export ask for.
 use Prim.Native.Nat.{ℕ}
 use mathlib.Core.List.{List}
-use Rattle.rules.specs.Ids.{Mapping}
+use Rattle.rules.specs.Ids.{mappingBy}
 use Rattle.rules.specs.Create.{Creation}
 use Rattle.rules.specs.Mount.{Request}
-
--- a mapping (R27)
-abbrev pub mappingBy : ℕ → ℕ → ℕ → Mapping
-mappingBy internal external range = record { internal = internal; external = external; range = range }
 
 -- a creation (R26, R27)
 abbrev pub creationBy : ℕ → ℕ → ℕ → ℕ → ℕ → ℕ → ℕ → ℕ → Creation

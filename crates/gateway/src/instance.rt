@@ -4,9 +4,9 @@ ghost use mathlib.Core.Bool.{cond, not};
 ghost use lib.Dec.{eqb};
 ghost use Rattle.rules.specs.Instance.{Instance};
 ghost use Rattle.rules.specs.Lookup.{remapRule};
-ghost use Rattle.tables.specs.Rule.{laid};
+ghost use Rattle.tables.specs.Laid.{laid};
 ghost use Rattle.tables.specs.Write.{setRemoval};
-ghost use Rattle.tables.specs.Call.{answeredBy, DoesBy};
+ghost use Rattle.call_form.specs.Form.{answeredBy, DoesBy};
 ghost use Rattle.storage.specs.Answers.{removeCall, initializedCall, optionsCall};
 ghost use Rattle.storage.specs.Creation.{Creates};
 ghost use Rattle.flat.specs.Flat.{codeNumbers, initializedNumbers, optionsNumbers, idsNumbers};
@@ -16,7 +16,7 @@ use flat::IdsAnswer;
 use flat::InitializedAnswer;
 use flat::OptionsAnswer;
 use id_map::IdMapping;
-use storage::VfsOptions;
+use vfs_options::VfsOptions;
 
 // A new instance of N nodes, whatever the bytes held: SMALL, then BADOPT, then BADMAP, or done (R19, R26 to R34).
 #[no_mangle]
@@ -44,7 +44,7 @@ pub extern "C" fn galdovar_create(
         id_mapping,
         flags,
     };
-    flat::created(storage::create(storage, n, known, o))
+    flat_instance::created(storage::create(storage, n, known, o))
 }
 
 // From now on a done unmount also removes its node; the root always stays (R32, R100).
@@ -52,7 +52,7 @@ pub extern "C" fn galdovar_create(
 pub extern "C" fn galdovar_set_remove_pseudo_root(storage: &mut [u8]) -> CodeAnswer
     ensures { λ r. ⌜ DoesBy codeNumbers (now (storage .entry)) removeCall r (now (storage .exit)) (cond (laid (now (storage .entry))) (setRemoval (now (storage .entry))) (now (storage .entry))) ⌝ }
 {
-    flat::removal(storage::set_remove_pseudo_root(storage))
+    flat_instance::removal(storage::set_remove_pseudo_root(storage))
 }
 
 // Whether the instance is initialized (R33, R134).
@@ -60,7 +60,7 @@ pub extern "C" fn galdovar_set_remove_pseudo_root(storage: &mut [u8]) -> CodeAns
 pub extern "C" fn galdovar_initialized(storage: &[u8]) -> InitializedAnswer
     ensures { λ r. ⌜ r ≡ initializedNumbers (answeredBy (now (storage .entry)) initializedCall) ⌝ }
 {
-    flat::initialized(storage::initialized(storage))
+    flat_instance::initialized(storage::initialized(storage))
 }
 
 // The options, with their own mapping (R27, R33, R34).
@@ -68,7 +68,7 @@ pub extern "C" fn galdovar_initialized(storage: &[u8]) -> InitializedAnswer
 pub extern "C" fn galdovar_options(storage: &[u8]) -> OptionsAnswer
     ensures { λ r. ⌜ r ≡ optionsNumbers (answeredBy (now (storage .entry)) optionsCall) ⌝ }
 {
-    flat::options(storage::options(storage))
+    flat_instance::options(storage::options(storage))
 }
 
 // The ids of an attribute by the mapping in force: out, from the internal range to the external one, where `outward` is not 0; else back (R113, R114, R118).
@@ -81,5 +81,5 @@ pub extern "C" fn galdovar_remap_attr_id(
 ) -> IdsAnswer
     ensures { λ r. ⌜ r ≡ idsNumbers (answeredBy (now (storage .entry)) (λ (i : Instance). remapRule i (not (eqb outward 0)) uid gid)) ⌝ }
 {
-    flat::remapped(vfs_query::remap_attr_id(storage, uid, gid, outward != 0))
+    flat_queries::remapped(vfs_query::remap_attr_id(storage, uid, gid, outward != 0))
 }

@@ -1,12 +1,11 @@
 // Calls without an instance: conversion, ids by a given mapping, the component check, and the allocator's step (R24).
 ghost use mathlib.Core.Path.{_≡_};
 ghost use Rattle.rules.specs.Numbers.{convert};
-ghost use Rattle.rules.specs.Ids.{wrapped, unwrapped};
+ghost use Rattle.rules.specs.Ids.{wrapped, unwrapped, mappingBy};
 ghost use Rattle.inode.specs.Converted.{convertCode};
 ghost use Rattle.path.specs.Checks.{checkCode};
 ghost use Rattle.index.specs.Take.{Steps};
 ghost use Rattle.flat.specs.Flat.{codeAlone, inodeNumbers};
-ghost use Rattle.gateway.specs.Calls.{mappingBy};
 use flat::CodeAnswer;
 use flat::InodeAnswer;
 use id_map::IdMapping;
@@ -19,7 +18,7 @@ use inode::BackendNumber;
 pub extern "C" fn galdovar_convert_inode(fs_idx: u8, number: u64) -> InodeAnswer
     ensures { λ r. ⌜ r ≡ inodeNumbers (convertCode number) (convert «fs_idx» number) ⌝ }
 {
-    flat::converted(inode::convert_inode(fs_idx, BackendNumber(number)))
+    flat_instance::converted(inode::convert_inode(fs_idx, BackendNumber(number)))
 }
 
 // Out by a given mapping: an id in the internal range moves to the external one, any other stays (R113, R115, R117).
@@ -53,7 +52,7 @@ pub extern "C" fn galdovar_map_back(internal: u32, external: u32, range: u32, id
 pub extern "C" fn galdovar_validate_path_component(name: &[u8]) -> CodeAnswer
     ensures { λ r. ⌜ r ≡ codeAlone (checkCode (now (name .entry))) ⌝ }
 {
-    flat::checked(path::names::validate_path_component(name))
+    flat_instance::checked(path::names::validate_path_component(name))
 }
 
 // The allocator's step: the slots and the counter are lent together, and both are changed in place (R90).

@@ -8,8 +8,8 @@ use borrow.Author.Tests.{eq-eqb, ne-eqb}
 use lib.ListN.{length, getD, List·getD-eq-default}
 use lib.Dec.{eqb}
 use Rattle.rules.specs.Round.{freeOf}
-use Rattle.index.specs.Slots.{heldIn}
-use Rattle.index.specs.Search.{Told, foundOf, readOf}
+use Rattle.index.specs.Slots.{heldInColumn}
+use Rattle.index.specs.Search.{SearchTold, foundOf, readOf}
 use Rattle.index.specs.declared.FsIndex.{FsIndex}
 use Rattle.index.specs.declared.FsIndex.the-variants.{Index, Full}
 use Rattle.index.specs.declared.Allocated.{Allocated}
@@ -17,14 +17,14 @@ use Rattle.index.specs.declared.Allocated.{Allocated}
 -- ---- which indexes are free
 
 module _ (used : List ℕ) (i : ℕ) where
-  pub free-zero : i ≡ 0 → false ≡ freeOf (heldIn used) i
+  pub free-zero : i ≡ 0 → false ≡ freeOf (heldInColumn used) i
   free-zero e = rw (eq-eqb i 0 e)
 
-  pub free-at : (i ≡ 0 → ⊥) → eqb (getD used i 0) 0 ≡ freeOf (heldIn used) i
-  unfolding heldIn
+  pub free-at : (i ≡ 0 → ⊥) → eqb (getD used i 0) 0 ≡ freeOf (heldInColumn used) i
+  unfolding heldInColumn
   free-at n = rw (ne-eqb i 0 n) (sym (Bool·not-not (eqb (getD used i 0) 0)))
 
-  pub free-past : (i ≡ 0 → ⊥) → length used ≤ i → true ≡ freeOf (heldIn used) i
+  pub free-past : (i ≡ 0 → ⊥) → length used ≤ i → true ≡ freeOf (heldInColumn used) i
   free-past n h = ap (λ (b : ℕ). eqb b 0) (sym (List·getD-eq-default used 0 h)) ∙ free-at n
 
 -- ---- the answer by its meaning
@@ -38,7 +38,7 @@ foundOf-injective Full Full e = refl
 
 pub readOf-injective : (a b : Allocated) → readOf a ≡ readOf b → a ≡ b
 unfolding readOf
-readOf-injective a b e = same (foundOf-injective (a .answer) (b .answer) (ap (λ (t : Told). t .found) e)) (ap (λ (t : Told). t .count) e) (ap (λ (t : Told). t .counter) e)
+readOf-injective a b e = same (foundOf-injective (a .answer) (b .answer) (ap (λ (t : SearchTold). t .found) e)) (ap (λ (t : SearchTold). t .count) e) (ap (λ (t : SearchTold). t .counter) e)
   where
     same : a .answer ≡ b .answer → a .count ≡ b .count → a .«next_super» ≡ b .«next_super» → a ≡ b
     same p q r = rw (p, q, r)

@@ -11,7 +11,7 @@ use native.Mathlib.Nat.{eq-zero-or-pos, eq-or-lt-of-le}
 use lib.ListN.{length}
 use Rattle.rules.specs.Numbers.{DONE, FULL}
 use Rattle.rules.specs.Round.{after, goingRound, untilTwice, visited, firstFree, freeOf, allocate}
-use Rattle.index.specs.Search.{told}
+use Rattle.index.specs.Search.{searchTold}
 
 pub record Going (free : ℕ → Bool) (start count next : ℕ) : Type 0 where
   pub low : start < 256
@@ -84,10 +84,10 @@ module _ (held : ℕ → Bool) (start count next : ℕ) (g : Going (freeOf held)
   moved : (start + (count + 1)) % 256 ≡ (next + 1) % 256
   moved = omega arith
 
-  pub ends-found : freeOf held next ≡ true → (last : ℕ) → last ≡ (next + 1) % 256 → record { code = DONE; found = some next; count = count + 1; counter = last } ≡ told (allocate held start)
-  unfolding told allocate
+  pub ends-found : freeOf held next ≡ true → (last : ℕ) → last ≡ (next + 1) % 256 → record { code = DONE; found = some next; count = count + 1; counter = last } ≡ searchTold (allocate held start)
+  unfolding searchTold allocate
   ends-found e last l = rw (l, found-here _ _ _ _ g e, counted-here _ _ _ _ g e, moved)
 
-  pub ends-full : next ≡ start → 0 < count → (last : ℕ) → last ≡ (next + 1) % 256 → record { code = FULL; found = none; count = count + 1; counter = last } ≡ told (allocate held start)
-  unfolding told allocate
+  pub ends-full : next ≡ start → 0 < count → (last : ℕ) → last ≡ (next + 1) % 256 → record { code = FULL; found = none; count = count + 1; counter = last } ≡ searchTold (allocate held start)
+  unfolding searchTold allocate
   ends-full e p last l = rw (l, none-left _ _ _ _ g e p, all-counted _ _ _ _ g e p, moved)

@@ -8,8 +8,8 @@ use lib.Dec.{eqb}
 use Rattle.index.specs.declared.FsIndexes.{FsIndexes}
 
 -- the occupancy byte is not 0; past the end it counts as 0 (R56)
-unfoldable pub heldIn : List ℕ → ℕ → Bool
-heldIn used i = not (eqb (getD used i 0) 0)
+unfoldable pub heldInColumn : List ℕ → ℕ → Bool
+heldInColumn used i = not (eqb (getD used i 0) 0)
 
 -- each of the 256 slots is there, empty and without a tag (past the end 1 would be read), and the counter is 1; and that is all (R31, R176)
 pub record New (t : FsIndexes) : Type 0 where

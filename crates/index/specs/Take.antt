@@ -6,8 +6,8 @@ use mathlib.Core.List.{List}
 use lib.ListN.{set}
 use Rattle.rules.specs.Numbers.{orZero}
 use Rattle.rules.specs.Round.{allocate}
-use Rattle.index.specs.Slots.{heldIn}
-use Rattle.index.specs.Search.{Told, told}
+use Rattle.index.specs.Slots.{heldInColumn}
+use Rattle.index.specs.Search.{SearchTold, searchTold}
 use Rattle.index.specs.declared.FsIndexes.{FsIndexes}
 use Rattle.index.specs.declared.AllocateAnswer.{AllocateAnswer}
 
@@ -26,7 +26,7 @@ putAt (some i) column v = set column i v
 putAt none column v = column
 
 -- the slot found is held, with the tag; the index answered is 0 where none is found (R90)
-abbrev pub takenOf : FsIndexes → ℕ → Told → Taken
+abbrev pub takenOf : FsIndexes → ℕ → SearchTold → Taken
 takenOf t tag a = record {
   answer = record { code = a .code; «fs_idx» = orZero (a .found); count = a .count };
   table = tableOf (putAt (a .found) (t .used) 1) (putAt (a .found) (t .tags) tag) (a .counter);
@@ -34,7 +34,7 @@ takenOf t tag a = record {
 
 -- by the search of the rules over these slots, from the counter on (R80 to R84, R90)
 unfoldable pub takeRule : FsIndexes → ℕ → Taken
-takeRule t tag = takenOf t tag (told (allocate (heldIn (t .used)) (t .«next_super»)))
+takeRule t tag = takenOf t tag (searchTold (allocate (heldInColumn (t .used)) (t .«next_super»)))
 
 -- the same where slots and counter are lent: the answer, and what the host finds after (R90, R177)
 pub record Steps (before : FsIndexes) (tag : ℕ) (r : AllocateAnswer) (after : FsIndexes) : Type 0 where

@@ -1,8 +1,8 @@
 // The indexes: 256 slots and the counter from which the search for a free one starts.
 ghost use mathlib.Core.Path.{_≡_};
 ghost use Rattle.rules.specs.Round.{freeOf, allocate};
-ghost use Rattle.index.specs.Slots.{heldIn, New};
-ghost use Rattle.index.specs.Search.{readOf, told};
+ghost use Rattle.index.specs.Slots.{heldInColumn, New};
+ghost use Rattle.index.specs.Search.{readOf, searchTold};
 ghost use Rattle.index.specs.Take.{tableOf, Steps};
 use rules::codes::DONE;
 use rules::codes::FULL;
@@ -58,7 +58,7 @@ pub fn new() -> FsIndexes
 
 // An index can be handed out: it is not 0, and its slot is empty (R11, R81).
 fn is_free(used: &[u8], index: u8) -> bool
-    ensures { λ r. ⌜ r ≡ freeOf (heldIn (now (used .entry))) index ⌝ }
+    ensures { λ r. ⌜ r ≡ freeOf (heldInColumn (now (used .entry))) index ⌝ }
 {
     if index == rules::VFS_PSEUDO_FS_IDX {
         return false;
@@ -72,7 +72,7 @@ fn is_free(used: &[u8], index: u8) -> bool
 
 // The first free index by the occupancy bytes, going round from the counter on, until the start is met twice (R80 to R84).
 pub fn allocate_fs_idx(used: &[u8], next_super: u8) -> Allocated
-    ensures { λ r. ⌜ readOf r ≡ told (allocate (heldIn (now (used .entry))) «next_super») ⌝ }
+    ensures { λ r. ⌜ readOf r ≡ searchTold (allocate (heldInColumn (now (used .entry))) «next_super») ⌝ }
 {
     let mut next = next_super;
     let mut count: u32 = 0;

@@ -5,18 +5,18 @@ use Prim.Native.Nat.{ℕ, _+_, _*_, _^_, _<_, _≤_}
 use native.Mathlib.Omega.{arith}
 use borrow.Author.Tests.{lt-ltb, le-ltb, ne-eqb}
 use Rattle.rules.specs.Numbers.{maxIno, full, convert, indexOf, numberOf}
-use Rattle.inode.specs.Converted.{fullOf, codeOf, Converts, EveryBack, ConvertInjective}
+use Rattle.inode.specs.Converted.{fullOf, convertedCode, Converts, EveryConvertedBack, ConvertInjective}
 use Rattle.inode.specs.declared.VfsInode.{VfsInode}
 use Rattle.inode.specs.declared.Converted.the-variants.{Full, Inode}
 
 -- ---- by cases
 
 pub too-big : (i n : ℕ) → maxIno < n → Converts i n Inode
-unfolding convert fullOf codeOf
+unfolding convert fullOf convertedCode
 too-big i n h = record { full = rw (lt-ltb maxIno n h); code = rw (lt-ltb maxIno n h) }
 
 pub of-zero : (i n : ℕ) (x : VfsInode) → n ≡ 0 → x .0 ≡ 0 → Converts i n (Full x)
-unfolding convert full fullOf codeOf
+unfolding convert full fullOf convertedCode
 of-zero i n x e z = record { full = rw (e, z); code = rw e }
 
 joins : (i n : ℕ) → n ≤ maxIno → (n ≡ 0 → ⊥) → convert i n ≡ some (i * 2 ^ 56 + n)
@@ -24,7 +24,7 @@ unfolding convert full
 joins i n h s = rw (le-ltb maxIno n h, ne-eqb n 0 s)
 
 pub joined : (i n : ℕ) (x : VfsInode) → n ≤ maxIno → (n ≡ 0 → ⊥) → x .0 ≡ i * 2 ^ 56 + n → Converts i n (Full x)
-unfolding fullOf codeOf
+unfolding fullOf convertedCode
 joined i n x h s e = record { full = rw (joins i n h s, e); code = rw (le-ltb maxIno n h) }
 
 -- ---- what went in
@@ -41,7 +41,7 @@ module _ (i n x : ℕ) (some-number : 1 ≤ n) (small : n ≤ maxIno) (e : conve
   unfolding numberOf
   number-back = let s = spelt in omega arith
 
-pub every-back : EveryBack
+pub every-back : EveryConvertedBack
 every-back i n x a b e = record { index-back = index-back i n x a b e; number-back = number-back i n x a b e }
 
 pub convert-injective : ConvertInjective

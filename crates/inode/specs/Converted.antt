@@ -14,9 +14,9 @@ fullOf (Full x) = some (x .0)
 fullOf Inode = none
 
 -- the number of the answer (R7, R15)
-unfoldable pub codeOf : Converted → ℕ
-codeOf (Full x) = DONE
-codeOf Inode = INODE
+unfoldable pub convertedCode : Converted → ℕ
+convertedCode (Full x) = DONE
+convertedCode Inode = INODE
 
 -- by the rule: INODE exactly if the number is above 2^56 − 1 (R7)
 abbrev pub convertCode : ℕ → ℕ
@@ -25,18 +25,18 @@ convertCode number = cond (ltb maxIno number) INODE DONE
 -- the answer to an index and a number: the full number, or INODE (R7)
 pub record Converts (index number : ℕ) (r : Converted) : Type 0 where
   pub full : fullOf r ≡ convert index number
-  pub code : codeOf r ≡ convertCode number
+  pub code : convertedCode r ≡ convertCode number
 
 -- ---- what is claimed of conversion
 
 -- what went in comes back: index and number of a full number (R6, R7)
-pub record Back (index number x : ℕ) : Type 0 where
+pub record ConvertedBack (index number x : ℕ) : Type 0 where
   pub index-back : indexOf x ≡ index
   pub number-back : numberOf x ≡ number
 
 -- of every number from 1 to 2^56 − 1
-abbrev pub EveryBack : Type 0
-EveryBack = (i n x : ℕ) → 1 ≤ n → n ≤ maxIno → convert i n ≡ some x → Back i n x
+abbrev pub EveryConvertedBack : Type 0
+EveryConvertedBack = (i n x : ℕ) → 1 ≤ n → n ≤ maxIno → convert i n ≡ some x → ConvertedBack i n x
 
 -- so no two pairs of index and number, the number from 1 on, have one full number (R6, R7)
 abbrev pub ConvertInjective : Type 0

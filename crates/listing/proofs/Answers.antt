@@ -11,8 +11,8 @@ use Rattle.rules.specs.Outcome.{Outcome, refused, writes, firstOf}
 use Rattle.rules.specs.Listing.{direntsFrom, laidRecords, listRule}
 use Rattle.le.specs.Mem.{write}
 use Rattle.tables.specs.View.{nodesOf, view}
-use Rattle.tables.specs.Rule.{laid}
-use Rattle.tables.specs.Call.{toldBy}
+use Rattle.tables.specs.Laid.{laid}
+use Rattle.call_form.specs.Form.{toldBy}
 use Rattle.dirent.specs.Lays.{Lays}
 use Rattle.storage.proofs.Calls.{writes-small, writes-by}
 use Rattle.listing.specs.declared.Listed.{Listed}

@@ -1,17 +1,15 @@
 -- The children that are left to list: what each way round the loop over the rows makes of them. Assumes nothing.
-use mathlib.Core.Path.{_≡_, refl, sym, ap, _∙_}
+use mathlib.Core.Path.{_≡_, refl, ap, _∙_}
 use mathlib.Core.List.{List, [], _∷_}
 use Prim.Native.Nat.{ℕ, zero, suc, _+_, _-_, _≤_, _<_}
 use native.Mathlib.Nat.{zero-add, add-zero, sub-zero}
 use native.Mathlib.Omega.{arith}
-use borrow.Author.Tests.{eq-eqb, ne-eqb}
 use lib.ListN.{length, drop}
 use Rattle.rules.specs.Tree.{Node, childrenIn}
 use Rattle.rules.specs.Listing.{dirent, direntsFrom}
 use Rattle.tables.specs.Layout.{capacityOf, countOf}
 use Rattle.tables.specs.View.{nodeAt, nodesOf}
-use Rattle.tables.proofs.Tab.{tab-next, tab-done}
-use Rattle.tables.proofs.Find.{left, none-looked}
+use Rattle.tables.proofs.Children.{childrenLeft, children-all, children-next, children-not, children-end}
 use Rattle.dirent.specs.Lays.{Lays}
 use Rattle.dirent.proofs.Records.{entry-some}
 use Rattle.dirent.proofs.Fills.{back, Wrote, Going, going-start, going-done, went, stopped}
@@ -43,36 +41,12 @@ module _ (offset place : ℕ) where
       rw (a, b)
 
   -- or not
-  due-next : (n : Node) (cs : List Node) → offset < place + 1 → due offset place (n ∷ cs) ≡ dirent (n .number) (place + 1) (n .called) ∷ due offset (place + 1) cs
+  due-next : (n : Node) (cs : List Node) → offset < place + 1 → due offset place (n ∷ cs) ≡ dirent (n .number) (place + 1) (n .name) ∷ due offset (place + 1) cs
   unfolding due direntsFrom
   due-next n cs h =
       let a : offset - place ≡ 0 = omega arith in
       let b : offset - (place + 1) ≡ 0 = omega arith in
       rw (a, b, add-zero place, add-zero (place + 1))
-
--- ---- the children among the rows that are left
-
-module _ (mem : List ℕ) (x c : ℕ) where
-  abbrev node : ℕ → Node
-  node i = nodeAt (capacityOf mem) mem i
-
-  abbrev children : ℕ → List Node
-  children i = childrenIn (left mem c i) x
-
-  all-left : c ≡ countOf mem → children 0 ≡ childrenIn (nodesOf mem) x
-  all-left e = sym (ap (λ (ns : List Node). childrenIn ns x) (none-looked mem c e))
-
-  child-next : (i : ℕ) → i < c → node i .above ≡ x → children i ≡ node i ∷ children (i + 1)
-  unfolding childrenIn
-  child-next i h e = rw (tab-next (nodeAt (capacityOf mem) mem) i c h, eq-eqb (node i .above) x e)
-
-  child-not : (i : ℕ) → i < c → (node i .above ≡ x → ⊥) → children i ≡ children (i + 1)
-  unfolding childrenIn
-  child-not i h e = rw (tab-next (nodeAt (capacityOf mem) mem) i c h, ne-eqb (node i .above) x e)
-
-  child-end : (i : ℕ) → c ≤ i → children i ≡ []
-  unfolding childrenIn
-  child-end i h = rw (tab-done (nodeAt (capacityOf mem) mem) i c h)
 
 -- ---- the loop: i of c rows were looked at, `place` of them were children, and `at` bytes of d are written
 
@@ -83,11 +57,11 @@ allOf mem x offset = direntsFrom offset (drop offset (childrenIn (nodesOf mem) x
 pub record Listing (mem : List ℕ) (x offset end c : ℕ) (d₀ d : List ℕ) (at place i : ℕ) : Type 0 where
   pub rows : i ≤ c
   pub few : place ≤ i
-  pub going : Going d₀ end (allOf mem x offset) d at (due offset place (childrenIn (left mem c i) x))
+  pub going : Going d₀ end (allOf mem x offset) d at (due offset place (childrenLeft mem x c i))
 
 pub listing-start : (mem : List ℕ) (x offset end c : ℕ) (d : List ℕ) → c ≡ countOf mem → end ≤ length d → Listing mem x offset end c d d 0 0 0
 listing-start mem x offset end c d e h =
-    let all : due offset 0 (children mem x c 0) ≡ allOf mem x offset = ap (due offset 0) (all-left mem x c e) ∙ due-start offset (childrenIn (nodesOf mem) x) in
+    let all : due offset 0 (childrenLeft mem x c 0) ≡ allOf mem x offset = ap (due offset 0) (children-all mem x c e) ∙ due-start offset (childrenIn (nodesOf mem) x) in
     record { rows = omega arith; few = omega arith; going = rw all (going-start d end (allOf mem x offset) h) }
 
 module _ (mem : List ℕ) (x offset end c : ℕ) (d₀ d : List ℕ) (at place i : ℕ) (l : Listing mem x offset end c d₀ d at place i) where
@@ -98,34 +72,34 @@ module _ (mem : List ℕ) (x offset end c : ℕ) (d₀ d : List ℕ) (at place i
   -- no row is left
   pub listing-done : c ≤ i → Lays d₀ end (allOf mem x offset) at d
   listing-done h =
-      let none : due offset place (children mem x c i) ≡ [] = ap (due offset place) (child-end mem x c i h) ∙ due-none offset place in
+      let none : due offset place (childrenLeft mem x c i) ≡ [] = ap (due offset place) (children-end mem x c i h) ∙ due-none offset place in
       going-done d₀ end (allOf mem x offset) d at (rw none at (l .going))
 
   module _ (h : i < c) where
     -- the row is no child
-    pub listing-not : (node mem x c i .above ≡ x → ⊥) → Listing mem x offset end c d₀ d at place (i + 1)
-    listing-not e = record { rows = omega arith; few = omega (arith, l .few); going = rw (child-not mem x c i h e) at (l .going) }
+    pub listing-not : (nodeAt (capacityOf mem) mem i .parent ≡ x → ⊥) → Listing mem x offset end c d₀ d at place (i + 1)
+    listing-not e = record { rows = omega arith; few = omega (arith, l .few); going = rw (children-not mem x c i h e) at (l .going) }
 
     -- it is a child before the offset
-    pub listing-skip : node mem x c i .above ≡ x → place + 1 ≤ offset → Listing mem x offset end c d₀ d at (place + 1) (i + 1)
+    pub listing-skip : nodeAt (capacityOf mem) mem i .parent ≡ x → place + 1 ≤ offset → Listing mem x offset end c d₀ d at (place + 1) (i + 1)
     listing-skip e s =
-        let less : due offset place (children mem x c i) ≡ due offset (place + 1) (children mem x c (i + 1)) =
-        ap (due offset place) (child-next mem x c i h e) ∙ due-skip offset place (node mem x c i) (children mem x c (i + 1)) s in
+        let less : due offset place (childrenLeft mem x c i) ≡ due offset (place + 1) (childrenLeft mem x c (i + 1)) =
+        ap (due offset place) (children-next mem x c i h e) ∙ due-skip offset place (nodeAt (capacityOf mem) mem i) (childrenLeft mem x c (i + 1)) s in
         record { rows = omega arith; few = omega (arith, l .few); going = rw less at (l .going) }
 
     -- it is a child from the offset on, and its record is the next
-    module _ (e : node mem x c i .above ≡ x) (s : offset < place + 1) (n : ℕ) (ys : List ℕ)
-        (w : Wrote d at end (dirent (node mem x c i .number) (place + 1) (node mem x c i .called)) n ys) where
+    module _ (e : nodeAt (capacityOf mem) mem i .parent ≡ x) (s : offset < place + 1) (n : ℕ) (ys : List ℕ)
+        (w : Wrote d at end (dirent (nodeAt (capacityOf mem) mem i .number) (place + 1) (nodeAt (capacityOf mem) mem i .name)) n ys) where
       abbrev this : List ℕ
-      this = dirent (node mem x c i .number) (place + 1) (node mem x c i .called)
+      this = dirent (nodeAt (capacityOf mem) mem i .number) (place + 1) (nodeAt (capacityOf mem) mem i .name)
 
       abbrev others : List (List ℕ)
-      others = due offset (place + 1) (children mem x c (i + 1))
+      others = due offset (place + 1) (childrenLeft mem x c (i + 1))
 
       goes : Going d₀ end (allOf mem x offset) d at (this ∷ others)
       goes =
-          let next : due offset place (children mem x c i) ≡ this ∷ others =
-          ap (due offset place) (child-next mem x c i h e) ∙ due-next offset place (node mem x c i) (children mem x c (i + 1)) s in
+          let next : due offset place (childrenLeft mem x c i) ≡ this ∷ others =
+          ap (due offset place) (children-next mem x c i h e) ∙ due-next offset place (nodeAt (capacityOf mem) mem i) (childrenLeft mem x c (i + 1)) s in
           rw next at (l .going)
 
       -- it was laid
@@ -136,4 +110,4 @@ module _ (mem : List ℕ) (x offset end c : ℕ) (d₀ d : List ℕ) (at place i
       pub listing-full : n ≡ 0 → Lays d₀ end (allOf mem x offset) at (back d at end ys)
       listing-full z =
           stopped d₀ end (allOf mem x offset) d at this others n ys goes w
-          (entry-some (node mem x c i .number) (place + 1) (node mem x c i .called)) z
+          (entry-some (nodeAt (capacityOf mem) mem i .number) (place + 1) (nodeAt (capacityOf mem) mem i .name)) z

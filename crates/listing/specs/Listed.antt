@@ -6,7 +6,7 @@ use Rattle.rules.specs.Numbers.{NOENT}
 use Rattle.rules.specs.Instance.{Instance}
 use Rattle.rules.specs.Outcome.{wrote, Outcome}
 use Rattle.rules.specs.Listing.{listRule}
-use Rattle.tables.specs.Call.{Told, tells, refuses, toldSmall, Writes}
+use Rattle.call_form.specs.Form.{Told, tells, refuses, toldSmall, Writes}
 use Rattle.listing.specs.declared.Listed.{Listed}
 use Rattle.listing.specs.declared.Listed.the-variants.{Wrote, NoEnt, Small}
 

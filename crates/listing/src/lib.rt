@@ -7,7 +7,7 @@ ghost use Rattle.rules.specs.Tree.{childrenIn};
 ghost use Rattle.rules.specs.Listing.{dirent, direntsFrom};
 ghost use Rattle.tables.specs.Layout.{capacityOf, countOf};
 ghost use Rattle.tables.specs.View.{nodeAt, nodesOf};
-ghost use Rattle.tables.specs.Rule.{Bounds};
+ghost use Rattle.tables.specs.Laid.{Bounds};
 ghost use Rattle.dirent.specs.Lays.{Lays};
 ghost use Rattle.listing.specs.Listed.{Lists};
 
@@ -23,7 +23,7 @@ pub enum Listed {
 fn lay_row(s: &[u8], i: usize, off: u64, out: &mut [u8]) -> usize
     requires { ⌜ Bounds (now s) ⌝ }
     requires { ⌜ i < countOf (now s) ⌝ }
-    ensures { λ r. ⌜ Lays (now (out .entry)) (length (now (out .entry))) (dirent (nodeAt (capacityOf (now (s .entry))) (now (s .entry)) i .number) off (nodeAt (capacityOf (now (s .entry))) (now (s .entry)) i .called) ∷ []) r (now (out .exit)) ⌝ }
+    ensures { λ r. ⌜ Lays (now (out .entry)) (length (now (out .entry))) (dirent (nodeAt (capacityOf (now (s .entry))) (now (s .entry)) i .number) off (nodeAt (capacityOf (now (s .entry))) (now (s .entry)) i .name) ∷ []) r (now (out .exit)) ⌝ }
 {
     let x = tables::rows::number(s, i);
     let cell = row_name::name_cell(s, i);

@@ -1,3 +1,5 @@
 -- What is proved of every contract of a call that takes storage.
 pub mod OneResult
 pub mod Own
+pub mod Apart
+pub mod Whole

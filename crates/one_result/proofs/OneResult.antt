@@ -4,20 +4,20 @@ use Prim.Native.Nat.{ℕ}
 use mathlib.Core.List.{List}
 use Rattle.rules.specs.Instance.{Instance}
 use Rattle.rules.specs.Outcome.{Outcome}
-use Rattle.tables.specs.Call.{Told, Writes, Does}
+use Rattle.call_form.specs.Form.{Told, Writes, Does}
 use Rattle.storage.specs.Answers.{removalTold, initializedTold, optionsTold}
 use Rattle.pseudo_fs.specs.Told.{pathWalkTold}
 use Rattle.listing.specs.Listed.{listedTold}
 use Rattle.vfs_query.specs.Told.{routedTold, rootfsTold, remappedTold, lookedTold}
-use Rattle.vfs.specs.Mounting.{mountedTold}
-use Rattle.vfs.specs.Restoring.{restoredTold}
+use Rattle.mount_parts.specs.Mounting.{mountedTold}
+use Rattle.mount_parts.specs.RestoredMounting.{restoredMountTold}
 use Rattle.vfs.specs.Unmounting.{unmountedTold}
 use Rattle.persist.specs.Saving.{savedTold}
-use Rattle.persist.specs.Restoring.{stateTold}
-use Rattle.flat.specs.Apart.{Apart}
+use Rattle.persist.specs.StateRestoring.{stateRestoredTold}
+use Rattle.one_result.specs.Apart.{Apart}
 use Rattle.flat.specs.Flat.{codeAlone, codeNumbers, initializedNumbers, optionsNumbers, mountNumbers, restoreMountNumbers, umountNumbers, rootfsNumbers, walkNumbers, routeNumbers, lookupNumbers, wroteNumbers, idsNumbers}
-use Rattle.flat.proofs.Apart.{told-apart}
-use Rattle.flat.proofs.Whole.{every-apart}
+use Rattle.one_result.proofs.Apart.{told-apart}
+use Rattle.one_result.proofs.Whole.{every-apart}
 use Rattle.one_result.specs.OneResult.{OneResult}
 
 -- two that are told as one third are equal
@@ -45,13 +45,13 @@ one-result = record {
   lookup = λ i. joined (told-apart lookedTold lookupNumbers (every-apart .looked));
   readdir = λ i. writes-once (told-apart listedTold wroteNumbers (every-apart .listed)) _ _ _;
   mount = λ i. does-once (told-apart mountedTold mountNumbers (every-apart .mounted)) _ _ _;
-  restore-mount = λ i. does-once (told-apart restoredTold restoreMountNumbers (every-apart .restored)) _ _ _;
+  restore-mount = λ i. does-once (told-apart restoredMountTold restoreMountNumbers (every-apart .restored)) _ _ _;
   umount = λ i. does-once (told-apart unmountedTold umountNumbers (every-apart .unmounted)) _ _ _;
   get-rootfs = λ i. joined (told-apart rootfsTold rootfsNumbers (every-apart .rootfs));
   route = λ i. joined (told-apart routedTold routeNumbers (every-apart .routed));
   remap-attr-id = λ i. joined (told-apart remappedTold idsNumbers (every-apart .remapped));
   save-to-bytes = λ i. writes-once (told-apart savedTold wroteNumbers (every-apart .saved)) _ _ _;
-  restore-from-bytes = λ i. does-once (told-apart stateTold codeNumbers (every-apart .state)) _ _ _;
+  restore-from-bytes = λ i. does-once (told-apart stateRestoredTold codeNumbers (every-apart .state)) _ _ _;
   feed = λ i r t a b. λ j. ((a .answer ∙ sym (b .answer)) j, (a .bytes ∙ sym (b .bytes)) j, (a .begun ∙ sym (b .begun)) j, (a .text ∙ sym (b .text)) j);
   finish = λ i r t a b. λ j. ((a .answer ∙ sym (b .answer)) j, (a .bytes ∙ sym (b .bytes)) j, (a .text ∙ sym (b .text)) j);
 }

@@ -1,7 +1,7 @@
 -- Each contract that OneResult speaks of is that of its function, by computation. Assumes nothing.
-use Rattle.one_result.specs.Own.{EveryOwn}
+use Rattle.one_result.specs.Own.{EveryOwnResult}
 
-pub every-own : EveryOwn
+pub every-own : EveryOwnResult
 every-own = record {
   create = λ κs s n known o r s' n' known' o' e. e;
   set-remove-pseudo-root = λ κs s r s' e. e;

@@ -5,16 +5,18 @@ use mathlib.Core.List.{List}
 use mathlib.Core.Path.{_≡_}
 use Rattle.rules.specs.Instance.{Instance}
 use Rattle.rules.specs.Mount.{mountRule, restoreMountRule}
-use Rattle.rules.specs.Unmount.{walkRule, unmountRule, rootRule}
+use Rattle.rules.specs.Reached.{walkRule}
+use Rattle.rules.specs.Unmount.{unmountRule}
+use Rattle.rules.specs.Rootfs.{rootRule}
 use Rattle.rules.specs.Lookup.{routeRule, lookupRule, remapRule}
 use Rattle.inode.specs.declared.VfsInode.{VfsInode}
 use Rattle.inode.specs.declared.NodeNumber.{NodeNumber}
-use Rattle.tables.specs.Rule.{laid}
+use Rattle.tables.specs.Laid.{laid}
 use Rattle.tables.specs.Write.{setRemoval}
-use Rattle.tables.specs.Call.{answeredBy, Does}
+use Rattle.call_form.specs.Form.{answeredBy, Does}
 use Rattle.storage.specs.Creation.{creationOf, createdCode, Creates}
 use Rattle.storage.specs.Answers.{removeCall, initializedCall, optionsCall, removalTold, initializedTold, optionsTold}
-use Rattle.storage.specs.declared.VfsOptions.{VfsOptions}
+use Rattle.vfs_options.specs.declared.VfsOptions.{VfsOptions}
 use Rattle.storage.specs.declared.Created.{Created}
 use Rattle.storage.specs.declared.Removal.{Removal}
 use Rattle.storage.specs.declared.IsInitialized.{IsInitialized}
@@ -28,20 +30,20 @@ use Rattle.vfs_query.specs.declared.Looked.{Looked}
 use Rattle.vfs_query.specs.declared.Routed.{Routed}
 use Rattle.vfs_query.specs.declared.Rootfs.{Rootfs}
 use Rattle.vfs_query.specs.declared.Remapped.{Remapped}
-use Rattle.vfs.specs.Mounting.{requestOf, mountedTold, mountMem}
-use Rattle.vfs.specs.Restoring.{restoredTold, restoreMountMem}
+use Rattle.mount_parts.specs.Mounting.{requestOf, mountedTold, mountMem}
+use Rattle.mount_parts.specs.RestoredMounting.{restoredMountTold, restoreMountMem}
 use Rattle.vfs.specs.Unmounting.{unmountedTold, unmountMem}
-use Rattle.vfs.specs.declared.backend.Backend.{Backend}
-use Rattle.vfs.specs.declared.mounting.Mounted.{Mounted}
-use Rattle.vfs.specs.declared.restoring.RestoredMount.{RestoredMount}
+use Rattle.mount_parts.specs.declared.backend.Backend.{Backend}
+use Rattle.mount_parts.specs.declared.mounting.Mounted.{Mounted}
+use Rattle.mount_parts.specs.declared.restored_mounting.RestoredMount.{RestoredMount}
 use Rattle.vfs.specs.declared.unmounting.Unmounted.{Unmounted}
 use Rattle.persist.specs.Saving.{Saves}
-use Rattle.persist.specs.Restoring.{Restores}
+use Rattle.persist.specs.StateRestoring.{RestoresState}
 use Rattle.persist.specs.declared.saving.Saved.{Saved}
-use Rattle.persist.specs.declared.restoring.StateRestored.{StateRestored}
-use Rattle.script.specs.Feed.{Feeds, Finishes}
-use Rattle.script.specs.declared.Fed.{Fed}
-use Rattle.script.specs.declared.Finished.{Finished}
+use Rattle.persist.specs.declared.state_restoring.StateRestored.{StateRestored}
+use Rattle.session_script.specs.Feed.{Feeds, Finishes}
+use Rattle.session_script.specs.declared.Fed.{Fed}
+use Rattle.session_script.specs.declared.Finished.{Finished}
 
 -- any two results that a contract allows on one input are equal (R164)
 abbrev pub OneOf : {I R : Type 0} → (I → R → Type 0) → Type 0
@@ -70,8 +72,8 @@ abbrev pub asks-options : Mem → OptionsOf → Type 0
 asks-options s r = optionsTold r ≡ answeredBy s optionsCall
 
 -- the walk along a path (R46, R47)
-abbrev pub walks : (Mem × Mem) → PathWalk → Type 0
-walks (s, path) r = pathWalkTold r ≡ answeredBy s (λ (i : Instance). walkRule i path)
+abbrev pub walks-path : (Mem × Mem) → PathWalk → Type 0
+walks-path (s, path) r = pathWalkTold r ≡ answeredBy s (λ (i : Instance). walkRule i path)
 
 -- a lookup (R57 to R59, R108, R109)
 abbrev pub looks-up : (Mem × NodeNumber × Mem) → Looked → Type 0
@@ -82,17 +84,17 @@ abbrev pub lists : (Mem × NodeNumber × ℕ × ℕ × Mem) → (Listed × Mem) 
 lists (s, node, size, offset, out) (r, left) = Lists s (node .0) size offset out r left
 
 -- a mount (R68 to R79)
-abbrev pub mounts : (Mem × Mem × Backend) → (Mounted × Mem) → Type 0
-mounts (s, path, b) (r, after) = Does s (λ (i : Instance). mountRule i (requestOf path b)) (mountedTold r) after (mountMem (requestOf path b) s)
+abbrev pub mounts-path : (Mem × Mem × Backend) → (Mounted × Mem) → Type 0
+mounts-path (s, path, b) (r, after) = Does s (λ (i : Instance). mountRule i (requestOf path b)) (mountedTold r) after (mountMem (requestOf path b) s)
 
 -- a restored mount (R91 to R95)
 abbrev pub restores-mount : (Mem × ℕ × Mem × Backend) → (RestoredMount × Mem) → Type 0
 restores-mount (s, «fs_idx», path, b) (r, after) =
-    Does s (λ (i : Instance). restoreMountRule i «fs_idx» (requestOf path b)) (restoredTold r) after (restoreMountMem «fs_idx» (requestOf path b) s)
+    Does s (λ (i : Instance). restoreMountRule i «fs_idx» (requestOf path b)) (restoredMountTold r) after (restoreMountMem «fs_idx» (requestOf path b) s)
 
 -- an unmount (R96 to R100)
-abbrev pub unmounts : (Mem × Mem) → (Unmounted × Mem) → Type 0
-unmounts (s, path) (r, after) = Does s (λ (i : Instance). unmountRule i path) (unmountedTold r) after (unmountMem path s)
+abbrev pub unmounts-path : (Mem × Mem) → (Unmounted × Mem) → Type 0
+unmounts-path (s, path) (r, after) = Does s (λ (i : Instance). unmountRule i path) (unmountedTold r) after (unmountMem path s)
 
 -- the root query (R103, R104)
 abbrev pub asks-rootfs : (Mem × Mem) → Rootfs → Type 0
@@ -111,8 +113,8 @@ abbrev pub saves : (Mem × Mem) → (Saved × Mem) → Type 0
 saves (s, out) (r, left) = Saves s out r left
 
 -- a restore of the saved bytes b (R128)
-abbrev pub restores : (Mem × Mem) → (StateRestored × Mem) → Type 0
-restores (s, b) (r, after) = Restores s b r after
+abbrev pub restores-state : (Mem × Mem) → (StateRestored × Mem) → Type 0
+restores-state (s, b) (r, after) = RestoresState s b r after
 
 -- a feed, with the carry and the lent output (R137, R150, R151)
 abbrev pub feeds : (Mem × Mem × ℕ × Mem × Mem) → (Fed × Mem × Mem × Mem) → Type 0
@@ -130,16 +132,16 @@ pub record OneResult : Type 0 where
   pub set-remove-pseudo-root : OneOf sets-removal
   pub initialized : OneOf asks-initialized
   pub options : OneOf asks-options
-  pub path-walk : OneOf walks
+  pub path-walk : OneOf walks-path
   pub lookup : OneOf looks-up
   pub readdir : OneOf lists
-  pub mount : OneOf mounts
+  pub mount : OneOf mounts-path
   pub restore-mount : OneOf restores-mount
-  pub umount : OneOf unmounts
+  pub umount : OneOf unmounts-path
   pub get-rootfs : OneOf asks-rootfs
   pub route : OneOf routes
   pub remap-attr-id : OneOf remaps
   pub save-to-bytes : OneOf saves
-  pub restore-from-bytes : OneOf restores
+  pub restore-from-bytes : OneOf restores-state
   pub feed : OneOf feeds
   pub finish : OneOf finishes

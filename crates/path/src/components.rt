@@ -7,16 +7,16 @@ ghost use mathlib.Core.List.{[]};
 ghost use Prim.Native.Nat.{_≤_, _<_};
 ghost use lib.ListN.{length};
 ghost use Rattle.rules.specs.Path.{sorted, rooted};
-ghost use Rattle.path.specs.Steps.{between, partEnd, stepOf, nextAt};
+ghost use Rattle.path.specs.Steps.{between, partEnd, firstComponent, nextComponent};
 
 // A component with the place where it starts and the place behind it, or the end of the path (R37).
 pub enum Component {
-    Name {
+    Normal {
         start: usize,
         len: usize,
         next: usize,
     },
-    Parent {
+    ParentDir {
         start: usize,
         next: usize,
     },
@@ -67,19 +67,19 @@ pub fn part_end(s: &[u8], at: usize, sep: u8) -> usize
 // The component that the part from `at` to `end`, of a byte or more, is; End where it is dropped.
 fn component_at(path: &[u8], at: usize, end: usize) -> Component
     requires { ⌜ (at < end) × (end ≤ length (now path)) ⌝ }
-    ensures { λ r. ⌜ r ≡ stepOf (sorted at (between (now (path .entry)) at end) []) ⌝ }
+    ensures { λ r. ⌜ r ≡ firstComponent (sorted at (between (now (path .entry)) at end) []) ⌝ }
 {
     let word = &path[at..end];
     if is_dot(word) {
         return Component::End;
     }
     if is_dots(word) {
-        return Component::Parent {
+        return Component::ParentDir {
             start: at,
             next: end,
         };
     }
-    Component::Name {
+    Component::Normal {
         start: at,
         len: end - at,
         next: end,
@@ -88,7 +88,7 @@ fn component_at(path: &[u8], at: usize, end: usize) -> Component
 
 // The next component from `at` on, with the place where it starts and the place behind it (R37). A slash is passed over by itself.
 pub fn next_component(path: &[u8], at: usize) -> Component
-    ensures { λ r. ⌜ r ≡ nextAt (now (path .entry)) at ⌝ }
+    ensures { λ r. ⌜ r ≡ nextComponent (now (path .entry)) at ⌝ }
 {
     let mut i = at;
     while i < path.len() {
@@ -100,8 +100,8 @@ pub fn next_component(path: &[u8], at: usize) -> Component
         let c = component_at(path, i, end);
         match c {
             Component::End => i += 1,
-            Component::Parent { .. } => return c,
-            Component::Name { .. } => return c,
+            Component::ParentDir { .. } => return c,
+            Component::Normal { .. } => return c,
         }
     }
     Component::End

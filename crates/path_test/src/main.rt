@@ -17,7 +17,7 @@ fn main() {
 fn all(input: &[u8], bytes: &mut [u8]) {
     let mut at = 0;
     while at < input.len() {
-        let n = words::hex::pairs(input, at, bytes);
+        let n = test_words::hex::pairs(input, at, bytes);
         report(&bytes[0..n]);
         at = path::components::part_end(input, at, b'\n') + 1;
     }
@@ -74,11 +74,11 @@ fn components(s: &[u8]) {
     loop {
         match path::components::next_component(s, at) {
             Component::End => return,
-            Component::Parent { start, next } => {
+            Component::ParentDir { start, next } => {
                 parent(start);
                 at = next;
             }
-            Component::Name { start, len, next } => {
+            Component::Normal { start, len, next } => {
                 name(start, len);
                 at = next;
             }

@@ -11,9 +11,10 @@ use borrow.Author.Tests.{lt-ltb, le-ltb}
 use Rattle.rules.specs.Numbers.{SMALL}
 use Rattle.rules.specs.Tree.{Node}
 use Rattle.rules.specs.Outcome.{wrote, Outcome, refused, writes, firstOf}
-use Rattle.rules.specs.Saved.{optionsBytes, trailerBytes, encode}
-use Rattle.rules.specs.Restore.{savedNodes, saved, saveRule}
-use Rattle.rules.specs.RoundTrip.{NamesTo}
+use Rattle.rules.specs.Fields.{rowLength}
+use Rattle.rules.specs.Saved.{optionsRow, tailLength, optionsBytes, trailerBytes, encode}
+use Rattle.rules.specs.StateRestore.{savedNodes, savedState, saveRule}
+use Rattle.rules.specs.claims.RoundTrip.{NamesTo}
 use Rattle.rules.proofs.Encoded.{options-length, encode-length}
 use Rattle.rules.proofs.RoundTrip.{longest}
 use Rattle.rules.proofs.Shape.{saved-length}
@@ -23,9 +24,9 @@ use Rattle.le.proofs.Writes.{write-over}
 use Rattle.tables.specs.Table.{row, tab}
 use Rattle.tables.specs.Layout.{capacityOf, countOf, nextOf, counterByte}
 use Rattle.tables.specs.View.{optionsFrom, headOf, nodeAt, nodesOf, view}
-use Rattle.tables.specs.Rule.{laid}
-use Rattle.tables.specs.Call.{Told, toldBy}
-use Rattle.tables.proofs.Places.{nodes-count}
+use Rattle.tables.specs.Laid.{laid}
+use Rattle.call_form.specs.Form.{Told, toldBy}
+use Rattle.tables.proofs.RowOf.{nodes-count}
 use Rattle.tables.proofs.Find.{nodes-of}
 use Rattle.tables.proofs.Keeps.{laid-is}
 use Rattle.storage.proofs.Calls.{writes-small, writes-by}
@@ -33,7 +34,7 @@ use Rattle.row_name.proofs.Names.{name-short}
 use Rattle.persist.specs.declared.saving.Saved.{Saved}
 use Rattle.persist.specs.declared.saving.Saved.the-variants.{Wrote, Small}
 use Rattle.persist.specs.Saving.{savedTold, saving, Saves, Holds, DoneHolds, SmallLeaves, NeverLonger, Enough}
-use Rattle.save_parts.proofs.SaveRecords.{records}
+use Rattle.saved_rows.proofs.SaveRecords.{records}
 
 -- ---- the answers are known by their meaning
 
@@ -61,16 +62,16 @@ module _ (mem d : List ℕ) where
 
   -- what is saved: its parts, and its size
   abbrev state : List ℕ
-  state = encode (saved (view mem))
+  state = encode (savedState (view mem))
 
   parts : (end : ℕ) → end ≡ length (records mem)
       → state ≡ records mem ++ (optionsBytes (optionsFrom (headOf mem)) ++ trailerBytes end (length (savedNodes (nodesOf mem))) (nextOf mem) (counterByte mem))
-  unfolding encode saved view row get
+  unfolding encode savedState view row get
   parts end e = rw e
 
-  size : length state ≡ length (records mem) + 56
-  unfolding saved view
-  size = encode-length (saved (view mem))
+  size : length state ≡ length (records mem) + tailLength
+  unfolding savedState view
+  size = encode-length (savedState (view mem))
 
   module _ (l : laid mem ≡ true) where
     saves-full : length d < length state → Saves mem d Small d
@@ -83,23 +84,23 @@ module _ (mem d : List ℕ) where
 
     -- as the code finds it
     module _ (end : ℕ) (e : end ≡ length (records mem)) where
-      pub saves-no-room : length d < end + 56 → Saves mem d Small d
+      pub saves-no-room : length d < end + tailLength → Saves mem d Small d
       saves-no-room h = saves-full (omega (arith, size))
 
       -- the records, the options and the trailer, one behind the other
-      pub saves-whole : end + 56 ≤ length d → (d₁ d₂ d₃ : List ℕ) (c x k : ℕ) → c ≡ countOf mem → x ≡ nextOf mem → k ≡ counterByte mem
-          → d₁ ≡ write d 0 (records mem) → d₂ ≡ write d₁ end (optionsBytes (optionsFrom (headOf mem))) → d₃ ≡ write d₂ (end + 32) (trailerBytes end c x k)
-          → Saves mem d (Wrote (end + 56)) d₃
+      pub saves-whole : end + tailLength ≤ length d → (d₁ d₂ d₃ : List ℕ) (c x k : ℕ) → c ≡ countOf mem → x ≡ nextOf mem → k ≡ counterByte mem
+          → d₁ ≡ write d 0 (records mem) → d₂ ≡ write d₁ end (optionsBytes (optionsFrom (headOf mem))) → d₃ ≡ write d₂ (end + rowLength optionsRow) (trailerBytes end c x k)
+          → Saves mem d (Wrote (end + tailLength)) d₃
       saves-whole h d₁ d₂ d₃ c x k f g j p q r =
           let os : List ℕ = optionsBytes (optionsFrom (headOf mem)) in
           let ts : List ℕ = trailerBytes end (countOf mem) (nextOf mem) (counterByte mem) in
           let all : state ≡ records mem ++ (os ++ ts) = parts end e ∙ rw (saved-length (nodesOf mem), nodes-count mem) in
           let a : 0 + length (records mem) ≡ end = zero-add (length (records mem)) ∙ sym e in
-          let w : write d 0 state ≡ write (write (write d 0 (records mem)) end os) (end + 32) ts =
+          let w : write d 0 state ≡ write (write (write d 0 (records mem)) end os) (end + rowLength optionsRow) ts =
           ap (write d 0) all ∙ write-append d 0 (records mem) (os ++ ts) ∙ write-append (write d 0 (records mem)) (0 + length (records mem)) os ts
           ∙ rw (a, options-length (optionsFrom (headOf mem))) in
           let last : d₃ ≡ write d 0 state = r ∙ rw (f, g, j, q, p) (sym w) in
-          let s : end + 56 ≡ length state = omega (arith, size) in
+          let s : end + tailLength ≡ length state = omega (arith, size) in
           rw (last, s) (saves-all (omega (arith, size)))
 
 -- ---- from the answer to what is left
@@ -144,19 +145,19 @@ small-leaves mem d e w = by-laid (laid mem) refl
 -- ---- how much is written at most
 
 -- whatever the rows are, their names are short
-names-to : (f : ℕ → Node) → ((j : ℕ) → length (f j .called) ≤ 255) → (i k : ℕ) → NamesTo 255 (savedNodes (tab f i k))
+names-to : (f : ℕ → Node) → ((j : ℕ) → length (f j .name) ≤ 255) → (i k : ℕ) → NamesTo 255 (savedNodes (tab f i k))
 unfolding NamesTo savedNodes tab
 names-to f h i zero = tt
 names-to f h i (suc k) = (h i, names-to f h (i + 1) k)
 
-at-most : (mem : List ℕ) → laid mem ≡ true → length (encode (saved (view mem))) ≤ 279335
-unfolding saved view
+at-most : (mem : List ℕ) → laid mem ≡ true → length (encode (savedState (view mem))) ≤ 279335
+unfolding savedState view
 at-most mem l =
     let r = laid-is mem l in
     let few : length (savedNodes (nodesOf mem)) ≤ 1023 = omega (arith, saved-length (nodesOf mem), nodes-count mem, r .live, r .few-nodes) in
     let short : NamesTo 255 (savedNodes (nodesOf mem)) =
     rw (nodes-of mem) (names-to (nodeAt (capacityOf mem) mem) (λ j. name-short (capacityOf mem) mem j _ refl) 0 (countOf mem)) in
-    longest .most (saved (view mem)) few short
+    longest .most (savedState (view mem)) few short
 
 -- the theorem: no save writes more than 279,335 bytes
 pub never-longer : NeverLonger

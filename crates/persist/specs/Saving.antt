@@ -8,10 +8,10 @@ use Rattle.rules.specs.Numbers.{maxSaved}
 use Rattle.rules.specs.Instance.{Instance}
 use Rattle.rules.specs.Outcome.{wrote, Outcome}
 use Rattle.rules.specs.Saved.{encode}
-use Rattle.rules.specs.Restore.{saved, saveRule}
+use Rattle.rules.specs.StateRestore.{savedState, saveRule}
 use Rattle.tables.specs.View.{view}
-use Rattle.tables.specs.Rule.{laid}
-use Rattle.tables.specs.Call.{Told, tells, toldSmall, Writes}
+use Rattle.tables.specs.Laid.{laid}
+use Rattle.call_form.specs.Form.{Told, tells, toldSmall, Writes}
 use Rattle.persist.specs.declared.saving.Saved.{Saved}
 use Rattle.persist.specs.declared.saving.Saved.the-variants.{Wrote, Small}
 
@@ -33,8 +33,8 @@ Saves mem d r e = Writes mem (saving d) d (savedTold r) e
 -- a done save: the storage keeps the layout rule, n is the length of its state, and the state stands before what d held behind it
 pub record Holds (mem d : List ℕ) (n : ℕ) (e : List ℕ) : Type 0 where
   pub rule : laid mem ≡ true
-  pub count : n ≡ length (encode (saved (view mem)))
-  pub bytes : e ≡ encode (saved (view mem)) ++ drop n d
+  pub count : n ≡ length (encode (savedState (view mem)))
+  pub bytes : e ≡ encode (savedState (view mem)) ++ drop n d
 
 -- so it is after every done save (R125)
 abbrev pub DoneHolds : Type 0
@@ -52,4 +52,4 @@ NeverLonger = (mem d : List ℕ) (n : ℕ) (e : List ℕ) → Saves mem d (Wrote
 
 -- so many bytes are always enough: the whole state is saved
 abbrev pub Enough : Type 0
-Enough = (mem d : List ℕ) (r : Saved) (e : List ℕ) → laid mem ≡ true → maxSaved ≤ length d → Saves mem d r e → r ≡ Wrote (length (encode (saved (view mem))))
+Enough = (mem d : List ℕ) (r : Saved) (e : List ℕ) → laid mem ≡ true → maxSaved ≤ length d → Saves mem d r e → r ≡ Wrote (length (encode (savedState (view mem))))

@@ -1,9 +1,11 @@
 // Save: the state of an instance written into lent bytes, in the house layout.
 ghost use Rattle.persist.specs.Saving.{Saves};
-use save_parts::put_options;
-use save_parts::put_records;
-use save_parts::put_trailer;
-use save_parts::records_size;
+use saved_parts::places::OPTIONS;
+use saved_parts::places::TAIL;
+use saved_parts::trailer::put_trailer;
+use saved_rows::put_options;
+use saved_rows::put_records;
+use saved_rows::records_size;
 use storage::is_laid;
 
 // What a save answers: how many bytes were written, or SMALL.
@@ -21,7 +23,7 @@ pub fn save_to_bytes(s: &[u8], out: &mut [u8]) -> Saved
         return Saved::Small;
     }
     let end = records_size(s);
-    if out.len() < end + rules::TAIL {
+    if out.len() < end + TAIL {
         return Saved::Small;
     }
     let count = tables::header::count(s);
@@ -29,13 +31,6 @@ pub fn save_to_bytes(s: &[u8], out: &mut [u8]) -> Saved
     let counter = tables::header::counter(s);
     put_records(s, out);
     put_options(s, out, end);
-    put_trailer(
-        out,
-        end + rules::OPTIONS,
-        end as u32,
-        count as u32,
-        next,
-        counter,
-    );
-    Saved::Wrote(end + rules::TAIL)
+    put_trailer(out, end + OPTIONS, end as u32, count as u32, next, counter);
+    Saved::Wrote(end + TAIL)
 }

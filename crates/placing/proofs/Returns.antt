@@ -7,11 +7,11 @@ use Prim.Native.Nat.{ℕ, _<_}
 use lib.Dec.{eqb}
 use borrow.Author.Tests.{not-true, not-false}
 use Rattle.rules.specs.Numbers.{rootNumber}
-use Rattle.rules.specs.Tree.{Mount, Node, mountAt, withMount}
-use Rattle.rules.specs.Instance.{Tree, Instance, tagInSlot, tagOf, mountOf, setMount}
+use Rattle.rules.specs.Tree.{Mount, Node, nodesWithMount, withMount}
+use Rattle.rules.specs.Instance.{Tree, Instance, tagInSlot, tagOf, mountOfNode, setMount}
 use Rattle.rules.specs.Mount.{tagAt}
 use Rattle.tables.specs.View.{flag, headOf, slotAt, nodesOf, view}
-use Rattle.tables.specs.Rule.{laid}
+use Rattle.tables.specs.Laid.{laid}
 use Rattle.tables.specs.Write.{setSlot, removeRow}
 use Rattle.tables.specs.Answer.{tagIn, rowIn, mountIn, placeIn, rowFor, RowOf, atPlace, nodeMountMem, removeMem}
 use Rattle.tables.specs.declared.slots.Tag.{Tag}
@@ -19,14 +19,15 @@ use Rattle.tables.specs.declared.slots.Tag.the-variants.{Empty}
 use Rattle.tables.specs.declared.mounts.MountPoint.{MountPoint}
 use Rattle.tables.specs.declared.mounts.MountOn.{MountOn}
 use Rattle.tables.specs.declared.mounts.MountOn.the-variants.{Point, Nothing}
+use Rattle.tables.proofs.Indexes.{tag-of-is}
 use Rattle.placing.specs.declared.Tags.{Tags}
 use Rattle.placing.specs.Place.{freedMem, placeMem, outMem, takeOffMem, InSlots, Frees, Places, TakesOff}
 use Rattle.tables.specs.Layout.{countOf, removalField}
 use Rattle.tables.specs.declared.rows.Row.{Row}
 use Rattle.tables.specs.declared.rows.Row.the-variants.{At, Nothing as RowNothing}
-use Rattle.tables.proofs.Places.{row-below, view-mount}
+use Rattle.tables.proofs.RowOf.{row-below, view-mount}
 use Rattle.tables.proofs.Keeps.{laid-is, keeps-mount}
-use Rattle.placing.proofs.Stands.{tag-of-is, view-freed, keeps-freed}
+use Rattle.placing.proofs.Stands.{view-freed, keeps-freed}
 
 pub frees-point : (mem : List ℕ) (old : MountOn) (m : MountPoint) (r : Tag) (after : List ℕ) → old ≡ Point m → m .«fs_idx» < 256
     → tagIn r ≡ tagInSlot (slotAt mem (m .«fs_idx»)) → after ≡ setSlot (m .«fs_idx») false 0 mem → Frees mem old r after
@@ -39,15 +40,15 @@ unfolding mountIn tagAt freedMem tagIn
 frees-none mem old e = subst (λ (o : MountOn). Frees mem o Empty mem) (sym e) (record { tag = refl; bytes = refl; within = tt })
 
 pub places : (mem m₁ m₂ after : List ℕ) (x : ℕ) (m : Mount) (t : ℕ) (old : MountOn) (r : Tags) → laid mem ≡ true → m .index < 256
-    → mountIn old ≡ mountOf (view mem .tree) x → Frees mem old (r .replaced) m₁ → tagIn (r .displaced) ≡ tagInSlot (slotAt m₁ (m .index))
+    → mountIn old ≡ mountOfNode (view mem .tree) x → Frees mem old (r .replaced) m₁ → tagIn (r .displaced) ≡ tagInSlot (slotAt m₁ (m .index))
     → m₂ ≡ nodeMountMem (nodesOf m₁) (some m) x m₁ → after ≡ setSlot (m .index) true t m₂ → Places mem m t x r after
 unfolding placeMem
 places mem m₁ m₂ after x m t old r l h o f d e g =
-    let a : m₁ ≡ freedMem (mountOf (view mem .tree) x) mem = f .bytes ∙ ap (λ (z : Option Mount). freedMem z mem) o in
-    let w : InSlots (mountOf (view mem .tree) x) = subst InSlots o (f .within) in
+    let a : m₁ ≡ freedMem (mountOfNode (view mem .tree) x) mem = f .bytes ∙ ap (λ (z : Option Mount). freedMem z mem) o in
+    let w : InSlots (mountOfNode (view mem .tree) x) = subst InSlots o (f .within) in
     record {
       replaced = f .tag ∙ ap (λ (z : Option Mount). tagAt z (view mem)) o;
-      displaced = tag-of-is m₁ (m .index) (tagIn (r .displaced)) h d ∙ ap (λ (i : Instance). tagOf i (m .index)) (ap view a ∙ view-freed mem l (mountOf (view mem .tree) x) w);
+      displaced = tag-of-is m₁ (m .index) (tagIn (r .displaced)) h d ∙ ap (λ (i : Instance). tagOf i (m .index)) (ap view a ∙ view-freed mem l (mountOfNode (view mem .tree) x) w);
       bytes = g ∙ ap (setSlot (m .index) true t) (e ∙ ap (λ (z : List ℕ). nodeMountMem (nodesOf z) (some m) x z) a);
       within = w;
     }
@@ -55,7 +56,7 @@ places mem m₁ m₂ after x m t old r l h o f d e g =
 -- ---- the layout rule on the way
 
 pub laid-freed : (mem m₁ : List ℕ) (old : MountOn) (r : Tag) → laid mem ≡ true → Frees mem old r m₁ → laid m₁ ≡ true
-laid-freed mem m₁ old r e f = ap laid (f .bytes) ∙ keeps-freed mem e (mountIn old) (f .within)
+laid-freed mem m₁ old r e f = ap laid (f .bytes) ∙ keeps-freed mem e (mountIn old)
 
 pub laid-mounted : (mem m₁ : List ℕ) (m : Option Mount) (x : ℕ) → laid mem ≡ true → m₁ ≡ nodeMountMem (nodesOf mem) m x mem → laid m₁ ≡ true
 laid-mounted mem m₁ m x e f = ap laid f ∙ keeps-mount mem e m x
@@ -71,12 +72,12 @@ row-of mem x w i e f = go (eqb x rootNumber) (sym e ∙ ap rowIn f)
 
 -- ---- the row of a node on the way
 
-place-mounted : (m : Option Mount) (ns : List Node) (x y : ℕ) → placeIn (mountAt m ns x) y ≡ placeIn ns y
-unfolding placeIn mountAt
+place-mounted : (m : Option Mount) (ns : List Node) (x y : ℕ) → placeIn (nodesWithMount m ns x) y ≡ placeIn ns y
+unfolding placeIn nodesWithMount
 place-mounted m [] x y = refl
 place-mounted m (n ∷ ns) x y = go (eqb (n .number) x) (place-mounted m ns x y)
   where
-    go : (b : Bool) → placeIn (mountAt m ns x) y ≡ placeIn ns y → placeIn (cond b (withMount m n ∷ ns) (n ∷ mountAt m ns x)) y ≡ placeIn (n ∷ ns) y
+    go : (b : Bool) → placeIn (nodesWithMount m ns x) y ≡ placeIn ns y → placeIn (cond b (withMount m n ∷ ns) (n ∷ nodesWithMount m ns x)) y ≡ placeIn (n ∷ ns) y
     go true ih = refl
     go false ih = rw ih
 
@@ -84,7 +85,7 @@ place-set : (t : Tree) (x : ℕ) (m : Option Mount) (y : ℕ) → placeIn (setMo
 unfolding setMount
 place-set t x m y = go (eqb x rootNumber)
   where
-    go : (b : Bool) → placeIn (cond {A = Tree} b (record { next = t .next; root = m; nodes = t .nodes }) (record { next = t .next; root = t .root; nodes = mountAt m (t .nodes) x }) .nodes) y ≡ placeIn (t .nodes) y
+    go : (b : Bool) → placeIn (cond {A = Tree} b (record { next = t .next; root = m; nodes = t .nodes }) (record { next = t .next; root = t .root; nodes = nodesWithMount m (t .nodes) x }) .nodes) y ≡ placeIn (t .nodes) y
     go true = refl
     go false = place-mounted m (t .nodes) x y
 

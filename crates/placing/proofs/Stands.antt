@@ -1,35 +1,25 @@
 -- What placing a mount and taking it off mean by the rules, and that they keep the layout rule. Assumes nothing.
-use mathlib.Core.Path.{_≡_, refl, sym, ap, _∙_}
+use mathlib.Core.Path.{_≡_, refl, ap, _∙_}
 use mathlib.Core.Bool.{Bool, true, false, cond, not, _&&_}
 use mathlib.Core.List.{List}
 use mathlib.Core.Option.{Option, none, some}
 use Prim.Native.Nat.{ℕ, _^_, _<_}
-use native.Mathlib.Nat.{zero-add}
 use native.Mathlib.Omega.{arith}
 use lib.Dec.{eqb}
 use Rattle.rules.specs.Numbers.{rootNumber}
 use Rattle.rules.specs.Tree.{Mount}
-use Rattle.rules.specs.Instance.{Tree, Instance, emptySlot, heldBy, slotOf, tagInSlot, tagOf, mountOf, setMount, withSlot, withTree, cut}
-use Rattle.rules.specs.Mount.{Request, mountOn, freedSlots, freed, placed}
+use Rattle.rules.specs.Instance.{Tree, Instance, emptySlot, heldBy, mountOfNode, setMount, withSlot, withTree, cut}
+use Rattle.rules.specs.Mount.{Request, requestedMount, freedSlots, freed, placed}
 use Rattle.rules.specs.Unmount.{taken}
 use Rattle.tables.specs.Layout.{removalField}
-use Rattle.tables.specs.View.{flag, headOf, slotAt, slotsOf, nodesOf, view}
-use Rattle.tables.specs.Rule.{laid}
+use Rattle.tables.specs.View.{flag, headOf, nodesOf, view}
+use Rattle.tables.specs.Laid.{laid}
 use Rattle.tables.specs.Write.{MountFits}
 use Rattle.tables.specs.Answer.{nodeMountMem, removeMem}
-use Rattle.tables.proofs.Tab.{tab-at}
 use Rattle.tables.proofs.Refine.{view-slot}
-use Rattle.tables.proofs.Places.{view-mount, view-gone}
+use Rattle.tables.proofs.RowOf.{view-mount, view-gone}
 use Rattle.tables.proofs.Keeps.{laid-long, laid-is, keeps-slot, keeps-mount, keeps-gone}
 use Rattle.placing.specs.Place.{freedMem, placeMem, outMem, takeOffMem, InSlots}
-
--- slot k of the view is slot k of the memory
-pub slot-of : (mem : List ℕ) (k : ℕ) → k < 256 → slotOf (view mem) k ≡ slotAt mem k
-unfolding view slotsOf
-slot-of mem k h = tab-at (slotAt mem) 0 256 k emptySlot h ∙ ap (slotAt mem) (zero-add k)
-
-pub tag-of-is : (mem : List ℕ) (k : ℕ) (t : Option ℕ) → k < 256 → t ≡ tagInSlot (slotAt mem k) → t ≡ tagOf (view mem) k
-tag-of-is mem k t h e = e ∙ ap tagInSlot (sym (slot-of mem k h))
 
 module _ (mem : List ℕ) (e : laid mem ≡ true) where
   pub view-freed : (m : Option Mount) → InSlots m → view (freedMem m mem) ≡ freed m (view mem)
@@ -37,38 +27,38 @@ module _ (mem : List ℕ) (e : laid mem ≡ true) where
   view-freed none h = refl
   view-freed (some m) h = view-slot (m .index) h false 0 mem (omega arith) (laid-long mem e)
 
-  pub keeps-freed : (m : Option Mount) → InSlots m → laid (freedMem m mem) ≡ true
+  pub keeps-freed : (m : Option Mount) → laid (freedMem m mem) ≡ true
   unfolding freedMem
-  keeps-freed none h = e
-  keeps-freed (some m) h = keeps-slot mem e (m .index) false 0 h (omega arith)
+  keeps-freed none = e
+  keeps-freed (some m) = keeps-slot mem e (m .index) false 0
 
   -- a mount that is placed
-  module _ (k : ℕ) (r : Request) (x : ℕ) (f : MountFits (mountOn k r)) (t : r .tag < 2 ^ 32) (h : InSlots (mountOf (view mem .tree) x)) where
+  module _ (k : ℕ) (r : Request) (x : ℕ) (f : MountFits (requestedMount k r)) (t : r .tag < 2 ^ 32) (h : InSlots (mountOfNode (view mem .tree) x)) where
     abbrev old : Option Mount
-    old = mountOf (view mem .tree) x
+    old = mountOfNode (view mem .tree) x
 
     abbrev m₁ : List ℕ
     m₁ = freedMem old mem
 
     abbrev m₂ : List ℕ
-    m₂ = nodeMountMem (nodesOf m₁) (some (mountOn k r)) x m₁
+    m₂ = nodeMountMem (nodesOf m₁) (some (requestedMount k r)) x m₁
 
     keeps₁ : laid m₁ ≡ true
-    keeps₁ = keeps-freed old h
+    keeps₁ = keeps-freed old
 
     keeps₂ : laid m₂ ≡ true
-    keeps₂ = keeps-mount m₁ keeps₁ (some (mountOn k r)) x
+    keeps₂ = keeps-mount m₁ keeps₁ (some (requestedMount k r)) x
 
-    pub view-placed : view (placeMem (mountOn k r) (r .tag) x mem) ≡ placed k r x (view mem)
+    pub view-placed : view (placeMem (requestedMount k r) (r .tag) x mem) ≡ placed k r x (view mem)
     unfolding placeMem placed
     view-placed =
         view-slot k (omega (arith, f .few)) true (r .tag) m₂ t (laid-long m₂ keeps₂)
         ∙ ap (withSlot k (heldBy (r .tag)))
-        (view-mount m₁ (laid-is m₁ keeps₁) x (some (mountOn k r)) f ∙ ap (λ (i : Instance). withTree (setMount (i .tree) x (some (mountOn k r))) i) (view-freed old h))
+        (view-mount m₁ (laid-is m₁ keeps₁) x (some (requestedMount k r)) f ∙ ap (λ (i : Instance). withTree (setMount (i .tree) x (some (requestedMount k r))) i) (view-freed old h))
 
-    pub keeps-placed : laid (placeMem (mountOn k r) (r .tag) x mem) ≡ true
+    pub keeps-placed : laid (placeMem (requestedMount k r) (r .tag) x mem) ≡ true
     unfolding placeMem
-    keeps-placed = keeps-slot m₂ keeps₂ k true (r .tag) (omega (arith, f .few)) t
+    keeps-placed = keeps-slot m₂ keeps₂ k true (r .tag)
 
 -- ---- taken off
 
@@ -113,4 +103,4 @@ module _ (x : ℕ) (m : Mount) (mem : List ℕ) (e : laid mem ≡ true) (h : m .
 
   pub keeps-taken-off : laid (takeOffMem m x mem) ≡ true
   unfolding takeOffMem
-  keeps-taken-off = keeps-slot (outMem x c₁) (keeps-out x c₁ cleared) (m .index) false 0 h (omega arith)
+  keeps-taken-off = keeps-slot (outMem x c₁) (keeps-out x c₁ cleared) (m .index) false 0

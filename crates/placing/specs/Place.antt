@@ -7,7 +7,7 @@ use mathlib.Core.Path.{_≡_}
 use lib.Dec.{eqb}
 use Rattle.rules.specs.Numbers.{rootNumber}
 use Rattle.rules.specs.Tree.{Mount}
-use Rattle.rules.specs.Instance.{mountOf, tagOf}
+use Rattle.rules.specs.Instance.{mountOfNode, tagOf}
 use Rattle.rules.specs.Mount.{tagAt, freed}
 use Rattle.tables.specs.Layout.{removalField}
 use Rattle.tables.specs.View.{flag, headOf, nodesOf, view}
@@ -25,7 +25,7 @@ freedMem (some m) mem = setSlot (m .index) false 0 mem
 -- then the node has the mount, and the slot of its index the tag (R76)
 unfoldable pub placeMem : Mount → ℕ → ℕ → List ℕ → List ℕ
 placeMem m tag x mem =
-    let f = freedMem (mountOf (view mem .tree) x) mem in
+    let f = freedMem (mountOfNode (view mem .tree) x) mem in
     setSlot (m .index) true tag (nodeMountMem (nodesOf f) (some m) x f)
 
 -- with removal set, the node is taken out of the table unless it is the root (R100)
@@ -51,10 +51,10 @@ pub record Frees (mem : List ℕ) (old : MountOn) (r : Tag) (after : List ℕ) :
 
 -- the tag found on the node, the tag in the new slot once the old one is freed, and the bytes (R78, R93); the old mount's index was one of the 256
 pub record Places (mem : List ℕ) (m : Mount) (t x : ℕ) (r : Tags) (after : List ℕ) : Type 0 where
-  pub replaced : tagIn (r .replaced) ≡ tagAt (mountOf (view mem .tree) x) (view mem)
-  pub displaced : tagIn (r .displaced) ≡ tagOf (freed (mountOf (view mem .tree) x) (view mem)) (m .index)
+  pub replaced : tagIn (r .replaced) ≡ tagAt (mountOfNode (view mem .tree) x) (view mem)
+  pub displaced : tagIn (r .displaced) ≡ tagOf (freed (mountOfNode (view mem .tree) x) (view mem)) (m .index)
   pub bytes : after ≡ placeMem m t x mem
-  pub within : InSlots (mountOf (view mem .tree) x)
+  pub within : InSlots (mountOfNode (view mem .tree) x)
 
 -- the tag released, and the bytes (R97)
 pub record TakesOff (mem : List ℕ) (m : Mount) (x : ℕ) (r : Tag) (after : List ℕ) : Type 0 where

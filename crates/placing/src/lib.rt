@@ -3,7 +3,7 @@
 ghost use mathlib.Core.Path.{_≡_};
 ghost use mathlib.Core.Bool.{true};
 ghost use Prim.Native.Nat.{_<_, _^_};
-ghost use Rattle.tables.specs.Rule.{laid};
+ghost use Rattle.tables.specs.Laid.{laid};
 ghost use Rattle.tables.specs.Answer.{mountOfPoint, RowOf};
 ghost use Rattle.placing.specs.Place.{outMem, Frees, Places, TakesOff};
 use tables::mounts::MountOn;
@@ -36,7 +36,7 @@ fn free_old(s: &mut [u8], old: MountOn) -> Tag
 // A mount on a node loses its index before the new one is set; answers the tag found there, and the tag then still in the new slot (R76, R78, R93).
 pub fn place(s: &mut [u8], x: u64, m: MountPoint, tag: u32) -> Tags
     requires { ⌜ laid (now s) ≡ true ⌝ }
-    requires { ⌜ m .ino < 2 ^ 56 ⌝ }
+    requires { ⌜ m .root < 2 ^ 56 ⌝ }
     ensures { λ r. ⌜ Places (now (s .entry)) (mountOfPoint m) tag x r (now (s .exit)) ⌝ }
 {
     let here = tables::mounts::with_parent(s, x);

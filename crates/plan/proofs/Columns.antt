@@ -14,7 +14,7 @@ use borrow.Author.Tests.{eq-eqb, ne-eqb}
 use Rattle.le.specs.Mem.{read}
 use Rattle.rules.specs.Bytes.{same}
 use Rattle.rules.specs.Numbers.{rootNumber}
-use Rattle.rules.specs.Tree.{Node, bare, isChild, childIn, nodeIn, aboveOf, parentIn}
+use Rattle.rules.specs.Tree.{Node, bare, isChild, childIn, nodeIn, parentOf, parentIn}
 use Rattle.rules.proofs.Same.{same-length}
 use Rattle.rules.proofs.Fields.{read-slice, read-all}
 use Rattle.rules.proofs.Walk.{node-append, node-second}
@@ -25,12 +25,12 @@ use Rattle.tables.specs.Layout.{capacityOf, nextOf}
 use Rattle.tables.specs.View.{nodeAt, nodesOf}
 use Rattle.tables.specs.Answer.{placeIn}
 use Rattle.tables.proofs.Tab.{length-tab, tab-next, tab-done, tab-append}
-use Rattle.tables.proofs.Places.{place-nowhere, node-found}
-use Rattle.plan.specs.Plan.{Columns, columns, noted, plannedAt, plannedFrom}
+use Rattle.tables.proofs.RowOf.{place-nowhere, node-found}
+use Rattle.plan.specs.Plan.{PlanColumns, columns, noted, plannedAt, plannedFrom}
 
 -- ---- whether planned node j is the child of a name
 
-module _ (path : List ℕ) (t : Columns) (j here : ℕ) (p : List ℕ) where
+module _ (path : List ℕ) (t : PlanColumns) (j here : ℕ) (p : List ℕ) where
   pub is-else : (getD (t .parents) j 0 ≡ here → ⊥) → false ≡ isChild here p (plannedAt path 0 t j)
   unfolding isChild plannedAt
   is-else h = rw (ne-eqb (getD (t .parents) j 0) here h)
@@ -52,11 +52,11 @@ module _ (path : List ℕ) (t : Columns) (j here : ℕ) (p : List ℕ) where
 
 -- ---- the search: what is left to find is what was to find
 
-abbrev pub Seeks : List ℕ → ℕ → Columns → ℕ → ℕ → List ℕ → ℕ → Type 0
+abbrev pub Seeks : List ℕ → ℕ → PlanColumns → ℕ → ℕ → List ℕ → ℕ → Type 0
 Seeks path next t count here p j =
     (j ≤ count) × (childIn (plannedFrom path next t 0 count) here p ≡ childIn (plannedFrom path next t j (count - j)) here p)
 
-module _ (path : List ℕ) (next : ℕ) (t : Columns) (count here : ℕ) (p : List ℕ) where
+module _ (path : List ℕ) (next : ℕ) (t : PlanColumns) (count here : ℕ) (p : List ℕ) where
   pub seek-begins : Seeks path next t count here p 0
   seek-begins = (omega arith, rw sub-zero)
 
@@ -76,7 +76,7 @@ module _ (path : List ℕ) (next : ℕ) (t : Columns) (count here : ℕ) (p : Li
 
 -- ---- the planned node of a number
 
-module _ (path : List ℕ) (next : ℕ) (t : Columns) (x : ℕ) where
+module _ (path : List ℕ) (next : ℕ) (t : PlanColumns) (x : ℕ) where
   at-before : (j k : ℕ) → x < next + j → nodeIn (tab (plannedAt path next t) j k) x ≡ none
   unfolding nodeIn tab plannedAt
   at-before j zero h = refl
@@ -99,52 +99,52 @@ module _ (path : List ℕ) (next : ℕ) (t : Columns) (x : ℕ) where
 
 -- ---- the parent of a node, live or planned
 
-module _ (mem path : List ℕ) (t : Columns) (count x : ℕ) (d : x ≡ rootNumber → ⊥) where
+module _ (mem path : List ℕ) (t : PlanColumns) (count x : ℕ) (d : x ≡ rootNumber → ⊥) where
   abbrev all : List Node
   all = nodesOf mem ++ plannedFrom path (nextOf mem) t 0 count
 
-  pub up-live : (i : ℕ) → placeIn (nodesOf mem) x ≡ some i → nodeAt (capacityOf mem) mem i .above ≡ parentIn all x
+  pub up-live : (i : ℕ) → placeIn (nodesOf mem) x ≡ some i → nodeAt (capacityOf mem) mem i .parent ≡ parentIn all x
   unfolding parentIn
   up-live i e =
       rw (ne-eqb x 1 d, node-append (nodesOf mem) (plannedFrom path (nextOf mem) t 0 count) x (nodeAt (capacityOf mem) mem i) (node-found mem x i e))
 
   module _ (e : placeIn (nodesOf mem) x ≡ none) where
     -- among the planned nodes alone
-    up-second : parentIn all x ≡ aboveOf (nodeIn (plannedFrom path (nextOf mem) t 0 count) x)
+    up-second : parentIn all x ≡ parentOf (nodeIn (plannedFrom path (nextOf mem) t 0 count) x)
     unfolding parentIn
     up-second = rw (ne-eqb x 1 d, node-second (nodesOf mem) (plannedFrom path (nextOf mem) t 0 count) x (place-nowhere (nodesOf mem) x e .node))
 
     pub up-before : x < nextOf mem → rootNumber ≡ parentIn all x
     unfolding plannedFrom
-    up-before h = sym (up-second ∙ ap aboveOf (at-before path (nextOf mem) t x 0 count (omega arith)))
+    up-before h = sym (up-second ∙ ap parentOf (at-before path (nextOf mem) t x 0 count (omega arith)))
 
     pub up-planned : (y : ℕ) → y ≡ nextOf mem → y ≤ x → x - y < count → getD (t .parents) (x - y) 0 ≡ parentIn all x
     unfolding plannedFrom plannedAt
-    up-planned y q h l = rw q (sym (up-second ∙ ap aboveOf (at-planned path (nextOf mem) t x 0 count (omega arith) (omega arith))))
+    up-planned y q h l = rw q (sym (up-second ∙ ap parentOf (at-planned path (nextOf mem) t x 0 count (omega arith) (omega arith))))
 
     pub up-behind : nextOf mem ≤ x → count ≤ x - nextOf mem → rootNumber ≡ parentIn all x
     unfolding plannedFrom
-    up-behind h l = sym (up-second ∙ ap aboveOf (at-behind path (nextOf mem) t x 0 count (omega arith)))
+    up-behind h l = sym (up-second ∙ ap parentOf (at-behind path (nextOf mem) t x 0 count (omega arith)))
 
 -- ---- one node more
 
-pub planned-length : (path : List ℕ) (next : ℕ) (t : Columns) (count : ℕ) → length (plannedFrom path next t 0 count) ≡ count
+pub planned-length : (path : List ℕ) (next : ℕ) (t : PlanColumns) (count : ℕ) → length (plannedFrom path next t 0 count) ≡ count
 unfolding plannedFrom
 planned-length path next t count = length-tab (plannedAt path next t) 0 count
 
-module _ (path : List ℕ) (next : ℕ) (parents starts lens : List ℕ) (c above start len : ℕ) where
-  abbrev stored : Columns
-  stored = noted (columns parents starts lens) c above start len
+module _ (path : List ℕ) (next : ℕ) (parents starts lens : List ℕ) (c parent start len : ℕ) where
+  abbrev stored : PlanColumns
+  stored = noted (columns parents starts lens) c parent start len
 
   stored-below : (j : ℕ) → j < c → plannedAt path next stored j ≡ plannedAt path next (columns parents starts lens) j
   unfolding plannedAt
   stored-below j h =
       let d : j ≡ c → ⊥ = λ e. omega arith in
-      rw (getD-set-other parents c j above 0 d, getD-set-other starts c j start 0 d, getD-set-other lens c j len 0 d)
+      rw (getD-set-other parents c j parent 0 d, getD-set-other starts c j start 0 d, getD-set-other lens c j len 0 d)
 
   pub planned-stored : c < length parents → c < length starts → c < length lens
-      → plannedFrom path next stored 0 (c + 1) ≡ plannedFrom path next (columns parents starts lens) 0 c ++ (bare (next + c) above (part path start len) ∷ [])
+      → plannedFrom path next stored 0 (c + 1) ≡ plannedFrom path next (columns parents starts lens) 0 c ++ (bare (next + c) parent (part path start len) ∷ [])
   unfolding plannedFrom plannedAt
   planned-stored h k m =
       tab-append (plannedAt path next (columns parents starts lens)) (plannedAt path next stored) c (λ j q. stored-below j q)
-      ∙ rw (getD-set-same parents c above 0 h, getD-set-same starts c start 0 k, getD-set-same lens c len 0 m)
+      ∙ rw (getD-set-same parents c parent 0 h, getD-set-same starts c start 0 k, getD-set-same lens c len 0 m)

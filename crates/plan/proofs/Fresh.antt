@@ -7,10 +7,10 @@ use Prim.Native.Nat.{ℕ, suc, _+_, _^_, _≤_, _<_}
 use native.Mathlib.Nat.{add-zero}
 use native.Mathlib.Omega.{arith}
 use lib.ListN.{length, length-append}
-use Rattle.rules.specs.Path.{Part, name, parent, components, tooLong}
-use Rattle.rules.specs.Tree.{Node, Made, bare, childIn, orMake, step, makes, atRoot}
+use Rattle.rules.specs.Path.{Part, Normal, ParentDir, components, tooLong}
+use Rattle.rules.specs.Tree.{Node, Made, bare, childIn, orMake, mountStep, makes, atRoot}
 use Rattle.rules.specs.Mount.{planned}
-use Rattle.rules.specs.Names.{EachName}
+use Rattle.rules.specs.claims.Names.{EachName}
 use Rattle.rules.proofs.Parts.{Short, rest-names, names-short}
 use Rattle.tables.specs.Layout.{nextOf}
 use Rattle.tables.specs.View.{nodesOf, view}
@@ -22,7 +22,7 @@ use Rattle.plan.proofs.Nodes.{makes-grows}
 
 unfoldable pub Fresh : ℕ → List Node → Type 0
 Fresh x [] = Unit {0}
-Fresh x (n ∷ ns) = (n ≡ bare x (n .above) (n .called)) × (n .above < 2 ^ 56) × (length (n .called) ≤ 255) × Fresh (x + 1) ns
+Fresh x (n ∷ ns) = (n ≡ bare x (n .parent) (n .name)) × (n .parent < 2 ^ 56) × (length (n .name) ≤ 255) × Fresh (x + 1) ns
 
 fresh-low : (x : ℕ) (ns : List Node) → Fresh x ns → x + length ns ≤ 2 ^ 56 → LowNodes ns
 unfolding Fresh
@@ -31,12 +31,12 @@ fresh-low x (n ∷ ns) f h =
     let e : n .number ≡ x = ap (λ (m : Node). m .number) (f .0) in
     (omega arith, f .1, fresh-low (x + 1) ns (f .3) (omega arith))
 
-fresh-more : (x : ℕ) (ns : List Node) (above : ℕ) (p : List ℕ) → Fresh x ns → above < 2 ^ 56 → length p ≤ 255 → Fresh x (ns ++ (bare (x + length ns) above p ∷ []))
+fresh-more : (x : ℕ) (ns : List Node) (parent : ℕ) (p : List ℕ) → Fresh x ns → parent < 2 ^ 56 → length p ≤ 255 → Fresh x (ns ++ (bare (x + length ns) parent p ∷ []))
 unfolding Fresh
-fresh-more x [] above p f a l = (rw add-zero, a, l, tt)
-fresh-more x (n ∷ ns) above p f a l =
+fresh-more x [] parent p f a l = (rw add-zero, a, l, tt)
+fresh-more x (n ∷ ns) parent p f a l =
     let e : x + 1 + length ns ≡ x + suc (length ns) = omega arith in
-    (f .0, f .1, f .2, subst (λ (k : ℕ). Fresh (x + 1) (ns ++ (bare k above p ∷ []))) e (fresh-more (x + 1) ns above p (f .3) a l))
+    (f .0, f .1, f .2, subst (λ (k : ℕ). Fresh (x + 1) (ns ++ (bare k parent p ∷ []))) e (fresh-more (x + 1) ns parent p (f .3) a l))
 
 -- ---- the walk
 
@@ -52,10 +52,10 @@ module _ (live : List Node) (next : ℕ) (low : LowNodes live) where
   all-low : (m : Made) → Makes next m → next + length (m .nodes) ≤ 2 ^ 56 → LowNodes (live ++ m .nodes)
   all-low m g h = low-append live (m .nodes) low (fresh-low next (m .nodes) (g .fresh) h)
 
-  step-fresh : (m : Made) (p : Part) (ps : List Part) → EachName Short (p ∷ ps) → Makes next m → next + length (m .nodes) ≤ 2 ^ 56 → next + length (step live next m p .nodes) ≤ 2 ^ 56 → Makes next (step live next m p)
-  unfolding step EachName
-  step-fresh m (parent at) ps s g b h = record { fresh = g .fresh; here = parent-low (live ++ m .nodes) (all-low m g b) (m .here) }
-  step-fresh m (name at p) ps s g b h = go (childIn (live ++ m .nodes) (m .here) p) refl h
+  step-fresh : (m : Made) (p : Part) (ps : List Part) → EachName Short (p ∷ ps) → Makes next m → next + length (m .nodes) ≤ 2 ^ 56 → next + length (mountStep live next m p .nodes) ≤ 2 ^ 56 → Makes next (mountStep live next m p)
+  unfolding mountStep EachName
+  step-fresh m (ParentDir at) ps s g b h = record { fresh = g .fresh; here = parent-low (live ++ m .nodes) (all-low m g b) (m .here) }
+  step-fresh m (Normal at p) ps s g b h = go (childIn (live ++ m .nodes) (m .here) p) refl h
     where
       go : (o : Option ℕ) → childIn (live ++ m .nodes) (m .here) p ≡ o → next + length (orMake next m p o .nodes) ≤ 2 ^ 56 → Makes next (orMake next m p o)
       go (some x) e k = record { fresh = g .fresh; here = child-low (live ++ m .nodes) (all-low m g b) (m .here) p x e }
@@ -70,8 +70,8 @@ module _ (live : List Node) (next : ℕ) (low : LowNodes live) where
   makes-fresh m [] s g h = g
   makes-fresh m (p ∷ ps) s g h =
       let a = makes-grows live next m (p ∷ []) in
-      let b = makes-grows live next (step live next m p) ps in
-      makes-fresh (step live next m p) ps (rest-names Short p ps s) (step-fresh m p ps s g (omega arith) (omega arith)) h
+      let b = makes-grows live next (mountStep live next m p) ps in
+      makes-fresh (mountStep live next m p) ps (rest-names Short p ps s) (step-fresh m p ps s g (omega arith) (omega arith)) h
 
 -- the theorem: of a path that is not too long, where the numbers are within their limit
 pub planned-fresh : (mem path : List ℕ) → tooLong path ≡ false → nextOf mem + length (planned (view mem .tree) path .nodes) ≤ 2 ^ 56 → Fresh (nextOf mem) (planned (view mem .tree) path .nodes)

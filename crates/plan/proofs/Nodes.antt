@@ -6,8 +6,8 @@ use mathlib.Core.Option.{Option, none, some, Option·none-ne-some, Option·some-
 use Prim.Native.Nat.{ℕ, _≤_}
 use native.Mathlib.Omega.{arith}
 use lib.ListN.{length, length-append}
-use Rattle.rules.specs.Path.{Part, name, parent}
-use Rattle.rules.specs.Tree.{Node, Made, isChild, childIn, orMake, step, makes}
+use Rattle.rules.specs.Path.{Part, Normal, ParentDir}
+use Rattle.rules.specs.Tree.{Node, Made, isChild, childIn, orMake, mountStep, makes}
 
 -- ---- the first that is found
 
@@ -32,10 +32,10 @@ module _ (here : ℕ) (p : List ℕ) where
 
 -- ---- a mount walk only adds nodes
 
-step-grows : (live : List Node) (next : ℕ) (m : Made) (p : Part) → length (m .nodes) ≤ length (step live next m p .nodes)
-unfolding step
-step-grows live next m (parent at) = omega arith
-step-grows live next m (name at p) = go (childIn (live ++ m .nodes) (m .here) p)
+step-grows : (live : List Node) (next : ℕ) (m : Made) (p : Part) → length (m .nodes) ≤ length (mountStep live next m p .nodes)
+unfolding mountStep
+step-grows live next m (ParentDir at) = omega arith
+step-grows live next m (Normal at p) = go (childIn (live ++ m .nodes) (m .here) p)
   where
     go : (o : Option ℕ) → length (m .nodes) ≤ length (orMake next m p o .nodes)
     go (some x) = omega arith
@@ -44,4 +44,4 @@ step-grows live next m (name at p) = go (childIn (live ++ m .nodes) (m .here) p)
 pub makes-grows : (live : List Node) (next : ℕ) (m : Made) (ps : List Part) → length (m .nodes) ≤ length (makes live next m ps .nodes)
 unfolding makes
 makes-grows live next m [] = omega arith
-makes-grows live next m (p ∷ ps) = omega (arith, step-grows live next m p, makes-grows live next (step live next m p) ps)
+makes-grows live next m (p ∷ ps) = omega (arith, step-grows live next m p, makes-grows live next (mountStep live next m p) ps)

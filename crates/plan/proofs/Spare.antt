@@ -17,8 +17,8 @@ use Rattle.rules.proofs.Tests.{le-or-lt, or-neither}
 use Rattle.tables.specs.Table.{row}
 use Rattle.tables.specs.Layout.{capacityOf, countOf, nextOf}
 use Rattle.tables.specs.View.{nodesOf, view}
-use Rattle.tables.specs.Rule.{Bounds}
-use Rattle.tables.proofs.Places.{view-nodes, nodes-count}
+use Rattle.tables.specs.Laid.{Bounds}
+use Rattle.tables.proofs.RowOf.{view-nodes, nodes-count}
 use Rattle.plan.specs.Plan.{roomOf, fitting}
 
 -- ---- the instance's numbers

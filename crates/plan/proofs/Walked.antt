@@ -1,24 +1,23 @@
 -- What a caller of the two steps knows: what each answer of the plan says, and what its application leaves. Assumes nothing.
 use mathlib.Core.Path.{_≡_, refl, sym, ap, _∙_, subst}
 use mathlib.Core.Bool.{Bool, true, false, cond, not}
-use mathlib.Core.List.{List, [], _∷_, append-nil}
+use mathlib.Core.List.{List, []}
 use mathlib.Core.Option.{Option, none, some, Option·none-ne-some, Option·some-ne-none}
 use Prim.Native.Nat.{ℕ, _+_, _^_, _≤_, _<_}
 use native.Mathlib.Omega.{arith}
 use lib.ListN.{length}
 use lib.Dec.{leb}
 use borrow.Author.Tests.{le-leb}
-use Rattle.rules.specs.Numbers.{rootNumber}
-use Rattle.rules.specs.Path.{Part, name, parent, components, tooLong}
-use Rattle.rules.specs.Tree.{Node, Made, childIn, parentIn, onward, walk, orMake, step, makes}
+use Rattle.rules.specs.Path.{tooLong}
+use Rattle.rules.specs.Tree.{Made}
 use Rattle.rules.specs.Instance.{Tree}
 use Rattle.rules.specs.Mount.{planned, needed, noRoom, ended, walkedTo}
 use Rattle.tables.specs.Layout.{capacityOf, countOf, nextOf}
 use Rattle.tables.specs.View.{view}
-use Rattle.tables.specs.Rule.{laid, Bounds}
+use Rattle.tables.specs.Laid.{laid, Bounds}
 use Rattle.plan.specs.declared.Planned.{Planned}
 use Rattle.plan.specs.declared.Planned.the-variants.{Fits, NoRoom}
-use Rattle.plan.specs.Plan.{Columns, plannedFrom, Within, roomOf, told, fitting, Plans}
+use Rattle.plan.specs.Plan.{PlanColumns, plannedFrom, Within, roomOf, planTold, fitting, Plans}
 use Rattle.plan.specs.Apply.{appendAll}
 use Rattle.plan.proofs.Columns.{planned-length}
 use Rattle.plan.proofs.Spare.{view-next, view-count, view-capacity, no-room, room-left}
@@ -28,7 +27,7 @@ use Rattle.plan.proofs.Grows.{Grown, grows}
 -- ---- the answers
 
 -- the plan that fits: row 4 does not refuse, the nodes are the rules' nodes, and the application's conditions hold
-pub record Fitted (mem path : List ℕ) (t : Columns) (node count : ℕ) : Type 0 where
+pub record Fitted (mem path : List ℕ) (t : PlanColumns) (node count : ℕ) : Type 0 where
   pub room : noRoom (view mem) path ≡ false
   pub ends : node ≡ ended (view mem) path
   pub nodes : plannedFrom path (nextOf mem) t 0 count ≡ planned (view mem .tree) path .nodes
@@ -36,9 +35,9 @@ pub record Fitted (mem path : List ℕ) (t : Columns) (node count : ℕ) : Type 
   pub numbers : nextOf mem + count ≤ 2 ^ 56
   pub named : Within path t count
 
-module _ (mem path : List ℕ) (t : Columns) where
+module _ (mem path : List ℕ) (t : PlanColumns) where
   says-fits : (node count : ℕ) → Plans mem path t (Fits node count) → Fitted mem path t node count
-  unfolding told fitting
+  unfolding planTold fitting
   says-fits node count p = go (noRoom (view mem) path) refl (p .answer)
     where
       go : (b : Bool) → noRoom (view mem) path ≡ b → _≡_ {A = Option Made} (some (record { nodes = plannedFrom path (nextOf mem) t 0 count; here = node })) (cond b none (some (planned (view mem .tree) path)))
@@ -58,7 +57,7 @@ module _ (mem path : List ℕ) (t : Columns) where
           }
 
   says-none : Plans mem path t NoRoom → noRoom (view mem) path ≡ true
-  unfolding told fitting
+  unfolding planTold fitting
   says-none p = go (noRoom (view mem) path) (p .answer)
     where
       go : (b : Bool) → none ≡ cond b none (some (planned (view mem .tree) path)) → b ≡ true
@@ -73,8 +72,8 @@ module _ (mem path : List ℕ) (t : Columns) where
   refused p e = says-none (subst (Plans mem path t) e p)
 
 -- whatever the columns are, two answers that tell the same are the same
-pub told-injective : (path : List ℕ) (next : ℕ) (t u : Columns) (a b : Planned) → told path next t a ≡ told path next u b → a ≡ b
-unfolding told
+pub told-injective : (path : List ℕ) (next : ℕ) (t u : PlanColumns) (a b : Planned) → planTold path next t a ≡ planTold path next u b → a ≡ b
+unfolding planTold
 told-injective path next t u (Fits x j) (Fits y k) e =
     let same : _≡_ {A = Made} (record { nodes = plannedFrom path next t 0 j; here = x }) (record { nodes = plannedFrom path next u 0 k; here = y }) = cc in
     let size : j ≡ k = sym (planned-length path next t j) ∙ ap (λ (m : Made). length (m .nodes)) same ∙ planned-length path next u k in
@@ -86,24 +85,7 @@ told-injective path next t u NoRoom NoRoom e = refl
 
 -- ---- the walk finds the whole path
 
-module _ (live : List Node) (next : ℕ) where
-  makes-none : (here x : ℕ) (ps : List Part) → walk live here ps ≡ some x → makes live next (record { nodes = []; here = here }) ps ≡ record { nodes = []; here = x }
-  unfolding walk makes step
-  makes-none here x [] e = let f : here ≡ x = cc in rw f
-  makes-none here x (parent at ∷ ps) e = rw append-nil (makes-none (parentIn live here) x ps e)
-  makes-none here x (name at p ∷ ps) e = rw append-nil (go (childIn live here p) (λ (y : ℕ). makes-none y x ps) e)
-    where
-      go : (o : Option ℕ) → ((y : ℕ) → walk live y ps ≡ some x → makes live next (record { nodes = []; here = y }) ps ≡ record { nodes = []; here = x }) → onward o (λ (y : ℕ). walk live y ps) ≡ some x
-          → makes live next (orMake next (record { nodes = []; here = here }) p o) ps ≡ record { nodes = []; here = x }
-      go none ih f = absurd (Option·none-ne-some _ f)
-      go (some y) ih f = ih y f
-
--- then the mount walk makes nothing, and ends at the same node (R48)
-pub planned-none : (t : Tree) (path : List ℕ) (x : ℕ) → walk (t .nodes) rootNumber (components 0 path) ≡ some x → planned t path ≡ record { nodes = []; here = x }
-unfolding planned
-planned-none t path x e = makes-none (t .nodes) (t .next) rootNumber x (components 0 path) e
-
--- and there is room for it (R67)
+-- a mount walk that makes nothing has room (R67)
 pub room-none : (mem path : List ℕ) (x : ℕ) → Bounds mem → planned (view mem .tree) path ≡ record { nodes = []; here = x } → noRoom (view mem) path ≡ false
 unfolding needed
 room-none mem path x d e =
@@ -111,7 +93,7 @@ room-none mem path x d e =
 
 -- ---- other bytes with the same tree and N
 
-pub fitted-over : (mem after path : List ℕ) (t : Columns) (node count : ℕ) → view after .tree ≡ view mem .tree → view after .fixed .capacity ≡ view mem .fixed .capacity
+pub fitted-over : (mem after path : List ℕ) (t : PlanColumns) (node count : ℕ) → view after .tree ≡ view mem .tree → view after .fixed .capacity ≡ view mem .fixed .capacity
     → Fitted mem path t node count → Fitted after path t node count
 unfolding noRoom
 fitted-over mem after path t node count e c f =

@@ -13,7 +13,7 @@ ghost use Rattle.rules.specs.Path.{tooLong};
 ghost use Rattle.rules.specs.Tree.{isChild, childIn, parentIn};
 ghost use Rattle.tables.specs.Layout.{capacityOf, countOf, nextOf};
 ghost use Rattle.tables.specs.View.{nodesOf};
-ghost use Rattle.tables.specs.Rule.{Bounds};
+ghost use Rattle.tables.specs.Laid.{Bounds};
 ghost use Rattle.tables.specs.Answer.{foundIn};
 ghost use Rattle.plan.specs.Plan.{columns, plannedAt, plannedFrom, Notes, Sized, Within, roomOf, Plans};
 ghost use Rattle.plan.specs.Apply.{appendAll};
@@ -162,15 +162,15 @@ fn note(
     starts: &mut [u16; rules::MAX_NODES],
     lens: &mut [u8; rules::MAX_NODES],
     count: usize,
-    above: u64,
+    parent: u64,
     start: usize,
     len: usize,
 ) -> u64
     requires { ⌜ Bounds (now s) ⌝ }
     requires { ⌜ (count < 1024) × (start < 65536) × (len < 256) ⌝ }
-    ensures { λ r. ⌜ Notes (now (s .entry)) (columns (now (parents .entry)) (now (starts .entry)) (now (lens .entry))) count above start len r (columns (now (parents .exit)) (now (starts .exit)) (now (lens .exit))) ⌝ }
+    ensures { λ r. ⌜ Notes (now (s .entry)) (columns (now (parents .entry)) (now (starts .entry)) (now (lens .entry))) count parent start len r (columns (now (parents .exit)) (now (starts .exit)) (now (lens .exit))) ⌝ }
 {
-    parents[count] = above;
+    parents[count] = parent;
     starts[count] = start as u16;
     lens[count] = len as u8;
     tables::header::next(s) + count as u64
@@ -196,11 +196,11 @@ pub fn plan_mount(
     loop {
         match path::components::next_component(path, at) {
             Component::End => return Planned::Fits { node, count },
-            Component::Parent { next, .. } => {
+            Component::ParentDir { next, .. } => {
                 node = up(s, parents, count, node);
                 at = next;
             }
-            Component::Name { start, len, next } => {
+            Component::Normal { start, len, next } => {
                 let name = &path[start..next];
                 if let Found::Node(x) = find(s, path, parents, starts, lens, count, node, name) {
                     node = x;

@@ -13,13 +13,13 @@ use Rattle.rules.specs.Path.{rooted}
 use Rattle.rules.specs.Ids.{Mapping, badMapping, wrapped}
 use Rattle.rules.specs.Instance.{Instance}
 use Rattle.rules.specs.Outcome.{walked, refused, says, firstOf}
-use Rattle.rules.specs.Unmount.{badPath, reached, walkRule}
+use Rattle.rules.specs.Reached.{badPath, reached, walkRule}
 use Rattle.rules.specs.Lookup.{entryOf}
 use Rattle.rules.proofs.Ids.{wrapped-is-whole}
 use Rattle.tables.specs.Layout.{mappingField}
 use Rattle.tables.specs.View.{mappingFrom, headOf, view}
-use Rattle.tables.specs.Rule.{laid}
-use Rattle.tables.specs.Call.{Told, toldBy, tells, toldSmall, answeredBy}
+use Rattle.tables.specs.Laid.{laid}
+use Rattle.call_form.specs.Form.{Told, toldBy, tells, toldSmall, answeredBy}
 use Rattle.tables.proofs.Keeps.{laid-ruled}
 use Rattle.storage.proofs.Laid.{told-by}
 use Rattle.inode.specs.declared.VfsInode.{VfsInode}

@@ -6,7 +6,7 @@ use Rattle.rules.specs.Numbers.{DONE, INVAL}
 use Rattle.rules.specs.Utf8.{wellFormed}
 use Rattle.rules.specs.Path.{rooted}
 use Rattle.rules.specs.Outcome.{_⟹_, firstOf}
-use Rattle.rules.specs.Unmount.{badPath}
+use Rattle.rules.specs.Reached.{badPath}
 use Rattle.pseudo_fs.specs.declared.PathFault.the-variants.{Utf8, Slash, Sound}
 use Rattle.pseudo_fs.specs.Told.{faultOf, faultCode, EveryFault}
 

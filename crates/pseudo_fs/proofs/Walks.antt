@@ -6,10 +6,10 @@ use Prim.Native.Nat.{ℕ, _-_}
 use native.Mathlib.Omega.{arith}
 use lib.ListN.{drop}
 use Rattle.rules.specs.Numbers.{rootNumber}
-use Rattle.rules.specs.Path.{Part, name, parent, components}
+use Rattle.rules.specs.Path.{Part, Normal, ParentDir, components}
 use Rattle.rules.specs.Tree.{Node, childIn, parentIn, walk}
-use Rattle.rules.specs.Unmount.{reached}
-use Rattle.path.specs.Steps.{part, between, Goes}
+use Rattle.rules.specs.Reached.{reached}
+use Rattle.path.specs.Steps.{part, between, StepsOver}
 use Rattle.tables.specs.View.{nodesOf, view}
 use Rattle.tables.specs.Answer.{foundIn}
 use Rattle.tables.specs.declared.rows.Found.{Found}
@@ -22,15 +22,15 @@ Going mem path node at = walk (nodesOf mem) node (components at (drop at path)) 
 -- ---- one component
 
 module _ (nodes : List Node) (node : ℕ) {ps qs : List Part} where
-  up-walk : (at : ℕ) → qs ≡ parent at ∷ ps → walk nodes node qs ≡ walk nodes (parentIn nodes node) ps
+  up-walk : (at : ℕ) → qs ≡ ParentDir at ∷ ps → walk nodes node qs ≡ walk nodes (parentIn nodes node) ps
   unfolding walk
   up-walk at e = rw e
 
-  to-walk : (at : ℕ) (p : List ℕ) (x : ℕ) → qs ≡ name at p ∷ ps → childIn nodes node p ≡ some x → walk nodes node qs ≡ walk nodes x ps
+  to-walk : (at : ℕ) (p : List ℕ) (x : ℕ) → qs ≡ Normal at p ∷ ps → childIn nodes node p ≡ some x → walk nodes node qs ≡ walk nodes x ps
   unfolding walk
   to-walk at p x e f = rw (e, f)
 
-  no-walk : (at : ℕ) (p : List ℕ) → qs ≡ name at p ∷ ps → childIn nodes node p ≡ none → walk nodes node qs ≡ none
+  no-walk : (at : ℕ) (p : List ℕ) → qs ≡ Normal at p ∷ ps → childIn nodes node p ≡ none → walk nodes node qs ≡ none
   unfolding walk
   no-walk at p e f = rw (e, f)
 
@@ -45,10 +45,10 @@ module _ (mem path : List ℕ) (node at : ℕ) (g : Going mem path node at) wher
   unfolding walk foundIn
   arrives e = rw e at g
 
-  pub goes-up : (x start n next : ℕ) → Goes path at (parent start) start n next → x ≡ parentIn (nodesOf mem) node → Going mem path x next
+  pub goes-up : (x start n next : ℕ) → StepsOver path at (ParentDir start) start n next → x ≡ parentIn (nodesOf mem) node → Going mem path x next
   goes-up x start n next s e = rw e (sym (up-walk (nodesOf mem) node start (s .parts)) ∙ g)
 
-  module _ (start n next : ℕ) (s : Goes path at (name start (part path start n)) start n next) where
+  module _ (start n next : ℕ) (s : StepsOver path at (Normal start (part path start n)) start n next) where
     -- the name, from its start to its end
     named : (o : Option ℕ) → childIn (nodesOf mem) node (between path start next) ≡ o → childIn (nodesOf mem) node (part path start n) ≡ o
     named o f = let e : next - start ≡ n = omega (arith, s .end) in rw e at f

@@ -8,10 +8,10 @@ use Rattle.rules.specs.Numbers.{dirMode, blockSize, orZero, convert, DONE, INVA
 use Rattle.rules.specs.Utf8.{wellFormed}
 use Rattle.rules.specs.Path.{rooted}
 use Rattle.rules.specs.Ids.{wrapped}
-use Rattle.rules.specs.Unmount.{badPath}
+use Rattle.rules.specs.Reached.{badPath}
 use Rattle.rules.specs.Instance.{Instance}
 use Rattle.rules.specs.Outcome.{Answer, walked, entry, _⟹_, firstOf}
-use Rattle.tables.specs.Call.{Told, tells, refuses, toldSmall}
+use Rattle.call_form.specs.Form.{Told, tells, refuses, toldSmall}
 use Rattle.pseudo_fs.specs.declared.PathFault.{PathFault}
 use Rattle.pseudo_fs.specs.declared.PathFault.the-variants.{Utf8, Slash, Sound}
 use Rattle.pseudo_fs.specs.declared.PathWalk.{PathWalk}

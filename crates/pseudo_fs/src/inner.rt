@@ -18,9 +18,9 @@ use tables::rows::parent_of;
 use utf8::is_plain;
 use utf8::is_utf8;
 ghost use mathlib.Core.Path.{_≡_};
-ghost use Rattle.rules.specs.Unmount.{reached};
+ghost use Rattle.rules.specs.Reached.{reached};
 ghost use Rattle.tables.specs.View.{nodesOf, view};
-ghost use Rattle.tables.specs.Rule.{Bounds};
+ghost use Rattle.tables.specs.Laid.{Bounds};
 ghost use Rattle.tables.specs.Answer.{foundIn};
 ghost use Rattle.pseudo_fs.specs.Finds.{childFinding, Finds};
 ghost use Rattle.pseudo_fs.specs.Told.{entryAnswer, pseudoAnswer};
@@ -43,11 +43,11 @@ pub fn walk(s: &[u8], path: &[u8]) -> Found
     'outer: loop {
         match next_component(path, at) {
             Component::End => return Found::Node(node),
-            Component::Parent { next, .. } => {
+            Component::ParentDir { next, .. } => {
                 node = parent_of(s, node);
                 at = next;
             }
-            Component::Name { start, next, .. } => {
+            Component::Normal { start, next, .. } => {
                 let key = key_of(&path[start..next]);
                 let mut i = 0;
                 loop {

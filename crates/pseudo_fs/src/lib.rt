@@ -8,8 +8,8 @@ use tables::rows::Found;
 use utf8::is_utf8;
 ghost use mathlib.Core.Path.{_≡_};
 ghost use Rattle.rules.specs.Instance.{Instance};
-ghost use Rattle.rules.specs.Unmount.{walkRule};
-ghost use Rattle.tables.specs.Call.{answeredBy};
+ghost use Rattle.rules.specs.Reached.{walkRule};
+ghost use Rattle.call_form.specs.Form.{answeredBy};
 ghost use Rattle.pseudo_fs.specs.Told.{faultOf, pathWalkTold};
 
 pub mod inner;

@@ -12,7 +12,7 @@ use Rattle.le.specs.Mem.{read, bytesOf, get, write, Bytes}
 use Rattle.le.proofs.Lens.{get-one, get-split, take-read, write-append}
 use Rattle.tables.specs.Layout.{lastAt, firstAt}
 use Rattle.tables.specs.View.{nodeAt}
-use Rattle.tables.proofs.Cells.{called-at}
+use Rattle.tables.proofs.Cells.{name-at}
 use Rattle.row_name.specs.Copied.{Copied, EveryNameShort}
 
 -- the first w of k bytes, which are all of them where w is larger
@@ -31,13 +31,13 @@ take-bytes (suc l) j v = rw suc-add (ap (λ (bs : List ℕ). v % 256 ∷ bs) (ta
 
 module _ (n : ℕ) (mem : List ℕ) (i : ℕ) where
   abbrev name : List ℕ
-  name = nodeAt n mem i .called
+  name = nodeAt n mem i .name
 
   abbrev byte : ℕ
   byte = get 1 mem (lastAt n i)
 
   by-byte : name ≡ read mem (firstAt n i) (min (byte - 7) 248) ++ read mem (lastAt n i + 1) (min (min byte 7) 7)
-  by-byte = called-at n mem i ∙ rw (get-one mem (lastAt n i), take-least mem (firstAt n i) 248 (byte - 7), take-least mem (lastAt n i + 1) 7 (min byte 7))
+  by-byte = name-at n mem i ∙ rw (get-one mem (lastAt n i), take-least mem (firstAt n i) 248 (byte - 7), take-least mem (lastAt n i + 1) 7 (min byte 7))
 
   size : length name ≡ min (byte - 7) 248 + min byte 7
   size =

@@ -14,4 +14,4 @@ pub record Copied (name d : List ℕ) (to n : ℕ) (e : List ℕ) : Type 0 where
 
 -- no row has a longer name, whatever the bytes are (R10, R42)
 abbrev pub EveryNameShort : Type 0
-EveryNameShort = (n : ℕ) (mem : List ℕ) (i : ℕ) → length (nodeAt n mem i .called) ≤ maxName
+EveryNameShort = (n : ℕ) (mem : List ℕ) (i : ℕ) → length (nodeAt n mem i .name) ≤ maxName

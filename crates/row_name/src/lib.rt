@@ -5,17 +5,17 @@ ghost use lib.ListN.{length};
 ghost use Rattle.le.specs.Mem.{get};
 ghost use Rattle.tables.specs.Layout.{capacityOf, countOf, lastAt, firstAt};
 ghost use Rattle.tables.specs.View.{nodeAt};
-ghost use Rattle.tables.specs.Rule.{Bounds};
+ghost use Rattle.tables.specs.Laid.{Bounds};
 ghost use Rattle.row_name.specs.Copied.{Copied};
 
 // How many bytes the name of row i has (R10).
 pub fn name_len(s: &[u8], i: usize) -> usize
     requires { ⌜ Bounds (now s) ⌝ }
     requires { ⌜ i < countOf (now s) ⌝ }
-    ensures { λ r. ⌜ r ≡ length (nodeAt (capacityOf (now (s .entry))) (now (s .entry)) i .called) ⌝ }
+    ensures { λ r. ⌜ r ≡ length (nodeAt (capacityOf (now (s .entry))) (now (s .entry)) i .name) ⌝ }
 {
     let n = tables::header::capacity(s);
-    le::fields::get_u8(s, tables::rows::TABLE + 24 * n + 8 * i) as usize
+    le::fields::get_u8(s, tables::places::last_at(n, i)) as usize
 }
 
 // The cell of the name of row i as one number: the lowest byte is its length, and those above are its last seven bytes (R10).
@@ -25,7 +25,7 @@ pub fn name_cell(s: &[u8], i: usize) -> u64
     ensures { λ r. ⌜ r ≡ get 8 (now (s .entry)) (lastAt (capacityOf (now (s .entry))) i) ⌝ }
 {
     let n = tables::header::capacity(s);
-    le::fields::get_u64(s, tables::rows::TABLE + 24 * n + 8 * i)
+    le::fields::get_u64(s, tables::places::last_at(n, i))
 }
 
 // Where the bytes before the last seven of the name of row i stand (R10).
@@ -35,19 +35,19 @@ pub fn first_at(s: &[u8], i: usize) -> usize
     ensures { λ r. ⌜ r ≡ firstAt (capacityOf (now (s .entry))) i ⌝ }
 {
     let n = tables::header::capacity(s);
-    tables::rows::TABLE + 44 * n + 248 * i
+    tables::places::first_at(n, i)
 }
 
 // Copies the name of row i into the lent bytes at a place: its length. Its last seven bytes stand apart from those before them (R120).
 pub fn copy_name(s: &[u8], i: usize, out: &mut [u8], to: usize) -> usize
     requires { ⌜ Bounds (now s) ⌝ }
     requires { ⌜ i < countOf (now s) ⌝ }
-    requires { ⌜ to + length (nodeAt (capacityOf (now s)) (now s) i .called) ≤ length (now out) ⌝ }
-    ensures { λ r. ⌜ Copied (nodeAt (capacityOf (now (s .entry))) (now (s .entry)) i .called) (now (out .entry)) to r (now (out .exit)) ⌝ }
+    requires { ⌜ to + length (nodeAt (capacityOf (now s)) (now s) i .name) ≤ length (now out) ⌝ }
+    ensures { λ r. ⌜ Copied (nodeAt (capacityOf (now (s .entry))) (now (s .entry)) i .name) (now (out .entry)) to r (now (out .exit)) ⌝ }
 {
     let len = name_len(s, i);
     let n = tables::header::capacity(s);
-    let at = tables::rows::TABLE + 24 * n + 8 * i;
+    let at = tables::places::last_at(n, i);
     if len <= 7 {
         le::runs::copy_run(out, to, s, at + 1, len);
         return len;

@@ -8,14 +8,14 @@ use native.Mathlib.Omega.{arith}
 use lib.Dec.{eqb}
 use borrow.Author.Tests.{ne-eqb}
 use Rattle.rules.specs.Numbers.{rootNumber}
-use Rattle.rules.specs.Tree.{Mount, Node, nodeIn, withMount, mountAt, without}
+use Rattle.rules.specs.Tree.{Mount, Node, nodeIn, withMount, nodesWithMount, without}
 use Rattle.rules.specs.Instance.{Tree, Instance, setMount, grown}
 use Rattle.rules.specs.Outcome.{Outcome}
-use Rattle.rules.specs.Mount.{Request, planned, mountOn, placed, allocation, mountAs, restoreAs}
+use Rattle.rules.specs.Mount.{Request, planned, requestedMount, placed, allocation, mountByIndex, restoreMountByIndex}
 use Rattle.rules.specs.Unmount.{taken, unmounts}
 use Rattle.rules.specs.Calls.{Call, rule}
-use Rattle.rules.specs.Trace.{NoRestore, Unrestored, afterAll}
-use Rattle.rules.specs.Stays.{NeverAgain}
+use Rattle.rules.specs.claims.Trace.{NoStateRestore, WithoutStateRestore, afterAll}
+use Rattle.rules.specs.claims.Stays.{NeverAgain}
 use Rattle.rules.proofs.Rows.{each-of, either}
 use Rattle.rules.proofs.Walk.{node-second, planned-all}
 use Rattle.rules.proofs.Ways.{every-call}
@@ -27,13 +27,13 @@ record Spent (x : ℕ) (t : Tree) : Type 0 where
 
 -- ---- lists of nodes
 
-none-mounted : (m : Option Mount) (ns : List Node) (y x : ℕ) → nodeIn ns x ≡ none → nodeIn (mountAt m ns y) x ≡ none
-unfolding nodeIn mountAt
+none-mounted : (m : Option Mount) (ns : List Node) (y x : ℕ) → nodeIn ns x ≡ none → nodeIn (nodesWithMount m ns y) x ≡ none
+unfolding nodeIn nodesWithMount
 none-mounted m [] y x e = e
 none-mounted m (n ∷ ns) y x e = go (eqb (n .number) y) (eqb (n .number) x) refl e (none-mounted m ns y x)
   where
-    go : (a b : Bool) → eqb (n .number) x ≡ b → cond b (some n) (nodeIn ns x) ≡ none → (nodeIn ns x ≡ none → nodeIn (mountAt m ns y) x ≡ none)
-        → nodeIn (cond a (withMount m n ∷ ns) (n ∷ mountAt m ns y)) x ≡ none
+    go : (a b : Bool) → eqb (n .number) x ≡ b → cond b (some n) (nodeIn ns x) ≡ none → (nodeIn ns x ≡ none → nodeIn (nodesWithMount m ns y) x ≡ none)
+        → nodeIn (cond a (withMount m n ∷ ns) (n ∷ nodesWithMount m ns y)) x ≡ none
     go a true q f on = absurd (Option·none-ne-some n (sym f))
     go true false q f on = rw q f
     go false false q f on = rw q (on f)
@@ -77,38 +77,38 @@ module _ (x : ℕ) where
 
   placed-spent : (k : ℕ) (r : Request) (y : ℕ) (i : Instance) → Spent x (i .tree) → Spent x (placed k r y i .tree)
   unfolding placed
-  placed-spent k r y i s = set-spent (i .tree) y (some (mountOn k r)) s
+  placed-spent k r y i s = set-spent (i .tree) y (some (requestedMount k r)) s
 
-  mount-as : (i : Instance) (r : Request) (k : Option ℕ) → Spent x (i .tree) → LeavesSpent (mountAs i r k)
-  unfolding mountAs
+  mount-as : (i : Instance) (r : Request) (k : Option ℕ) → Spent x (i .tree) → LeavesSpent (mountByIndex i r k)
+  unfolding mountByIndex
   mount-as i r none s = s
   mount-as i r (some k) s =
       let w = grown-spent (i .tree) (r .path) s in
       each-of LeavesSpent _ _ (s, (w, placed-spent _ _ _ _ w))
 
-  restored-as : (i : Instance) (k : ℕ) (r : Request) → Spent x (i .tree) → LeavesSpent (restoreAs i k r)
-  unfolding restoreAs
+  restored-as : (i : Instance) (k : ℕ) (r : Request) → Spent x (i .tree) → LeavesSpent (restoreMountByIndex i k r)
+  unfolding restoreMountByIndex
   restored-as i k r s =
       let w = grown-spent (i .tree) (r .path) s in
-      each-of LeavesSpent _ _ (s, (search w, placed-spent _ _ _ _ w))
+      each-of LeavesSpent _ _ (search w, placed-spent _ _ _ _ w)
 
   unmounted : (i : Instance) (y : ℕ) (m : Mount) → Spent x (i .tree) → LeavesSpent (unmounts i y m)
   unfolding unmounts
   unmounted i y m s = taken-spent i y s
 
-  stays-spent : (i : Instance) (c : Call) → NoRestore c (rule i c) → Spent x (i .tree) → LeavesSpent (rule i c)
-  stays-spent = every-call (λ i c o. NoRestore c o → Spent x (i .tree) → LeavesSpent o) (record {
+  stays-spent : (i : Instance) (c : Call) → NoStateRestore c (rule i c) → Spent x (i .tree) → LeavesSpent (rule i c)
+  stays-spent = every-call (λ i c o. NoStateRestore c o → Spent x (i .tree) → LeavesSpent o) (record {
     still = λ i c o q t un s. subst (λ (j : Instance). Spent x (j .tree)) (sym (t .after)) s;
     early = λ i c code e un s. s;
     mounts = λ i r p un s. mount-as i r (allocation i .found) s;
-    restores-mount = λ i k r p un s. restored-as i k r s;
+    restores-mount = λ i k r p on un s. restored-as i k r s;
     unmounted = λ i path y m q e un s. unmounted i y m s;
     sets-removal = λ i un s. s;
     state-restored = λ i b ok un s. absurd (un b refl refl);
   })
 
-  all-spent : (cs : List Call) (i : Instance) → Unrestored i cs → Spent x (i .tree) → Spent x (afterAll i cs .tree)
-  unfolding Unrestored afterAll
+  all-spent : (cs : List Call) (i : Instance) → WithoutStateRestore i cs → Spent x (i .tree) → Spent x (afterAll i cs .tree)
+  unfolding WithoutStateRestore afterAll
   all-spent [] i u s = s
   all-spent (c ∷ cs) i u s = all-spent cs (rule i c .after) (u .1) (stays-spent i c (u .0) s)
 

@@ -11,7 +11,7 @@ use borrow.Author.Tests.{eq-eqb, ne-eqb, eqb-false, not-true}
 use Rattle.rules.specs.Round.{untilTwice, freeOf, allocate}
 use Rattle.rules.specs.Instance.{Instance, heldIn, counterOf}
 use Rattle.rules.specs.Mount.{allocation}
-use Rattle.rules.specs.Allocation.{FirstFree, EveryAllocation}
+use Rattle.rules.specs.claims.Allocation.{FirstFree, EveryAllocation}
 use Rattle.rules.proofs.Tests.{known, le-or-lt, and-both}
 use Rattle.rules.proofs.Round.{meets, finds-none, found-free, spent, FoundAt, found-at, at-found}
 

@@ -18,9 +18,9 @@ use Rattle.rules.specs.Outcome.{Outcome}
 use Rattle.rules.specs.Mount.{allocation}
 use Rattle.rules.specs.Create.{Creation, outside, unknown, badOptions, tooSmall, newInstance, createRule}
 use Rattle.rules.specs.Saved.{stateOf}
-use Rattle.rules.specs.Restore.{savedNodes, nodesFrom, noNodes, fresh, restoredTo}
+use Rattle.rules.specs.StateRestore.{savedNodes, nodesOfRecords, noNodes, fresh, stateRestoredTo}
 use Rattle.rules.specs.Calls.{Call, rule}
-use Rattle.rules.specs.Driven.{Typed, creation, call, Rises, Below, Named, Unique, Shape, IsAt, MountIn, Mounted, Facts, EveryDriven, EveryReached}
+use Rattle.rules.specs.claims.Driven.{Typed, creation, call, Rises, Below, Named, Unique, Shape, IsAt, MountIn, Mounted, Facts, EveryDriven, EveryReached}
 use Rattle.rules.proofs.Tests.{le-or-lt, and-both, or-neither}
 use Rattle.rules.proofs.Rows.{first-of}
 use Rattle.rules.proofs.Ids.{within}
@@ -55,31 +55,29 @@ pub none-held : (i : Instance) → Facts i → fresh i ≡ true → (k : ℕ) �
 unfolding MountIn
 none-held i f e k h =
     let b = fresh-bare i e in
-    let m : Mounted k (i .tree) = f .held k h in
+    let m : Mounted k (i .tree) = f .mounts .held k h in
     let n : IsAt k none ⊎ MountIn k [] = rw (b .0, b .1) at m in
     ⊎-elim (λ w. w) (λ w. w) n
 
 module _ (i : Instance) (b : List ℕ) (f : Facts i) (bytes : Bytes b) (ok : Restorable i b) where
-  state-facts : Facts (restoredTo (stateOf b) i)
-  unfolding restoredTo
+  state-facts : Facts (stateRestoredTo (stateOf b) i)
+  unfolding stateRestoredTo
   state-facts =
       let s = stateOf b in
       let v = valid-shape s (clauses b (ok .is-accepted) .1) in
       let w = fits b bytes (ok .is-accepted) in
-      let shape : Shape (savedNodes (nodesFrom (s .nodes))) (s .next) = rw (saved-from (s .nodes)) (v .2) in
-      let size : length (nodesFrom (s .nodes)) ≡ length (s .nodes) = sym (saved-length (nodesFrom (s .nodes))) ∙ ap length (saved-from (s .nodes)) in
+      let shape : Shape (savedNodes (nodesOfRecords (s .nodes))) (s .next) = rw (saved-from (s .nodes)) (v .2) in
+      let size : length (nodesOfRecords (s .nodes)) ≡ length (s .nodes) = sym (saved-length (nodesOfRecords (s .nodes))) ∙ ap length (saved-from (s .nodes)) in
       record {
-        shape = shape;
-        top = v .1;
-        room = omega (arith, size, ltb-false (i .fixed .capacity) (1 + length (s .nodes)) (ok .room));
-        capacity = f .capacity;
-        mask = f .mask;
-        mapping = f .mapping;
-        within = ok .options;
-        options = w .options;
-        slots = f .slots;
-        counter = w .counter;
-        held = λ k h. absurd (none-held i f (ok .is-fresh) k h);
+        tree = record { shape = shape; top = v .1; room = omega (arith, size, ltb-false (i .fixed .capacity) (1 + length (s .nodes)) (ok .room)) };
+        mounts = record { slots = f .mounts .slots; counter = w .counter; held = λ k h. absurd (none-held i f (ok .is-fresh) k h) };
+        settings = record {
+          capacity = f .settings .capacity;
+          mask = f .settings .mask;
+          mapping = f .settings .mapping;
+          within = ok .options;
+          options = w .options;
+        };
       }
 
 -- ---- every call, and creation
@@ -89,21 +87,9 @@ call-facts = every-call (λ (i : Instance) (c : Call) (o : Outcome). Typed c →
   still = λ i c o m s t f. subst Facts (sym (s .after)) f;
   early = λ i c code e t f. f;
   mounts = λ i r p t f. mount-as i r f p (allocation i .found);
-  restores-mount = λ i k r p t f. restored-as i r f p k;
+  restores-mount = λ i k r p on t f. restored-as i r f p on k;
   unmounted = λ i path x m q e t f. unmounted i x m e f;
-  sets-removal = λ i t f. record {
-    shape = f .shape;
-    top = f .top;
-    room = f .room;
-    capacity = f .capacity;
-    mask = f .mask;
-    mapping = f .mapping;
-    within = f .within;
-    options = f .options;
-    slots = f .slots;
-    counter = f .counter;
-    held = f .held;
-  };
+  sets-removal = λ i t f. record { tree = f .tree; mounts = f .mounts; settings = f .settings };
   state-restored = λ i b ok t f. state-facts i b f (t b refl) ok;
 })
 
@@ -130,24 +116,22 @@ module _ (bytes : ℕ) (q : Creation) (mask : q .known < 2 ^ 64) (size : tooSmal
       let e = or-neither (outside (q .known) (o .inOpts)) (outside (q .known) (o .outOpts)) (d .0) in
       let w = within (o .mapping) maps in
       record {
-        shape = record { rises = omega arith; below = tt; named = tt; unique = tt };
-        top = omega arith;
-        room = a .0;
-        capacity = a .1;
-        mask = mask;
-        mapping = maps;
-        within = d .0;
-        options = record {
-          inOpts = omega (arith, within-mask (q .known) (o .inOpts) (e .0));
-          outOpts = omega (arith, within-mask (q .known) (o .outOpts) (e .1));
-          internal = omega (arith, w .low);
-          external = omega (arith, w .high);
-          range = omega (arith, w .low);
-          flags = omega (arith, d .1);
+        tree = record { shape = record { rises = omega arith; below = tt; named = tt; unique = tt }; top = omega arith; room = a .0 };
+        mounts = record { slots = length-replicate 256 emptySlot; counter = omega arith; held = λ k h. absurd (true≢false (sym h ∙ new-not-held k)) };
+        settings = record {
+          capacity = a .1;
+          mask = mask;
+          mapping = maps;
+          within = d .0;
+          options = record {
+            inOpts = omega (arith, within-mask (q .known) (o .inOpts) (e .0));
+            outOpts = omega (arith, within-mask (q .known) (o .outOpts) (e .1));
+            internal = omega (arith, w .low);
+            external = omega (arith, w .high);
+            range = omega (arith, w .low);
+            flags = omega (arith, d .1);
+          };
         };
-        slots = length-replicate 256 emptySlot;
-        counter = omega arith;
-        held = λ k h. absurd (true≢false (sym h ∙ new-not-held k));
       }
 
 created-facts : (bytes : ℕ) (q : Creation) → q .known < 2 ^ 64 → createRule bytes q ≡ DONE → Facts (newInstance q)
@@ -165,4 +149,4 @@ facts i (call j k c t d e) = subst Facts e (call-facts j c t (facts j d))
 
 -- the theorem: a path leads to what live nodes lead up from
 pub reached-rooted : EveryReached
-reached-rooted i d path x e = path-rooted i (i .tree .next) (facts i d .shape .rises) path x e
+reached-rooted i d path x e = path-rooted i (i .tree .next) (facts i d .tree .shape .rises) path x e

@@ -13,17 +13,19 @@ use Rattle.rules.specs.Utf8.{wellFormed}
 use Rattle.rules.specs.Path.{slash, rooted, isDot, isDots}
 use Rattle.rules.specs.Ids.{badMapping}
 use Rattle.rules.specs.Tree.{Mount, isNone, parentIn, childIn}
-use Rattle.rules.specs.Instance.{Instance, heldIn, tagOf, mountOf, counterOf}
+use Rattle.rules.specs.Instance.{Instance, heldIn, tagOf, mountOfNode, counterOf}
 use Rattle.rules.specs.Round.{allocate}
 use Rattle.rules.specs.Outcome.{Outcome, _⟹_, firstOf, refused}
 use Rattle.rules.specs.Create.{Creation, outside, unknown, badOptions, tooSmall, createRule}
-use Rattle.rules.specs.Mount.{Request, noRoom, allocation, mountAs, mountRule, restoreAs, restoreMountRule}
-use Rattle.rules.specs.Unmount.{badPath, reached, mountUnder, walkRule, unmounts, unmountAt, unmountRule, rootHeld, rootAt, rootRule}
+use Rattle.rules.specs.Mount.{Request, noRoom, allocation, mountByIndex, mountRule, restoreMountByIndex, restoreMountRule}
+use Rattle.rules.specs.Reached.{badPath, reached, reachedMount, walkRule}
+use Rattle.rules.specs.Unmount.{unmounts, unmountAt, unmountRule}
+use Rattle.rules.specs.Rootfs.{rootHeld, rootAt, rootRule}
 use Rattle.rules.specs.Lookup.{routeTag, routeTree, routeRule, entryOf, entryAt, lookupBy, lookupRule, remapRule}
 use Rattle.rules.specs.Listing.{ListRequest, listRule}
-use Rattle.rules.specs.Restore.{saveRule, restoreRule}
-use Rattle.rules.specs.Calls.{Call, mount, restore-mount, umount, set-remove-pseudo-root, path-walk, get-rootfs, route, lookup, readdir, remap-attr-id, options, initialized, save, restore, rule}
-use Rattle.rules.specs.Exactly.{Test, _⟼_, heldTo, slotEmpty, mountTests, restoreMountTests, pathTests, tests, createTests, Exactly}
+use Rattle.rules.specs.StateRestore.{saveRule, restoreStateRule}
+use Rattle.rules.specs.Calls.{Query, path-walk, get-rootfs, route, lookup, readdir, remap-attr-id, options, initialized, save-to-bytes, asked, Call, mount, restore-mount, umount, set-remove-pseudo-root, restore-from-bytes, ask, rule}
+use Rattle.rules.specs.claims.Exactly.{Test, _⟼_, heldTo, slotEmpty, mountTests, restoreMountTests, pathTests, queryTests, tests, createTests, Exactly}
 use Rattle.rules.proofs.Allocation.{exact}
 use Rattle.rules.proofs.Rows.{Settles, decides, settled, passes, stops, settle, settle-last, settle-or}
 
@@ -63,8 +65,8 @@ found-or-held i h = go (allocate (heldIn i) (counterOf i) .found) refl
 -- ---- mounts
 
 mount-as : (i : Instance) (r : Request) (k : Option ℕ)
-    → Settles (mountAs i r k .code) ((isNone k ⟼ FULL) ∷ (not (rooted (r .path)) ⟼ INVAL) ∷ (ltb maxIno (r .root) ⟼ INODE) ∷ [])
-unfolding mountAs
+    → Settles (mountByIndex i r k .code) ((isNone k ⟼ FULL) ∷ (not (rooted (r .path)) ⟼ INVAL) ∷ (ltb maxIno (r .root) ⟼ INODE) ∷ [])
+unfolding mountByIndex
 mount-as i r none = stops _ _ _ refl
 mount-as i r (some k) = passes _ _ _ (settle codeOf _ _ _ _ _ _ refl (settle codeOf _ _ _ _ _ _ refl (end _ refl)))
 
@@ -74,10 +76,10 @@ mount-settles i r h =
     settle codeOf _ _ _ _ _ _ refl (settle codeOf _ _ _ _ _ _ refl (settle codeOf _ _ _ _ _ _ refl (settle codeOf _ _ _ _ _ _ refl (settle-last codeOf _ _ (rw (← found-or-held i h) (mount-as i r (allocation i .found)))))))
 
 restored-settles : (i : Instance) (k : ℕ) (r : Request) → Settles (restoreMountRule i k r .code) (restoreMountTests i k r)
-unfolding restoreMountRule restoreAs noRoom
+unfolding restoreMountRule restoreMountByIndex noRoom
 restored-settles i k r =
     settle codeOf _ _ _ _ _ _ refl (settle codeOf _ _ _ _ _ _ refl (settle codeOf _ _ _ _ _ _ refl (settle codeOf _ _ _ _ _ _ refl (settle codeOf _ _ _ _ _ _ refl
-    (settle-last codeOf _ _ (settle codeOf _ _ _ _ _ _ refl (settle codeOf _ _ _ _ _ _ refl (end _ refl))))))))
+    (settle codeOf _ _ _ _ _ _ refl (settle-last codeOf _ _ (settle codeOf _ _ _ _ _ _ refl (end _ refl))))))))
 
 -- ---- calls that take a path
 
@@ -126,7 +128,7 @@ route-tree i x (some m) = go (eqb x rootNumber) (tagOf i (m .index))
     go true (some t) = passes _ _ _ (passes _ _ _ (settled _ refl))
     go false t = passes _ _ _ (passes _ _ _ (settled _ refl))
 
-route-settles : (i : Instance) (x : ℕ) → Settles (routeRule i x .code) (tests i (route x))
+route-settles : (i : Instance) (x : ℕ) → Settles (routeRule i x .code) (queryTests i (route x))
 unfolding routeRule
 route-settles i x = go (eqb (indexOf x) 0)
   where
@@ -159,45 +161,49 @@ module _ (mounts : ℕ → Option Mount) (i : Instance) where
   found-by x y z false false true = stops _ _ _ refl
   found-by x y z false false false = entry-at z
 
-lookup-settles : (i : Instance) (x : ℕ) (p : List ℕ) → Settles (lookupRule i x p .code) (tests i (lookup x p))
+lookup-settles : (i : Instance) (x : ℕ) (p : List ℕ) → Settles (lookupRule i x p .code) (queryTests i (lookup x p))
 unfolding lookupRule lookupBy
 lookup-settles i x p =
     let nodes = i .tree .nodes in
     settle codeOf _ _ _ _ _ _ refl
     (settle-or _ (holds 0 p) (not (wellFormed p)) INVAL _
-    (settle codeOf (holds 0 p || not (wellFormed p)) _ _ _ _ _ refl (found-by (mountOf (i .tree)) i x (parentIn nodes x) (childIn nodes x p) (isDot p) (isDots p) (holds slash p))))
+    (settle codeOf (holds 0 p || not (wellFormed p)) _ _ _ _ _ refl (found-by (mountOfNode (i .tree)) i x (parentIn nodes x) (childIn nodes x p) (isDot p) (isDots p) (holds slash p))))
 
 -- ---- listing, save, restore
 
-list-settles : (i : Instance) (q : ListRequest) → Settles (listRule i q .code) (tests i (readdir q))
+list-settles : (i : Instance) (q : ListRequest) → Settles (listRule i q .code) (queryTests i (readdir q))
 unfolding listRule
 list-settles i q = settle codeOf _ _ _ _ _ _ refl (settle codeOf _ _ _ _ _ _ refl (end _ refl))
 
-save-settles : (i : Instance) (n : ℕ) → Settles (saveRule i n .code) (tests i (save n))
+save-settles : (i : Instance) (n : ℕ) → Settles (saveRule i n .code) (queryTests i (save-to-bytes n))
 unfolding saveRule
 save-settles i n = settle codeOf _ _ _ _ _ _ refl (end _ refl)
 
-restore-settles : (i : Instance) (b : List ℕ) → Settles (restoreRule i b .code) (tests i (restore b))
-unfolding restoreRule unknown
+restore-settles : (i : Instance) (b : List ℕ) → Settles (restoreStateRule i b .code) (tests i (restore-from-bytes b))
+unfolding restoreStateRule unknown
 restore-settles i b =
     settle codeOf _ _ _ _ _ _ refl (settle codeOf _ _ _ _ _ _ refl (settle codeOf _ _ _ _ _ _ refl (settle codeOf _ _ _ _ _ _ refl (end _ refl))))
 
+query-settles : (i : Instance) (q : Query) → Settles (asked i q .code) (queryTests i q)
+unfolding walkRule rootRule remapRule
+query-settles i (path-walk path) = on-path i path _ _ (settled _ refl)
+query-settles i (get-rootfs path) = on-path i path _ _ (root-at i (reachedMount i (reached i path)))
+query-settles i (route x) = route-settles i x
+query-settles i (lookup x p) = lookup-settles i x p
+query-settles i (readdir q) = list-settles i q
+query-settles i (remap-attr-id out uid gid) = settled _ refl
+query-settles i options = settled _ refl
+query-settles i initialized = settled _ refl
+query-settles i (save-to-bytes n) = save-settles i n
+
 settles : (i : Instance) → counterOf i < 256 → (c : Call) → Settles (rule i c .code) (tests i c)
-unfolding rule walkRule unmountRule rootRule remapRule
+unfolding rule unmountRule
 settles i h (mount r) = mount-settles i r h
 settles i h (restore-mount k r) = restored-settles i k r
-settles i h (umount path) = on-path i path _ _ (unmount-at i (reached i path) (mountUnder i (reached i path)))
+settles i h (umount path) = on-path i path _ _ (unmount-at i (reached i path) (reachedMount i (reached i path)))
 settles i h set-remove-pseudo-root = settled _ refl
-settles i h (path-walk path) = on-path i path _ _ (settled _ refl)
-settles i h (get-rootfs path) = on-path i path _ _ (root-at i (mountUnder i (reached i path)))
-settles i h (route x) = route-settles i x
-settles i h (lookup x p) = lookup-settles i x p
-settles i h (readdir q) = list-settles i q
-settles i h (remap-attr-id out uid gid) = settled _ refl
-settles i h options = settled _ refl
-settles i h initialized = settled _ refl
-settles i h (save n) = save-settles i n
-settles i h (restore b) = restore-settles i b
+settles i h (restore-from-bytes b) = restore-settles i b
+settles i h (ask q) = query-settles i q
 
 -- ---- creation
 

@@ -11,7 +11,7 @@ use lib.Arith.{mod-mul}
 use lib.Pow.{pow-add}
 use lib.Dec.{lit<}
 use Rattle.rules.specs.Bytes.{Bytes}
-use Rattle.rules.specs.Fields.{read, value, bytesOf, get, fields}
+use Rattle.rules.specs.Fields.{read, value, bytesOf, get, fields, rowLength, fieldPlace, fieldAt}
 
 -- ---- lengths
 
@@ -102,10 +102,6 @@ get-behind k v pre post at e f =
 
 -- ---- rows
 
-unfoldable pub total : List ℕ → ℕ
-total [] = 0
-total (w ∷ ws) = w + total ws
-
 -- as many values as widths, each within its width
 unfoldable pub Fit : List ℕ → List ℕ → Type 0
 Fit [] [] = Unit {0}
@@ -113,8 +109,8 @@ Fit [] (v ∷ vs) = ⊥
 Fit (w ∷ ws) [] = ⊥
 Fit (w ∷ ws) (v ∷ vs) = (v < 256 ^ w) × Fit ws vs
 
-pub fields-length : (ws vs : List ℕ) → length ws ≡ length vs → length (fields ws vs) ≡ total ws
-unfolding fields total
+pub fields-length : (ws vs : List ℕ) → length ws ≡ length vs → length (fields ws vs) ≡ rowLength ws
+unfolding fields
 fields-length [] vs e = refl
 fields-length (w ∷ ws) [] e = absurd (omega arith)
 fields-length (w ∷ ws) (v ∷ vs) e =
@@ -125,11 +121,24 @@ unfoldable pub fieldsAt : List ℕ → List ℕ → ℕ → List ℕ
 fieldsAt [] b at = []
 fieldsAt (w ∷ ws) b at = get w b at ∷ fieldsAt ws b (at + w)
 
+-- field k of it, at its own place
+field-place : (ws : List ℕ) (k at : ℕ) → fieldPlace ws k at ≡ at + rowLength (take k ws)
+field-place ws zero at = omega arith
+field-place ws (suc k) at = refl
+
+pub field-at : (ws b : List ℕ) (k at : ℕ) → k < length ws → fieldAt ws k b at ≡ getD (fieldsAt ws b at) k 0
+unfolding fieldsAt
+field-at [] b k at h = absurd (omega arith)
+field-at (w ∷ ws) b zero at h = refl
+field-at (w ∷ ws) b (suc k) at h =
+    let e : at + (w + rowLength (take k ws)) ≡ fieldPlace ws k (at + w) = omega (arith, field-place ws k (at + w)) in
+    ap (get (getD ws k 0) b) e ∙ field-at ws b k (at + w) (omega arith)
+
 -- read and written again
-pub fields-back : (ws b : List ℕ) (at : ℕ) → Bytes b → fields ws (fieldsAt ws b at) ≡ read b at (total ws)
-unfolding fields fieldsAt total read
+pub fields-back : (ws b : List ℕ) (at : ℕ) → Bytes b → fields ws (fieldsAt ws b at) ≡ read b at (rowLength ws)
+unfolding fields fieldsAt read
 fields-back [] b at h = refl
-fields-back (w ∷ ws) b at h = ap₂ (λ (x y : List ℕ). x ++ y) (bytes-back w b at h) (fields-back ws b (at + w) h) ∙ sym (read-add b at w (total ws))
+fields-back (w ∷ ws) b at h = ap₂ (λ (x y : List ℕ). x ++ y) (bytes-back w b at h) (fields-back ws b (at + w) h) ∙ sym (read-add b at w (rowLength ws))
 
 -- written and read again
 pub fields-read : (ws vs pre post : List ℕ) (at : ℕ) → length pre ≡ at → Fit ws vs → fieldsAt ws (pre ++ (fields ws vs ++ post)) at ≡ vs

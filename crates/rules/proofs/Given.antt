@@ -6,8 +6,8 @@ use mathlib.Core.List.{List, [], _∷_}
 use Prim.Native.Nat.{ℕ}
 use Rattle.rules.specs.Instance.{Slot, Instance, emptySlot, counterOf, slotOf, heldIn}
 use Rattle.rules.specs.Calls.{Call, rule}
-use Rattle.rules.specs.Trace.{afterAll}
-use Rattle.rules.specs.Kept.{Ungiven, Standing, same-slot, emptied, handed-out, by-restored}
+use Rattle.rules.specs.claims.Trace.{afterAll}
+use Rattle.rules.specs.claims.Kept.{Ungiven, Standing, same-slot, emptied, handed-out, by-restored}
 use Rattle.rules.proofs.Allocation.{not-held}
 use Rattle.rules.proofs.Trace.{searches}
 use Rattle.rules.proofs.Slots.{every-slot}

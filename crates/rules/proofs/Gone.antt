@@ -8,12 +8,13 @@ use native.Mathlib.Omega.{arith}
 use lib.ListN.{getD, set}
 use lib.Seq.{getD-set-other}
 use Rattle.rules.specs.Tree.{Mount}
-use Rattle.rules.specs.Instance.{Instance, emptySlot, heldBy, slotOf, mountOf}
+use Rattle.rules.specs.Instance.{Instance, emptySlot, heldBy, slotOf, mountOfNode}
 use Rattle.rules.specs.Outcome.{Outcome}
-use Rattle.rules.specs.Mount.{Request, freedSlots, placed, allocation, mountAs, mountRule, restoreAs, restoreMountRule}
-use Rattle.rules.specs.Unmount.{reached, mountUnder, unmounts, unmountAt, unmountRule}
-use Rattle.rules.specs.Calls.{Call, mount, restore-mount, umount, set-remove-pseudo-root, path-walk, get-rootfs, route, lookup, readdir, remap-attr-id, options, initialized, save, restore, rule}
-use Rattle.rules.specs.Kept.{oldMount, indexIn, Gives}
+use Rattle.rules.specs.Mount.{Request, freedSlots, placed, allocation, mountByIndex, mountRule, restoreMountByIndex, restoreMountRule}
+use Rattle.rules.specs.Reached.{reached, reachedMount}
+use Rattle.rules.specs.Unmount.{unmounts, unmountAt, unmountRule}
+use Rattle.rules.specs.Calls.{Call, mount, restore-mount, umount, set-remove-pseudo-root, restore-from-bytes, ask, rule}
+use Rattle.rules.specs.claims.Kept.{oldMount, indexIn, Gives}
 use Rattle.rules.proofs.Rows.{each-of}
 use Rattle.rules.proofs.Slots.{emptied-slot, freed-empty}
 
@@ -22,13 +23,13 @@ module _ (i : Instance) (j : ℕ) where
   abbrev Emptied : Call → Outcome → Type 0
   Emptied c o = o .code ≡ 0 → indexIn (oldMount i c) ≡ some j → (Gives j c o → ⊥) → slotOf (o .after) j ≡ emptySlot
 
-  placed-empty : (k : ℕ) (r : Request) (x : ℕ) (a : Instance) → indexIn (mountOf (a .tree) x) ≡ some j → (j ≡ k → ⊥) → slotOf (placed k r x a) j ≡ emptySlot
+  placed-empty : (k : ℕ) (r : Request) (x : ℕ) (a : Instance) → indexIn (mountOfNode (a .tree) x) ≡ some j → (j ≡ k → ⊥) → slotOf (placed k r x a) j ≡ emptySlot
   unfolding placed
   placed-empty k r x a e n =
-      getD-set-other (freedSlots (mountOf (a .tree) x) (a .indexes .slots)) k j (heldBy (r .tag)) emptySlot n ∙ freed-empty (mountOf (a .tree) x) (a .indexes .slots) j e
+      getD-set-other (freedSlots (mountOfNode (a .tree) x) (a .indexes .slots)) k j (heldBy (r .tag)) emptySlot n ∙ freed-empty (mountOfNode (a .tree) x) (a .indexes .slots) j e
 
-  mount-empties : (r : Request) (k : Option ℕ) → allocation i .found ≡ k → Emptied (mount r) (mountAs i r k)
-  unfolding mountAs
+  mount-empties : (r : Request) (k : Option ℕ) → allocation i .found ≡ k → Emptied (mount r) (mountByIndex i r k)
+  unfolding mountByIndex
   mount-empties r none f = λ z. absurd (omega arith)
   mount-empties r (some k) f =
       each-of (Emptied (mount r)) _ _ (
@@ -39,18 +40,13 @@ module _ (i : Instance) (j : ℕ) where
         ),
       )
 
-  restored-empties : (k : ℕ) (r : Request) → Emptied (restore-mount k r) (restoreAs i k r)
-  unfolding restoreAs
+  restored-empties : (k : ℕ) (r : Request) → Emptied (restore-mount k r) (restoreMountByIndex i k r)
+  unfolding restoreMountByIndex
   restored-empties k r =
-      each-of (Emptied (restore-mount k r)) _ _ (
-        λ z. absurd (omega arith),
-        (
-          λ z. absurd (omega arith),
-          λ z e g. placed-empty _ _ _ _ e (λ s. g (refl, inr (ap {B = Option ℕ} some (sym s)))),
-        ),
-      )
+      each-of (Emptied (restore-mount k r)) _ _
+      (λ z. absurd (omega arith), λ z e g. placed-empty _ _ _ _ e (λ s. g (refl, inr (ap {B = Option ℕ} some (sym s)))))
 
-  unmount-empties : (path : List ℕ) (x : Option ℕ) (m : Option Mount) → mountUnder i (reached i path) ≡ m → Emptied (umount path) (unmountAt i x m)
+  unmount-empties : (path : List ℕ) (x : Option ℕ) (m : Option Mount) → reachedMount i (reached i path) ≡ m → Emptied (umount path) (unmountAt i x m)
   unfolding unmountAt unmounts
   unmount-empties path none m q z e g = absurd (omega arith)
   unmount-empties path (some x) none q z e g = absurd (omega arith)
@@ -71,12 +67,12 @@ module _ (i : Instance) (j : ℕ) where
   restore-mount-rule k r =
       each-of (Emptied (restore-mount k r)) _ _ (
         λ z. absurd (omega arith),
-        (λ z. absurd (omega arith), (λ z. absurd (omega arith), (λ z. absurd (omega arith), (λ z. absurd (omega arith), restored-empties k r)))),
+        (λ z. absurd (omega arith), (λ z. absurd (omega arith), (λ z. absurd (omega arith), (λ z. absurd (omega arith), (λ z. absurd (omega arith), restored-empties k r))))),
       )
 
   unmount-rule : (path : List ℕ) → Emptied (umount path) (unmountRule i path)
   unfolding unmountRule
-  unmount-rule path = each-of (Emptied (umount path)) _ _ (λ z. absurd (omega arith), unmount-empties path (reached i path) (mountUnder i (reached i path)) refl)
+  unmount-rule path = each-of (Emptied (umount path)) _ _ (λ z. absurd (omega arith), unmount-empties path (reached i path) (reachedMount i (reached i path)) refl)
 
   -- any other call takes none off
   other : (c : Call) → oldMount i c ≡ none → Emptied c (rule i c)
@@ -88,13 +84,5 @@ module _ (i : Instance) (j : ℕ) where
   gone-slot (restore-mount k r) = restore-mount-rule k r
   gone-slot (umount path) = unmount-rule path
   gone-slot set-remove-pseudo-root = other set-remove-pseudo-root refl
-  gone-slot (path-walk path) = other (path-walk path) refl
-  gone-slot (get-rootfs path) = other (get-rootfs path) refl
-  gone-slot (route x) = other (route x) refl
-  gone-slot (lookup x p) = other (lookup x p) refl
-  gone-slot (readdir q) = other (readdir q) refl
-  gone-slot (remap-attr-id out uid gid) = other (remap-attr-id out uid gid) refl
-  gone-slot options = other options refl
-  gone-slot initialized = other initialized refl
-  gone-slot (save n) = other (save n) refl
-  gone-slot (restore b) = other (restore b) refl
+  gone-slot (restore-from-bytes b) = other (restore-from-bytes b) refl
+  gone-slot (ask q) = other (ask q) refl

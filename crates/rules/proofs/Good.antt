@@ -9,7 +9,7 @@ use lib.Dec.{eqb}
 use borrow.Author.Tests.{eqb-true, eq-eqb, not-true, leb-true, ltb-true, lt-ltb}
 use Rattle.rules.specs.Numbers.{rootNumber, topNumber}
 use Rattle.rules.specs.Saved.{SavedNode, State, lastNumber, present, used, goodName, goodNode, goodNodes, valid}
-use Rattle.rules.specs.Driven.{Rises, Below, Named, Unique, Shape}
+use Rattle.rules.specs.claims.Driven.{Rises, Below, Named, Unique, Shape}
 use Rattle.rules.proofs.Tests.{and-both, or-neither, pass, passed}
 use Rattle.rules.proofs.Shape.{Among, among-first, among-more, beside, beside-sym, rises-end}
 
@@ -17,9 +17,9 @@ use Rattle.rules.proofs.Shape.{Among, among-first, among-more, beside, 
 pub record Good (next : ℕ) (before : List SavedNode) (e : SavedNode) : Type 0 where
   pub rises : lastNumber before < e .number
   pub under : e .number < next
-  pub named : goodName (e .called) ≡ true
-  pub parent : present (e .above) before ≡ true
-  pub alone : used (e .above) (e .called) before ≡ false
+  pub named : goodName (e .name) ≡ true
+  pub parent : present (e .parent) before ≡ true
+  pub alone : used (e .parent) (e .name) before ≡ false
 
 pub good-is : (next : ℕ) (before : List SavedNode) (e : SavedNode) → goodNode next before e ≡ true → Good next before e
 unfolding goodNode
@@ -55,13 +55,13 @@ unfolding Falling present lastNumber
 falling-nil x p = (omega (arith, eqb-true x rootNumber p), omega (arith, eqb-true x rootNumber p))
 
 module _ (next : ℕ) where
-  unused-later : (d : SavedNode) (es before : List SavedNode) → Among d before → goodNodes next before es ≡ true → used (d .above) (d .called) es ≡ false
+  unused-later : (d : SavedNode) (es before : List SavedNode) → Among d before → goodNodes next before es ≡ true → used (d .parent) (d .name) es ≡ false
   unfolding used goodNodes Among
   unused-later d [] before a h = refl
   unused-later d (e ∷ es) before a h =
       let t = and-both (goodNode next before e) (goodNodes next (e ∷ before) es) h in
       let g = good-is next before e (t .0) in
-      rw (beside-sym e d ∙ a (e .above) (e .called) (g .alone)) (unused-later d es (e ∷ before) (among-more d e before a) (t .1))
+      rw (beside-sym e d ∙ a (e .parent) (e .name) (g .alone)) (unused-later d es (e ∷ before) (among-more d e before a) (t .1))
 
   record Rest (low : ℕ) (es : List SavedNode) : Type 0 where
     rises : Rises low es next
@@ -75,7 +75,7 @@ module _ (next : ℕ) where
   good-rest (e ∷ es) before f h l =
       let t = and-both (goodNode next before e) (goodNodes next (e ∷ before) es) h in
       let g = good-is next before e (t .0) in
-      let k = f (e .above) (g .parent) in
+      let k = f (e .parent) (g .parent) in
       let r = good-rest es (e ∷ before) (falling-more before e f (g .rises)) (t .1) (g .under) in
       record {
         rises = (omega (arith, g .rises), r .rises);
@@ -106,7 +106,7 @@ HasNumber x (e ∷ es) = (e .number ≡ x) ⊎ HasNumber x es
 
 unfoldable pub Parents : List SavedNode → List SavedNode → List SavedNode → Type 0
 Parents before left [] = Unit {0}
-Parents before left (e ∷ es) = ((present (e .above) before ≡ true) ⊎ HasNumber (e .above) left) × Parents before left es
+Parents before left (e ∷ es) = ((present (e .parent) before ≡ true) ⊎ HasNumber (e .parent) left) × Parents before left es
 
 in-above : (low high x : ℕ) (es : List SavedNode) → Rises low es high → HasNumber x es → low ≤ x
 unfolding HasNumber Rises
@@ -126,7 +126,7 @@ parents-on : (e : SavedNode) (before left es : List SavedNode) → Parents befor
 unfolding Parents HasNumber
 parents-on e before left [] p = tt
 parents-on e before left (d ∷ es) p = (
-  ⊎-elim (λ h. inl (present-more (d .above) e before h)) (λ (h : (e .number ≡ d .above) ⊎ HasNumber (d .above) left). ⊎-elim (λ q. inl (present-first (d .above) e before q)) (λ q. inr q) h) (p .0),
+  ⊎-elim (λ h. inl (present-more (d .parent) e before h)) (λ (h : (e .number ≡ d .parent) ⊎ HasNumber (d .parent) left). ⊎-elim (λ q. inl (present-first (d .parent) e before q)) (λ q. inr q) h) (p .0),
   parents-on e before left es (p .1),
 )
 
@@ -134,13 +134,13 @@ parents-on e before left (d ∷ es) p = (
 
 unfoldable Unused : List SavedNode → List SavedNode → Type 0
 Unused before [] = Unit {0}
-Unused before (e ∷ es) = (used (e .above) (e .called) before ≡ false) × Unused before es
+Unused before (e ∷ es) = (used (e .parent) (e .name) before ≡ false) × Unused before es
 
-unused-on : (e : SavedNode) (before es : List SavedNode) → Unused before es → used (e .above) (e .called) es ≡ false → Unused (e ∷ before) es
+unused-on : (e : SavedNode) (before es : List SavedNode) → Unused before es → used (e .parent) (e .name) es ≡ false → Unused (e ∷ before) es
 unfolding Unused used
 unused-on e before [] u h = tt
 unused-on e before (d ∷ es) u h =
-    let o = or-neither (beside d e) (used (e .above) (e .called) es) h in
+    let o = or-neither (beside d e) (used (e .parent) (e .name) es) h in
     (rw (beside-sym e d ∙ o .0) (u .0), unused-on e before es (u .1) (o .1))
 
 -- ---- so they are good
@@ -150,8 +150,8 @@ left-good : (next : ℕ) (es before : List SavedNode) → Rises (lastNumber befo
 unfolding goodNodes Rises Below Named Unique Unused Parents lastNumber
 left-good next [] before r b n u v p = refl
 left-good next (e ∷ es) before r b n u v p =
-    let here : present (e .above) before ≡ true =
-    ⊎-elim (λ h. h) (λ h. absurd (omega (arith, b .1, in-above (e .number) next (e .above) (e ∷ es) (omega arith, r .1) h))) (p .0) in
+    let here : present (e .parent) before ≡ true =
+    ⊎-elim (λ h. h) (λ h. absurd (omega (arith, b .1, in-above (e .number) next (e .parent) (e ∷ es) (omega arith, r .1) h))) (p .0) in
     let g : Good next before e = record {
       rises = omega (arith, r .0);
       under = omega (arith, rises-end (e .number + 1) next es (r .1));

@@ -6,7 +6,8 @@ use Prim.Native.Nat.{ℕ, _+_, _-_, _%_, _^_, _≤_, _<_}
 use native.Mathlib.Omega.{arith}
 use lib.Dec.{leb, ltb}
 use borrow.Author.Tests.{leb-true, ltb-true, ltb-false, le-leb, lt-leb, lt-ltb, le-ltb}
-use Rattle.rules.specs.Ids.{Mapping, turned, badMapping, inside, mapped, unmapped, wrapped, unwrapped, WrappedIsWhole, OutAndBack, WrappedBack}
+use Rattle.rules.specs.Ids.{Mapping, turned, badMapping, inside, mapped, unmapped, wrapped, unwrapped}
+use Rattle.rules.specs.claims.Ids.{WrappedIsWhole, OutAndBack, WrappedBack}
 use Rattle.rules.proofs.Tests.{le-or-lt, and-both, or-neither}
 
 -- within the mapping's limits

@@ -13,10 +13,10 @@ use Rattle.rules.specs.Instance.{Slot, Instance, counterOf, emptySlot, s
 use Rattle.rules.specs.Outcome.{refused, says, toBackend}
 use Rattle.rules.specs.Mount.{Request, allocation}
 use Rattle.rules.specs.Lookup.{routeTag, routeRule}
-use Rattle.rules.specs.Calls.{Call, mount, route, rule}
-use Rattle.rules.specs.Laps.{Step, Going, total, lastFound, Has}
-use Rattle.rules.specs.Trace.{Unrestored, afterAll, stepsOf}
-use Rattle.rules.specs.Kept.{named, namedIn, handedOut, Ungiven, LeadsTo, MountedAt, EveryNew, EveryStanding, EveryGone, EveryOwn, EveryKept, EveryJudged}
+use Rattle.rules.specs.Calls.{Call, mount, ask, route, rule}
+use Rattle.rules.specs.claims.Laps.{SearchStep, Going, total, lastFound, Has}
+use Rattle.rules.specs.claims.Trace.{WithoutStateRestore, afterAll, stepsOf}
+use Rattle.rules.specs.claims.Kept.{named, namedIn, handedOut, Ungiven, LeadsTo, MountedAt, EveryNew, EveryStanding, EveryGone, EveryOwn, EveryKept, EveryJudged}
 use Rattle.rules.proofs.Allocation.{found-bounds}
 use Rattle.rules.proofs.Laps.{last-of}
 use Rattle.rules.proofs.Turn.{mounts-allocate}
@@ -52,15 +52,15 @@ ungiven (c ∷ cs) i k h n = (
 -- ---- where a number leads
 
 -- by what stands in the slot of its index
-pub by-tag : (i : Instance) (x : ℕ) → 0 < indexOf x → rule i (route x) ≡ routeTag i (indexOf x) (numberOf x) (tagOf i (indexOf x))
+pub by-tag : (i : Instance) (x : ℕ) → 0 < indexOf x → rule i (ask (route x)) ≡ routeTag i (indexOf x) (numberOf x) (tagOf i (indexOf x))
 unfolding rule routeRule
 by-tag i x p = rw (ne-eqb (indexOf x) 0 (λ z. omega arith))
 
-pub leads-on : (i : Instance) (x t : ℕ) → 0 < indexOf x → tagOf i (indexOf x) ≡ some t → rule i (route x) ≡ says (toBackend t (indexOf x) (numberOf x)) i
+pub leads-on : (i : Instance) (x t : ℕ) → 0 < indexOf x → tagOf i (indexOf x) ≡ some t → rule i (ask (route x)) ≡ says (toBackend t (indexOf x) (numberOf x)) i
 unfolding routeTag
 leads-on i x t p e = by-tag i x p ∙ ap (routeTag i (indexOf x) (numberOf x)) e
 
-pub leads-off : (i : Instance) (x : ℕ) → 0 < indexOf x → tagOf i (indexOf x) ≡ none → rule i (route x) ≡ refused NOENT i
+pub leads-off : (i : Instance) (x : ℕ) → 0 < indexOf x → tagOf i (indexOf x) ≡ none → rule i (ask (route x)) ≡ refused NOENT i
 unfolding routeTag
 leads-off i x p e = by-tag i x p ∙ ap (routeTag i (indexOf x) (numberOf x)) e
 
@@ -114,7 +114,7 @@ unfolding routeTag
 told-tag i k n t none e = let z : _≡_ {A = ℕ} 0 1 = cc in absurd (omega arith)
 told-tag i k n t (some u) e = let s : u ≡ t = cc in ap {B = Option ℕ} some s
 
-led-tag : (i : Instance) (x t : ℕ) → 0 < indexOf x → rule i (route x) .answer ≡ toBackend t (indexOf x) (numberOf x) → tagOf i (indexOf x) ≡ some t
+led-tag : (i : Instance) (x t : ℕ) → 0 < indexOf x → rule i (ask (route x)) .answer ≡ toBackend t (indexOf x) (numberOf x) → tagOf i (indexOf x) ≡ some t
 led-tag i x t p led = told-tag i (indexOf x) (numberOf x) t (tagOf i (indexOf x)) (sym (λ j. by-tag i x p j .answer) ∙ led)
 
 -- a slot with a tag is held
@@ -135,19 +135,19 @@ every-standing i x t p led cs s =
 pub judged : EveryJudged
 judged i x t p led cs u done =
     let k = indexOf x in
-    ⊎-elim (λ (e : rule (afterAll i cs) (route x) ≡ refused NOENT (afterAll i cs)). absurd (let w : NOENT ≡ 0 = sym (λ j. e j .code) ∙ done in omega arith))
-    (λ (e : rule (afterAll i cs) (route x) ≡ says (toBackend t k (numberOf x)) (afterAll i cs)). (λ j. e j .answer)) (leads (afterAll i cs) x t p (tag-since cs i k t u (led-tag i x t p led)))
+    ⊎-elim (λ (e : rule (afterAll i cs) (ask (route x)) ≡ refused NOENT (afterAll i cs)). absurd (let w : NOENT ≡ 0 = sym (λ j. e j .code) ∙ done in omega arith))
+    (λ (e : rule (afterAll i cs) (ask (route x)) ≡ says (toBackend t k (numberOf x)) (afterAll i cs)). (λ j. e j .answer)) (leads (afterAll i cs) x t p (tag-since cs i k t u (led-tag i x t p led)))
 
 -- ---- not before a lap is over
 
 -- steps up to one that hands k out
-record UpTo (c k : ℕ) (ss : List Step) : Type 0 where
-  steps : List Step
+record UpTo (c k : ℕ) (ss : List SearchStep) : Type 0 where
+  steps : List SearchStep
   going : Going c steps
   last : lastFound none steps ≡ some k
   few : total steps ≤ total ss
 
-module _ (s : Step) (ss : List Step) (c k : ℕ) where
+module _ (s : SearchStep) (ss : List SearchStep) (c k : ℕ) where
   -- the first of them does
   first-one : s .found ≡ some k → Going c (s ∷ []) → UpTo c k (s ∷ ss)
   unfolding total lastFound
@@ -158,7 +158,7 @@ module _ (s : Step) (ss : List Step) (c k : ℕ) where
   unfolding total lastFound
   one-more d u g = record { steps = s ∷ u .steps; going = g; last = last-of (u .steps) (s .found) k (u .last); few = omega (arith, u .few) }
 
-up-to : (ss : List Step) (c k : ℕ) → c < 256 → Going c ss → Has k (handedOut ss) → UpTo c k ss
+up-to : (ss : List SearchStep) (c k : ℕ) → c < 256 → Going c ss → Has k (handedOut ss) → UpTo c k ss
 unfolding Going handedOut allocate
 up-to [] c k l g h = absurd h
 up-to (s ∷ ss) c k l (inl (i, g)) h =
@@ -167,7 +167,7 @@ up-to (s ∷ ss) c k l (inr (a, g)) h =
     ⊎-elim (λ e. first-one s ss c k e (inr (a, tt))) (λ w. let u = up-to ss _ k (omega arith) g w in one-more s ss c k _ u (inr (a, u .going)))
     (has-split (s .found) k (handedOut ss) h)
 
-not-sooner : (i : Instance) (r : Request) (k : ℕ) → MountedAt i r k → (cs : List Call) → Unrestored (rule i (mount r) .after) cs
+not-sooner : (i : Instance) (r : Request) (k : ℕ) → MountedAt i r k → (cs : List Call) → WithoutStateRestore (rule i (mount r) .after) cs
     → Has k (handedOut (stepsOf (rule i (mount r) .after) cs)) → 256 ≤ total (stepsOf (rule i (mount r) .after) cs)
 not-sooner i r k m cs u h =
     let a = rule i (mount r) .after in

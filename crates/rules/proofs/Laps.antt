@@ -8,7 +8,7 @@ use Prim.Native.Nat.{ℕ, _+_, _-_, _%_, _≤_, _<_}
 use native.Mathlib.Omega.{arith}
 use lib.ListN.{length}
 use Rattle.rules.specs.Round.{after, goingRound, untilTwice, visited, freeOf, allocate}
-use Rattle.rules.specs.Laps.{Step, Idle, Searches, Going, visitsOf, total, lastFound, Meets, Met, EveryAllocator}
+use Rattle.rules.specs.claims.Laps.{SearchStep, Idle, Searches, Going, visitsOf, total, lastFound, Meets, Met, EveryAllocator}
 use Rattle.rules.proofs.Tests.{le-or-lt}
 use Rattle.rules.proofs.Round.{round-append, visited-round, ends, meets}
 use Rattle.rules.proofs.Allocation.{not-free}
@@ -16,14 +16,14 @@ use Rattle.rules.proofs.Allocation.{not-free}
 -- ---- one step
 
 -- from the counter c to the counter d
-record Turn (c : ℕ) (s : Step) (d : ℕ) : Type 0 where
+record Turn (c : ℕ) (s : SearchStep) (d : ℕ) : Type 0 where
   pub round : s .visits ≡ goingRound (length (s .visits)) c
   pub moved : d ≡ (c + length (s .visits)) % 256
   pub ended-at : (k : ℕ) → s .found ≡ some k → d ≡ after k
   pub counted : (k : ℕ) → s .found ≡ some k → 0 < length (s .visits)
   pub sees : (e : ℕ) → e < length (s .visits) → 0 < (c + e) % 256 → Meets ((c + e) % 256) s
 
-module _ (c : ℕ) (h : c < 256) (s : Step) where
+module _ (c : ℕ) (h : c < 256) (s : SearchStep) where
   idle-turn : Idle s → Turn c s c
   unfolding goingRound
   idle-turn (v, f) = record {
@@ -51,7 +51,7 @@ module _ (c : ℕ) (h : c < 256) (s : Step) where
       }
 
   -- a step and what comes after it
-  first-turn : (ss : List Step) → Going c (s ∷ ss) → (d : ℕ) × (Turn c s d × Going d ss)
+  first-turn : (ss : List SearchStep) → Going c (s ∷ ss) → (d : ℕ) × (Turn c s d × Going d ss)
   unfolding Going
   first-turn ss (inl (i, g)) = (c, (idle-turn i, g))
   first-turn ss (inr (a, g)) = (allocate (s .held) c .counter, (search-turn a, g))
@@ -59,7 +59,7 @@ module _ (c : ℕ) (h : c < 256) (s : Step) where
 -- ---- any steps
 
 -- the visited lists run round without a gap
-pub runs-round : (ss : List Step) (c : ℕ) → c < 256 → Going c ss → visitsOf ss ≡ goingRound (total ss) c
+pub runs-round : (ss : List SearchStep) (c : ℕ) → c < 256 → Going c ss → visitsOf ss ≡ goingRound (total ss) c
 unfolding visitsOf total goingRound
 runs-round [] c h g = refl
 runs-round (s ∷ ss) c h g =
@@ -69,7 +69,7 @@ runs-round (s ∷ ss) c h g =
     (λ x. t .round x ++ on x) ∙ ap (λ (e : ℕ). goingRound (length (s .visits)) c ++ goingRound (total ss) e) (t .moved) ∙ round-append (length (s .visits)) (total ss) c h
 
 -- where the last step handed k out, the counter has moved to the index after it
-run-ends : (ss : List Step) (c k : ℕ) (x : Option ℕ) → c < 256 → Going c ss → (x ≡ some k → c ≡ after k) → lastFound x ss ≡ some k → (c + total ss) % 256 ≡ after k
+run-ends : (ss : List SearchStep) (c k : ℕ) (x : Option ℕ) → c < 256 → Going c ss → (x ≡ some k → c ≡ after k) → lastFound x ss ≡ some k → (c + total ss) % 256 ≡ after k
 unfolding lastFound total
 run-ends [] c k x h g came e = omega (arith, came e)
 run-ends (s ∷ ss) c k x h g came e =
@@ -77,7 +77,7 @@ run-ends (s ∷ ss) c k x h g came e =
     let t = f .1 .0 in
     omega (arith, t .moved, run-ends ss (f .0) k (s .found) (omega (arith, t .moved)) (f .1 .1) (t .ended-at k) e)
 
-run-counts : (ss : List Step) (c k : ℕ) (x : Option ℕ) → c < 256 → Going c ss → (x ≡ some k → ⊥) → lastFound x ss ≡ some k → 0 < total ss
+run-counts : (ss : List SearchStep) (c k : ℕ) (x : Option ℕ) → c < 256 → Going c ss → (x ≡ some k → ⊥) → lastFound x ss ≡ some k → 0 < total ss
 unfolding lastFound total
 run-counts [] c k x h g came e = absurd (came e)
 run-counts (s ∷ ss) c k x h g came e =
@@ -88,7 +88,7 @@ run-counts (s ∷ ss) c k x h g came e =
     (λ (p : 0 < length (s .visits)). omega arith) (le-or-lt (length (s .visits)) 0)
 
 -- each index that the steps visit is handed out or seen occupied
-run-meets : (ss : List Step) (c d j : ℕ) → c < 256 → Going c ss → d < total ss → j ≡ (c + d) % 256 → 0 < j → Met j ss
+run-meets : (ss : List SearchStep) (c d j : ℕ) → c < 256 → Going c ss → d < total ss → j ≡ (c + d) % 256 → 0 < j → Met j ss
 unfolding total Met
 run-meets [] c d j h g l e p = absurd (omega arith)
 run-meets (s ∷ ss) c d j h g l e p =
@@ -112,7 +112,7 @@ every-allocator c h s k is first ss g last =
 
 -- ---- steps behind steps
 
-pub going-append : (ss ts : List Step) (c : ℕ) → c < 256 → Going c ss → Going ((c + total ss) % 256) ts → Going c (ss ++ ts)
+pub going-append : (ss ts : List SearchStep) (c : ℕ) → c < 256 → Going c ss → Going ((c + total ss) % 256) ts → Going c (ss ++ ts)
 unfolding Going total
 going-append [] ts c h g r = let e : (c + 0) % 256 ≡ c = omega arith in rw e at r
 going-append (s ∷ ss) ts c h (inl (i, g)) r =
@@ -125,7 +125,7 @@ going-append (s ∷ ss) ts c h (inr (a, g)) r =
     inr (a, going-append ss ts d (omega arith) g (rw e at r))
 
 -- what the last of some steps handed out, whatever was handed out before them
-pub last-of : (ts : List Step) (x : Option ℕ) (k : ℕ) → lastFound none ts ≡ some k → lastFound x ts ≡ some k
+pub last-of : (ts : List SearchStep) (x : Option ℕ) (k : ℕ) → lastFound none ts ≡ some k → lastFound x ts ≡ some k
 unfolding lastFound
 last-of [] x k e = absurd (Option·none-ne-some k e)
 last-of (t ∷ ts) x k e = e

@@ -11,19 +11,19 @@ use lib.Dec.{eqb}
 use borrow.Author.Tests.{eqb-true, eq-eqb, ne-eqb}
 use Rattle.rules.specs.Numbers.{rootNumber}
 use Rattle.rules.specs.Bytes.{same}
-use Rattle.rules.specs.Path.{Part, name, parent, components, tooLong}
+use Rattle.rules.specs.Path.{Part, Normal, ParentDir, components, tooLong}
 use Rattle.rules.specs.Utf8.{wellFormed}
-use Rattle.rules.specs.Tree.{Node, Made, bare, isChild, childIn, nodeIn, aboveOf, parentIn, onward, walk, orMake, step, makes, atRoot}
+use Rattle.rules.specs.Tree.{Node, Made, bare, isChild, childIn, nodeIn, parentOf, parentIn, onward, walk, orMake, mountStep, makes, atRoot}
 use Rattle.rules.specs.Instance.{Tree, Instance}
 use Rattle.rules.specs.Saved.{SavedNode, used}
-use Rattle.rules.specs.Restore.{savedNode, savedNodes}
+use Rattle.rules.specs.StateRestore.{savedNode, savedNodes}
 use Rattle.rules.specs.Mount.{planned}
-use Rattle.rules.specs.Unmount.{reached}
-use Rattle.rules.specs.Driven.{Rises, Unique, Shape, Rooted, top, under}
-use Rattle.rules.specs.Proper.{At}
-use Rattle.rules.specs.Found.{Goes, at-root, up, down, Leads, end, on}
-use Rattle.rules.specs.Names.{EachName, GoodName}
-use Rattle.rules.specs.Walk.{Walking}
+use Rattle.rules.specs.Reached.{reached}
+use Rattle.rules.specs.claims.Driven.{Rises, Unique, Shape, Rooted, top, under}
+use Rattle.rules.specs.claims.Proper.{At}
+use Rattle.rules.specs.claims.Found.{Goes, at-root, up, down, Leads, end, on}
+use Rattle.rules.specs.claims.Names.{EachName, GoodName}
+use Rattle.rules.specs.claims.Walk.{Walking}
 use Rattle.rules.proofs.Tests.{or-neither, and-both}
 use Rattle.rules.proofs.Same.{same-refl, same-eq}
 use Rattle.rules.proofs.Parts.{rest-names}
@@ -39,33 +39,33 @@ goes-later m ns x y p (at-root a) = at-root a
 goes-later m ns x y p (up a k n s) = up a (suc k) n s
 goes-later m ns x y p (down a k n s) = down a (suc k) n s
 
-node-goes : (ns : List Node) (at x : ℕ) (n : Node) → nodeIn ns x ≡ some n → Goes ns x (parent at) (n .above)
+node-goes : (ns : List Node) (at x : ℕ) (n : Node) → nodeIn ns x ≡ some n → Goes ns x (ParentDir at) (n .parent)
 unfolding nodeIn At
 node-goes [] at x n e = absurd (Option·none-ne-some n e)
 node-goes (m ∷ ns) at x n e = go (eqb (m .number) x) refl e (node-goes ns at x n)
   where
-    go : (b : Bool) → eqb (m .number) x ≡ b → cond b (some m) (nodeIn ns x) ≡ some n → (nodeIn ns x ≡ some n → Goes ns x (parent at) (n .above)) → Goes (m ∷ ns) x (parent at) (n .above)
+    go : (b : Bool) → eqb (m .number) x ≡ b → cond b (some m) (nodeIn ns x) ≡ some n → (nodeIn ns x ≡ some n → Goes ns x (ParentDir at) (n .parent)) → Goes (m ∷ ns) x (ParentDir at) (n .parent)
     go true q f k = rw (← eqb-true (m .number) x q, ← Option·some-injective m n f) (up at 0 m refl)
-    go false q f k = goes-later m ns x (n .above) (parent at) (k f)
+    go false q f k = goes-later m ns x (n .parent) (ParentDir at) (k f)
 
-child-goes : (ns : List Node) (here at : ℕ) (p : List ℕ) (x : ℕ) → childIn ns here p ≡ some x → Goes ns here (name at p) x
+child-goes : (ns : List Node) (here at : ℕ) (p : List ℕ) (x : ℕ) → childIn ns here p ≡ some x → Goes ns here (Normal at p) x
 unfolding childIn isChild At
 child-goes [] here at p x e = absurd (Option·none-ne-some x e)
-child-goes (m ∷ ns) here at p x e = go (eqb (m .above) here && same (m .called) p) refl e (child-goes ns here at p x)
+child-goes (m ∷ ns) here at p x e = go (eqb (m .parent) here && same (m .name) p) refl e (child-goes ns here at p x)
   where
-    go : (b : Bool) → (eqb (m .above) here && same (m .called) p) ≡ b → cond b (some (m .number)) (childIn ns here p) ≡ some x
-        → (childIn ns here p ≡ some x → Goes ns here (name at p) x) → Goes (m ∷ ns) here (name at p) x
+    go : (b : Bool) → (eqb (m .parent) here && same (m .name) p) ≡ b → cond b (some (m .number)) (childIn ns here p) ≡ some x
+        → (childIn ns here p ≡ some x → Goes ns here (Normal at p) x) → Goes (m ∷ ns) here (Normal at p) x
     go true q f k =
-        let t = and-both (eqb (m .above) here) (same (m .called) p) q in
-        rw (← eqb-true (m .above) here (t .0), ← same-eq (m .called) p (t .1), ← Option·some-injective (m .number) x f) (down at 0 m refl)
-    go false q f k = goes-later m ns here x (name at p) (k f)
+        let t = and-both (eqb (m .parent) here) (same (m .name) p) q in
+        rw (← eqb-true (m .parent) here (t .0), ← same-eq (m .name) p (t .1), ← Option·some-injective (m .number) x f) (down at 0 m refl)
+    go false q f k = goes-later m ns here x (Normal at p) (k f)
 
-parent-goes : (ns : List Node) (at x : ℕ) → Rooted ns x → Goes ns x (parent at) (parentIn ns x)
+parent-goes : (ns : List Node) (at x : ℕ) → Rooted ns x → Goes ns x (ParentDir at) (parentIn ns x)
 unfolding parentIn
 parent-goes ns at x top = at-root at
 parent-goes ns at x (under y n e h) = go (eqb x rootNumber) refl
   where
-    go : (b : Bool) → eqb x rootNumber ≡ b → Goes ns x (parent at) (cond b rootNumber (aboveOf (nodeIn ns x)))
+    go : (b : Bool) → eqb x rootNumber ≡ b → Goes ns x (ParentDir at) (cond b rootNumber (parentOf (nodeIn ns x)))
     go true q = rw (eqb-true x rootNumber q) (at-root at)
     go false q = rw e (node-goes ns at x n e)
 
@@ -75,17 +75,17 @@ unfolding walk
 walk-leads ns high r [] here x h e =
     let same = Option·some-injective here x e in
     (subst (Leads ns here []) same (end here), subst (Rooted ns) same h)
-walk-leads ns high r (parent at ∷ ps) here x h e =
+walk-leads ns high r (ParentDir at ∷ ps) here x h e =
     let w = walk-leads ns high r ps (parentIn ns here) x (rooted-up ns here h) e in
-    (on here (parentIn ns here) x (parent at) ps (parent-goes ns at here h) (w .0), w .1)
-walk-leads ns high r (name at p ∷ ps) here x h e = go (childIn ns here p) refl e (λ y. walk-leads ns high r ps y x)
+    (on here (parentIn ns here) x (ParentDir at) ps (parent-goes ns at here h) (w .0), w .1)
+walk-leads ns high r (Normal at p ∷ ps) here x h e = go (childIn ns here p) refl e (λ y. walk-leads ns high r ps y x)
   where
     go : (o : Option ℕ) → childIn ns here p ≡ o → onward o (λ (y : ℕ). walk ns y ps) ≡ some x → ((y : ℕ) → Rooted ns y → walk ns y ps ≡ some x → Leads ns y ps x × Rooted ns x)
-        → Leads ns here (name at p ∷ ps) x × Rooted ns x
+        → Leads ns here (Normal at p ∷ ps) x × Rooted ns x
     go none q f k = absurd (Option·none-ne-some x f)
     go (some y) q f k =
         let w = k y (rooted-down ns high here p y r q h) f in
-        (on here y x (name at p) ps (child-goes ns here at p y q) (w .0), w .1)
+        (on here y x (Normal at p) ps (child-goes ns here at p y q) (w .0), w .1)
 
 module _ (i : Instance) (high : ℕ) (r : Rises 2 (savedNodes (i .tree .nodes)) high) (path : List ℕ) (x : ℕ) (e : reached i path ≡ some x) where
   path-both : Leads (i .tree .nodes) rootNumber (components 0 path) x × Rooted (i .tree .nodes) x
@@ -109,16 +109,16 @@ at-node (m ∷ ns) low high (suc k) n r a =
     (omega (arith, r .0, t .0), rw (ne-eqb (m .number) (n .number) (λ q. omega (arith, t .0))) (t .1))
 
 -- a name that is not used is no node's
-at-unused : (ns : List Node) (d : SavedNode) (k : ℕ) (n : Node) → used (d .above) (d .called) (savedNodes ns) ≡ false → At ns k n → beside (savedNode n) d ≡ false
+at-unused : (ns : List Node) (d : SavedNode) (k : ℕ) (n : Node) → used (d .parent) (d .name) (savedNodes ns) ≡ false → At ns k n → beside (savedNode n) d ≡ false
 unfolding savedNodes used At
 at-unused [] d k n u a = absurd a
-at-unused (m ∷ ns) d zero n u a = rw (← a) (or-neither (beside (savedNode m) d) (used (d .above) (d .called) (savedNodes ns)) u .0)
-at-unused (m ∷ ns) d (suc k) n u a = at-unused ns d k n (or-neither (beside (savedNode m) d) (used (d .above) (d .called) (savedNodes ns)) u .1) a
+at-unused (m ∷ ns) d zero n u a = rw (← a) (or-neither (beside (savedNode m) d) (used (d .parent) (d .name) (savedNodes ns)) u .0)
+at-unused (m ∷ ns) d (suc k) n u a = at-unused ns d k n (or-neither (beside (savedNode m) d) (used (d .parent) (d .name) (savedNodes ns)) u .1) a
 
-at-child : (ns : List Node) (k : ℕ) (n : Node) → Unique (savedNodes ns) → At ns k n → childIn ns (n .above) (n .called) ≡ some (n .number)
+at-child : (ns : List Node) (k : ℕ) (n : Node) → Unique (savedNodes ns) → At ns k n → childIn ns (n .parent) (n .name) ≡ some (n .number)
 unfolding savedNodes Unique childIn isChild At
 at-child [] k n u a = absurd a
-at-child (m ∷ ns) zero n u a = rw (← a) (rw (eq-eqb (m .above) (m .above) refl, same-refl (m .called)))
+at-child (m ∷ ns) zero n u a = rw (← a) (rw (eq-eqb (m .parent) (m .parent) refl, same-refl (m .name)))
 at-child (m ∷ ns) (suc k) n u a = rw (beside-sym (savedNode m) (savedNode n) ∙ at-unused ns (savedNode m) k n (u .0) a) (at-child ns k n (u .1) a)
 
 module _ (ns : List Node) (high : ℕ) (s : Shape (savedNodes ns) high) where
@@ -179,10 +179,10 @@ module _ (ns ms : List Node) (same-saved : savedNodes ns ≡ savedNodes ms) wher
   goes-saved x y p (at-root a) = at-root a
   goes-saved x y p (up a k n s) =
       let w = at-other k n s in
-      subst (λ (e : SavedNode). Goes ms (e .number) (parent a) (e .above)) (w .2) (up a k (w .0) (w .1))
+      subst (λ (e : SavedNode). Goes ms (e .number) (ParentDir a) (e .parent)) (w .2) (up a k (w .0) (w .1))
   goes-saved x y p (down a k n s) =
       let w = at-other k n s in
-      subst (λ (e : SavedNode). Goes ms (e .above) (name a (e .called)) (e .number)) (w .2) (down a k (w .0) (w .1))
+      subst (λ (e : SavedNode). Goes ms (e .parent) (Normal a (e .name)) (e .number)) (w .2) (down a k (w .0) (w .1))
 
   pub leads-saved : (x z : ℕ) (ps : List Part) → Leads ns x ps z → Leads ms x ps z
   leads-saved x z ps (end y) = end y
@@ -192,12 +192,12 @@ module _ (ns ms : List Node) (same-saved : savedNodes ns ≡ savedNodes ms) wher
 
 module _ (t : Tree) where
   -- one step, over the nodes that it leaves
-  step-goes : (m : Made) (p : Part) → Walking (t .nodes) (t .next) m → Goes (t .nodes ++ step (t .nodes) (t .next) m p .nodes) (m .here) p (step (t .nodes) (t .next) m p .here)
-  unfolding step
-  step-goes m (parent at) w = parent-goes (t .nodes ++ m .nodes) at (m .here) (w .reached)
-  step-goes m (name at p) w = go (childIn (t .nodes ++ m .nodes) (m .here) p) refl
+  step-goes : (m : Made) (p : Part) → Walking (t .nodes) (t .next) m → Goes (t .nodes ++ mountStep (t .nodes) (t .next) m p .nodes) (m .here) p (mountStep (t .nodes) (t .next) m p .here)
+  unfolding mountStep
+  step-goes m (ParentDir at) w = parent-goes (t .nodes ++ m .nodes) at (m .here) (w .reached)
+  step-goes m (Normal at p) w = go (childIn (t .nodes ++ m .nodes) (m .here) p) refl
     where
-      go : (o : Option ℕ) → childIn (t .nodes ++ m .nodes) (m .here) p ≡ o → Goes (t .nodes ++ orMake (t .next) m p o .nodes) (m .here) (name at p) (orMake (t .next) m p o .here)
+      go : (o : Option ℕ) → childIn (t .nodes ++ m .nodes) (m .here) p ≡ o → Goes (t .nodes ++ orMake (t .next) m p o .nodes) (m .here) (Normal at p) (orMake (t .next) m p o .here)
       go (some x) e = child-goes (t .nodes ++ m .nodes) (m .here) at p x e
       go none e =
           let n = bare (t .next + length (m .nodes)) (m .here) p in
@@ -208,7 +208,7 @@ module _ (t : Tree) where
   unfolding makes
   makes-leads [] m g w = end (m .here)
   makes-leads (p ∷ ps) m g w =
-      let n = step (t .nodes) (t .next) m p in
+      let n = mountStep (t .nodes) (t .next) m p in
       on (m .here) (n .here) _ p ps (makes-all (λ (ns : List Node). Goes ns (m .here) p (n .here)) t (λ ns o l e. goes-append ns (o ∷ []) (m .here) (n .here) p) ps n (step-goes m p w))
       (makes-leads ps n (rest-names GoodName p ps g) (step-walking (t .nodes) (t .next) m p ps g w))
 
@@ -218,20 +218,3 @@ module _ (t : Tree) where
   unfolding planned
   planned-leads path s l u =
       makes-leads (components 0 path) atRoot (components-good path l u) (record { shape = rw (append-nil (t .nodes), add-zero (t .next)) s; reached = top })
-
-  -- along a path that leads somewhere already it ends there, and makes nothing
-  makes-none : (ps : List Part) (here x : ℕ) → walk (t .nodes) here ps ≡ some x → makes (t .nodes) (t .next) (record { nodes = []; here = here }) ps ≡ record { nodes = []; here = x }
-  unfolding walk makes step
-  makes-none [] here x e = ap (λ (y : ℕ). record { nodes = []; here = y }) (Option·some-injective here x e)
-  makes-none (parent at ∷ ps) here x e = rw (append-nil (t .nodes)) (makes-none ps (parentIn (t .nodes) here) x e)
-  makes-none (name at p ∷ ps) here x e = rw (append-nil (t .nodes)) (go (childIn (t .nodes) here p) e (λ y. makes-none ps y x))
-    where
-      go : (o : Option ℕ) → onward o (λ (y : ℕ). walk (t .nodes) y ps) ≡ some x
-          → ((y : ℕ) → walk (t .nodes) y ps ≡ some x → makes (t .nodes) (t .next) (record { nodes = []; here = y }) ps ≡ record { nodes = []; here = x })
-          → makes (t .nodes) (t .next) (orMake (t .next) (record { nodes = []; here = here }) p o) ps ≡ record { nodes = []; here = x }
-      go none f k = absurd (Option·none-ne-some x f)
-      go (some y) f k = k y f
-
-pub planned-none : (i : Instance) (path : List ℕ) (x : ℕ) → reached i path ≡ some x → planned (i .tree) path ≡ record { nodes = []; here = x }
-unfolding reached planned
-planned-none i path x e = makes-none (i .tree) (components 0 path) rootNumber x e

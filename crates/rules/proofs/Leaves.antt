@@ -13,15 +13,15 @@ use Rattle.rules.specs.Round.{untilTwice, freeOf, allocate}
 use Rattle.rules.specs.Tree.{Mount}
 use Rattle.rules.specs.Instance.{Instance, counterOf, heldIn, withCounter}
 use Rattle.rules.specs.Outcome.{nothing, Outcome, refused}
-use Rattle.rules.specs.Mount.{Request, allocation, allocated, stepped, walkedTo, mountAs, restoreAs}
+use Rattle.rules.specs.Mount.{Request, allocation, allocated, stepped, walkedTo, mountByIndex, restoreMountByIndex}
 use Rattle.rules.specs.Unmount.{unmounts}
 use Rattle.rules.specs.Calls.{Call, mount, restore-mount, umount}
-use Rattle.rules.specs.Leaves.{ByRow2, ByRow3, Leaves, EveryRefusal}
+use Rattle.rules.specs.claims.Leaves.{ByRow2, ByRow3, Leaves, EveryRefusal}
 use Rattle.rules.proofs.Rows.{first-of}
 use Rattle.rules.proofs.Round.{spent}
 use Rattle.rules.proofs.Turn.{seen-moved}
 use Rattle.rules.proofs.Still.{Still, still-refused}
-use Rattle.rules.proofs.Ways.{isMount, Passed, Early, restored-row2, every-call}
+use Rattle.rules.proofs.Ways.{isMount, Passed, Early, every-call}
 
 module _ (i : Instance) (c : Call) where
   -- a call that is done has no refusal to speak of
@@ -94,8 +94,8 @@ module _ (i : Instance) (r : Request) where
     values = λ f. (refl, refl);
   }
 
-  mount-as : Passed i r → (k : Option ℕ) → allocation i .found ≡ k → Leaves i (mount r) (mountAs i r k)
-  unfolding mountAs
+  mount-as : Passed i r → (k : Option ℕ) → allocation i .found ≡ k → Leaves i (mount r) (mountByIndex i r k)
+  unfolding mountByIndex
   mount-as p none e = row5 e
   mount-as p (some k) e =
       first-of (Leaves i (mount r)) _ _
@@ -116,13 +116,10 @@ module _ (i : Instance) (k : ℕ) (r : Request) (p : Passed i r) where
     values = λ f. (refl, refl);
   }
 
-  restored-as : Leaves i call (restoreAs i k r)
-  unfolding restoreAs
+  restored-as : Leaves i call (restoreMountByIndex i k r)
+  unfolding restoreMountByIndex
   restored-as =
-      first-of (Leaves i call) _ _ (
-        λ a. unchanged i call _ (λ e. restored-row2 r k) (λ e. absurd (omega arith)) (still-refused i _ (λ e. omega arith)),
-        λ a. (λ b. restored-row7 (ltb-true maxIno (r .root) b), λ b. done i call _ refl),
-      )
+      first-of (Leaves i call) _ _ (λ b. restored-row7 (ltb-true maxIno (r .root) b), λ b. done i call _ refl)
 
 unmounted : (i : Instance) (c : Call) (x : ℕ) (m : Mount) → Leaves i c (unmounts i x m)
 unfolding unmounts
@@ -134,7 +131,7 @@ leaves = every-call Leaves (record {
   still = λ i c o q s. still i c q o s;
   early = early;
   mounts = λ i r p. mount-as i r p (allocation i .found) refl;
-  restores-mount = restored-as;
+  restores-mount = λ i k r p on. restored-as i k r p;
   unmounted = λ i path x m q e. unmounted i (umount path) x m;
   sets-removal = λ i. done i _ _ refl;
   state-restored = λ i b ok. done i _ _ refl;

@@ -15,6 +15,7 @@ pub mod Turn
 pub mod Trace
 pub mod Leaves
 pub mod Exactly
+pub mod Joined
 pub mod Encoded
 pub mod Accepted
 pub mod RoundTrip
@@ -23,6 +24,7 @@ pub mod Names
 pub mod Shape
 pub mod Good
 pub mod Walk
+pub mod Planned
 pub mod Leads
 pub mod Held
 pub mod MountFacts
@@ -30,7 +32,7 @@ pub mod Create
 pub mod Driven
 pub mod Records
 pub mod Proper
-pub mod Restored
+pub mod SaveThenRestore
 pub mod Restart
 pub mod Stays
 pub mod Again

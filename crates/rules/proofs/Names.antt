@@ -12,7 +12,7 @@ use Rattle.rules.specs.Bytes.{same, holds}
 use Rattle.rules.specs.Utf8.{Range, table, within, fits, firstRow, sequence, onSequence, endFrom, validTo, wellFormed}
 use Rattle.rules.specs.Path.{slash, onto, partsBy, pieces, isDot, isDots, components, tooLong}
 use Rattle.rules.specs.Saved.{goodName}
-use Rattle.rules.specs.Names.{GoodName, ComponentsGood}
+use Rattle.rules.specs.claims.Names.{GoodName, ComponentsGood}
 use Rattle.rules.proofs.Tests.{and-both, pass}
 use Rattle.rules.proofs.Same.{some-byte}
 use Rattle.rules.proofs.Parts.{EachPiece, Short, kept-names, within-limits}

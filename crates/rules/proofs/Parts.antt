@@ -7,16 +7,16 @@ use lib.ListN.{length}
 use lib.Dec.{ltb}
 use borrow.Author.Tests.{ltb-false}
 use Rattle.rules.specs.Bytes.{same, ascii}
-use Rattle.rules.specs.Path.{Part, name, parent, pieces, isDot, isDots, partsBy, sorted, kept, components, anyLonger, tooLong}
-use Rattle.rules.specs.Tree.{isChild, childIn, nodeIn, parentIn, step, makes}
+use Rattle.rules.specs.Path.{Part, Normal, ParentDir, pieces, isDot, isDots, partsBy, sorted, keptParts, components, anyLonger, tooLong}
+use Rattle.rules.specs.Tree.{isChild, childIn, nodeIn, parentIn, mountStep, makes}
 use Rattle.rules.specs.Mount.{planned}
-use Rattle.rules.specs.Needed.{walks, wanted, Needed}
-use Rattle.rules.specs.Names.{EachName}
+use Rattle.rules.specs.claims.Needed.{walks, wanted, Needed}
+use Rattle.rules.specs.claims.Names.{EachName}
 use Rattle.rules.proofs.Tests.{or-neither}
 
 -- the theorem: what the paths of the table need
 pub needed : Needed
-unfolding same ascii partsBy sorted kept components isChild childIn nodeIn parentIn step makes planned walks wanted
+unfolding same ascii partsBy sorted keptParts components isChild childIn nodeIn parentIn mountStep makes planned walks wanted
 needed = refl
 
 -- ---- each name
@@ -31,24 +31,24 @@ abbrev pub Short : List ℕ → Type 0
 Short p = length p ≤ 255
 
 module _ (P : List ℕ → Type 0) where
-  pub first-name : (at : ℕ) (p : List ℕ) (ps : List Part) → EachName P (name at p ∷ ps) → P p
+  pub first-name : (at : ℕ) (p : List ℕ) (ps : List Part) → EachName P (Normal at p ∷ ps) → P p
   unfolding EachName
   first-name at p ps h = h .0
 
   pub rest-names : (p : Part) (ps : List Part) → EachName P (p ∷ ps) → EachName P ps
   unfolding EachName
-  rest-names (parent at) ps h = h
-  rest-names (name at p) ps h = h .1
+  rest-names (ParentDir at) ps h = h
+  rest-names (Normal at p) ps h = h .1
 
 -- the law: each piece has P, and one that is a name has Q then; so each name has Q
 pub kept-names : (P Q : List ℕ → Type 0) → ((p : List ℕ) → same p [] ≡ false → isDot p ≡ false → isDots p ≡ false → P p → Q p)
-    → (at : ℕ) (ps : List (List ℕ)) → EachPiece P ps → EachName Q (kept at ps)
-unfolding EachPiece EachName kept sorted
+    → (at : ℕ) (ps : List (List ℕ)) → EachPiece P ps → EachName Q (keptParts at ps)
+unfolding EachPiece EachName keptParts sorted
 kept-names P Q f at [] h = tt
-kept-names P Q f at (p ∷ ps) h = go (same p []) refl (isDot p) refl (isDots p) refl (kept (at + length p + 1) ps) (kept-names P Q f (at + length p + 1) ps (h .1))
+kept-names P Q f at (p ∷ ps) h = go (same p []) refl (isDot p) refl (isDots p) refl (keptParts (at + length p + 1) ps) (kept-names P Q f (at + length p + 1) ps (h .1))
   where
     go : (x : Bool) → same p [] ≡ x → (y : Bool) → isDot p ≡ y → (z : Bool) → isDots p ≡ z → (qs : List Part) → EachName Q qs
-        → EachName Q (cond x qs (cond y qs (cond z (parent at ∷ qs) (name at p ∷ qs))))
+        → EachName Q (cond x qs (cond y qs (cond z (ParentDir at ∷ qs) (Normal at p ∷ qs))))
     go true e y g z d qs k = k
     go false e true g z d qs k = k
     go false e false g true d qs k = k

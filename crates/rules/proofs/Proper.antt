@@ -10,9 +10,9 @@ use Rattle.rules.specs.Numbers.{rootNumber, topNumber, BADSAVE}
 use Rattle.rules.specs.Instance.{Instance}
 use Rattle.rules.specs.Outcome.{Outcome, refused, firstOf}
 use Rattle.rules.specs.Saved.{SavedNode, State, present, valid, accepted, stateOf}
-use Rattle.rules.specs.Restore.{saved, fresh, restoreRule}
-use Rattle.rules.specs.Driven.{Shape}
-use Rattle.rules.specs.Proper.{At, Tidy, Earlier, Proper, EveryValid, EveryAccepted, EveryBadSave, EveryTidy}
+use Rattle.rules.specs.StateRestore.{savedState, fresh, restoreStateRule}
+use Rattle.rules.specs.claims.Driven.{Shape}
+use Rattle.rules.specs.claims.Proper.{At, Tidy, Earlier, Proper, EveryValid, EveryAccepted, EveryBadSave, EveryTidy}
 use Rattle.rules.proofs.Tests.{untrue, pass, passed}
 use Rattle.rules.proofs.Rows.{first-of}
 use Rattle.rules.proofs.RoundTrip.{there-and-back, no-other}
@@ -29,7 +29,7 @@ valid-proper s v =
     let good = passed _ v .1 .1 .0 in
     record {
       tidy = shape-tidy s (h .1) (h .2);
-      parents = λ k e a. ⊎-elim (λ p. inl (eqb-true (e .above) rootNumber p)) (λ w. inr w) (parents-at (s .next) (s .nodes) [] good k e a);
+      parents = λ k e a. ⊎-elim (λ p. inl (eqb-true (e .parent) rootNumber p)) (λ w. inr w) (parents-at (s .next) (s .nodes) [] good k e a);
     }
 
 module _ (s : State) (p : Proper s) where
@@ -40,10 +40,10 @@ module _ (s : State) (p : Proper s) where
   t = p .tidy
 
   -- a parent's number is from 1 up and below the record's
-  parent-below : (k : ℕ) (e : SavedNode) → At es k e → (1 ≤ e .above) × (e .above < e .number)
+  parent-below : (k : ℕ) (e : SavedNode) → At es k e → (1 ≤ e .parent) × (e .parent < e .number)
   parent-below k e a =
-      ⊎-elim (λ (q : e .above ≡ 1). (omega arith, omega (arith, t .least k e a)))
-      (λ (w : Earlier es k (e .above)). (omega (arith, t .least (w .0) (w .1) (w .3), w .4), omega (arith, t .rises (w .0) k (w .1) e (w .2) (w .3) a, w .4)))
+      ⊎-elim (λ (q : e .parent ≡ 1). (omega arith, omega (arith, t .least k e a)))
+      (λ (w : Earlier es k (e .parent)). (omega (arith, t .least (w .0) (w .1) (w .3), w .4), omega (arith, t .rises (w .0) k (w .1) e (w .2) (w .3) a, w .4)))
       (p .parents k e a)
 
   proper-shape : Shape es (s .next)
@@ -57,7 +57,7 @@ module _ (s : State) (p : Proper s) where
   pub proper-parents : Parents [] es es
   proper-parents =
       parents-from es es (λ k e a.
-      ⊎-elim (λ q. inl q) (λ (w : Earlier es k (e .above)). inr (subst (λ (x : ℕ). HasNumber x es) (w .4) (in-at es (w .0) (w .1) (w .3)))) (p .parents k e a))
+      ⊎-elim (λ q. inl q) (λ (w : Earlier es k (e .parent)). inr (subst (λ (x : ℕ). HasNumber x es) (w .4) (in-at es (w .0) (w .1) (w .3)))) (p .parents k e a))
 
   proper-valid : valid s ≡ true
   unfolding valid
@@ -70,10 +70,10 @@ every-valid s = (valid-proper s, proper-valid s)
 
 -- the theorem: what a driven instance saves
 pub every-tidy : EveryTidy
-unfolding saved
+unfolding savedState
 every-tidy i d =
     let f = facts i d in
-    shape-tidy (saved i) (f .top) (f .shape)
+    shape-tidy (savedState i) (f .tree .top) (f .tree .shape)
 
 -- ---- bytes
 
@@ -89,13 +89,13 @@ every-accepted b h = (
 )
 
 -- what a fresh instance answers where bytes are not accepted
-pub is-bad-save : (i : Instance) (b : List ℕ) → fresh i ≡ true → accepted b ≡ false → restoreRule i b ≡ refused BADSAVE i
-unfolding restoreRule firstOf
+pub is-bad-save : (i : Instance) (b : List ℕ) → fresh i ≡ true → accepted b ≡ false → restoreStateRule i b ≡ refused BADSAVE i
+unfolding restoreStateRule firstOf
 is-bad-save i b f e = rw (f, e)
 
 -- where they are, the answer is another
-no-bad-save : (i : Instance) (b : List ℕ) → accepted b ≡ true → restoreRule i b .code ≡ BADSAVE → ⊥
-unfolding restoreRule
+no-bad-save : (i : Instance) (b : List ℕ) → accepted b ≡ true → restoreStateRule i b .code ≡ BADSAVE → ⊥
+unfolding restoreStateRule
 no-bad-save i b a =
     first-of (λ (o : Outcome). o .code ≡ BADSAVE → ⊥) _ _
     (λ x e. omega arith, λ x. (λ y. absurd (true≢false (sym y ∙ rw a)), λ y. (λ z e. omega arith, λ z. (λ w e. omega arith, λ w e. omega arith))))

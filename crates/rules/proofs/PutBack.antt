@@ -12,22 +12,22 @@ use lib.Dec.{eqb, ltb}
 use borrow.Author.Tests.{not-false}
 use Rattle.rules.specs.Numbers.{rootNumber, indexOf, numberOf}
 use Rattle.rules.specs.Tree.{Mount}
-use Rattle.rules.specs.Instance.{Slot, Instance, emptySlot, slotOf, tagInSlot, tagOf, heldIn, mountOf}
+use Rattle.rules.specs.Instance.{Slot, Instance, emptySlot, slotOf, tagInSlot, tagOf, heldIn, mountOfNode}
 use Rattle.rules.specs.Outcome.{Outcome}
 use Rattle.rules.specs.Lookup.{routeTag}
 use Rattle.rules.specs.Saved.{State, encode, stateOf}
-use Rattle.rules.specs.Restore.{savedNodes, saved, fresh, restoredTo, restoreRule}
-use Rattle.rules.specs.Calls.{Call, route, rule}
-use Rattle.rules.specs.Driven.{Facts}
-use Rattle.rules.specs.Laps.{Has}
-use Rattle.rules.specs.Trace.{afterAll}
-use Rattle.rules.specs.PutBack.{Putting, none-left, one-back, one-aside, Back, AnswersAs, EveryBack, EveryLeftOut, EveryAllBack}
+use Rattle.rules.specs.StateRestore.{savedNodes, savedState, fresh, stateRestoredTo, restoreStateRule}
+use Rattle.rules.specs.Calls.{Call, ask, route, rule}
+use Rattle.rules.specs.claims.Driven.{Facts}
+use Rattle.rules.specs.claims.Laps.{Has}
+use Rattle.rules.specs.claims.Trace.{afterAll}
+use Rattle.rules.specs.claims.PutBack.{Putting, none-left, one-back, one-aside, Back, AnswersAs, EveryBack, EveryLeftOut, EveryAllBack}
 use Rattle.rules.proofs.Tests.{known, untrue}
 use Rattle.rules.proofs.Rows.{first-of, either}
 use Rattle.rules.proofs.Encoded.{state-read}
 use Rattle.rules.proofs.Shape.{saved-from}
 use Rattle.rules.proofs.Driven.{facts, none-held}
-use Rattle.rules.proofs.Restored.{saved-fits, restore-done}
+use Rattle.rules.proofs.SaveThenRestore.{saved-fits, restore-done}
 use Rattle.rules.proofs.Others.{of-nodes, bare-nodes}
 use Rattle.rules.proofs.Given.{ungiven-slot}
 use Rattle.rules.proofs.Kept.{by-tag, leads-off}
@@ -73,8 +73,8 @@ along-all i f j cs ks (one-aside _ c ds qs b p) a = along-all i f (rule j c .aft
 -- ---- from the restore on
 
 -- a restore that is done found the instance fresh and with room
-pub done-room : (j : Instance) (b : List ℕ) → restoreRule j b .code ≡ 0 → (fresh j ≡ true) × (ltb (j .fixed .capacity) (1 + length (stateOf b .nodes)) ≡ false)
-unfolding restoreRule
+pub done-room : (j : Instance) (b : List ℕ) → restoreStateRule j b .code ≡ 0 → (fresh j ≡ true) × (ltb (j .fixed .capacity) (1 + length (stateOf b .nodes)) ≡ false)
+unfolding restoreStateRule
 done-room j b =
     first-of (λ (o : Outcome). o .code ≡ 0 → (fresh j ≡ true) × (ltb (j .fixed .capacity) (1 + length (stateOf b .nodes)) ≡ false)) _ _
     (λ a z. absurd (omega arith), λ a. (λ c z. absurd (omega arith), λ c. (λ d z. absurd (omega arith), λ d. (λ e z. absurd (omega arith), λ e z. (not-false _ a, e)))))
@@ -83,33 +83,33 @@ no-tag : (s : Slot) → s .held ≡ false → tagInSlot s ≡ none
 no-tag s e = rw e
 
 module _ (i f j : Instance) (cs : List Call) (ks : List ℕ) (b : Back i f j cs ks) where
-  pub gives : j ≡ restoredTo (saved i) f
+  pub gives : j ≡ stateRestoredTo (savedState i) f
   gives =
       let r = b .restored in
-      sym (r .gives) ∙ (restore-done f (encode (saved i)) (r .done) .1 ∙ ap (λ (s : State). restoredTo s f) (state-read (saved i) (saved-fits i (facts i (b .before)))))
+      sym (r .gives) ∙ (restore-done f (encode (savedState i)) (r .done) .1 ∙ ap (λ (s : State). stateRestoredTo s f) (state-read (savedState i) (saved-fits i (facts i (b .before)))))
 
   -- no mount stands, and no slot is held
-  no-mount : (y : ℕ) → mountOf (restoredTo (saved i) f .tree) y ≡ none
-  unfolding restoredTo saved mountOf
+  no-mount : (y : ℕ) → mountOfNode (stateRestoredTo (savedState i) f .tree) y ≡ none
+  unfolding stateRestoredTo savedState mountOfNode
   no-mount y = of-nodes none y _ _ (bare-nodes (savedNodes (i .tree .nodes)) y) ∙ either (λ (o : Option Mount). o ≡ none) (eqb y rootNumber) (λ q. refl) (λ q. refl)
 
   pub start : Along i (j .tree) (j .indexes .slots)
-  unfolding restoredTo saved
+  unfolding stateRestoredTo savedState
   start = rw gives (record {
     next = refl;
     nodes = saved-from (savedNodes (i .tree .nodes));
-    many = facts f (b .fresh) .slots;
+    many = facts f (b .fresh) .mounts .slots;
     mounts = λ y m q. absurd (Option·none-ne-some m (sym (no-mount y) ∙ q));
   })
 
   no-tag-yet : (k : ℕ) → tagOf j k ≡ none
-  unfolding restoredTo
+  unfolding stateRestoredTo
   no-tag-yet k =
-      let free = untrue (heldIn f k) (none-held f (facts f (b .fresh)) (done-room f (encode (saved i)) (b .restored .done) .0) k) in
+      let free = untrue (heldIn f k) (none-held f (facts f (b .fresh)) (done-room f (encode (savedState i)) (b .restored .done) .0) k) in
       rw gives (no-tag (slotOf f k) free)
 
   -- by the tag in its slot
-  routed-as : (x : ℕ) → 0 < indexOf x → (tagOf j (indexOf x) ≡ tagOf i (indexOf x)) ⊎ Has (indexOf x) ks → AnswersAs (rule (afterAll j cs) (route x)) (rule i (route x))
+  routed-as : (x : ℕ) → 0 < indexOf x → (tagOf j (indexOf x) ≡ tagOf i (indexOf x)) ⊎ Has (indexOf x) ks → AnswersAs (rule (afterAll j cs) (ask (route x))) (rule i (ask (route x)))
   unfolding routeTag
   routed-as x p h =
       let k = indexOf x in

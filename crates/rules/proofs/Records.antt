@@ -13,8 +13,8 @@ use Rattle.rules.specs.Numbers.{rootNumber, topNumber}
 use Rattle.rules.specs.Bytes.{holds}
 use Rattle.rules.specs.Path.{slash, dot}
 use Rattle.rules.specs.Saved.{SavedNode, State, present, used, goodName, goodNode, goodNodes}
-use Rattle.rules.specs.Driven.{Rises, Below, Named, Unique, Shape}
-use Rattle.rules.specs.Proper.{At, Name, Tidy, Earlier}
+use Rattle.rules.specs.claims.Driven.{Rises, Below, Named, Unique, Shape}
+use Rattle.rules.specs.claims.Proper.{At, Name, Tidy, Earlier}
 use Rattle.rules.proofs.Tests.{and-both, or-neither, pass, passed}
 use Rattle.rules.proofs.Same.{same-refl, ne-same, same-false}
 use Rattle.rules.proofs.Sequences.{every-text}
@@ -78,21 +78,21 @@ rises-two low high (c ∷ es) r j zero d e l a b = absurd (omega arith)
 rises-two low high (c ∷ es) r zero (suc k) d e l a b = rw (← a) (omega (arith, rises-at (c .number + 1) high es (r .1) k e b .0))
 rises-two low high (c ∷ es) r (suc j) (suc k) d e l a b = rises-two (c .number + 1) high es (r .1) j k d e (omega arith) a b
 
-named-at : (es : List SavedNode) → Named es → (k : ℕ) (e : SavedNode) → At es k e → Name (e .called)
+named-at : (es : List SavedNode) → Named es → (k : ℕ) (e : SavedNode) → At es k e → Name (e .name)
 unfolding Named At
 named-at [] n k e a = absurd a
-named-at (d ∷ es) n zero e a = rw (← a) (is-name (d .called) (n .0))
+named-at (d ∷ es) n zero e a = rw (← a) (is-name (d .name) (n .0))
 named-at (d ∷ es) n (suc k) e a = named-at es (n .1) k e a
 
-unused-at : (d : SavedNode) (es : List SavedNode) → used (d .above) (d .called) es ≡ false → (k : ℕ) (e : SavedNode) → At es k e → d .above ≡ e .above → d .called ≡ e .called → ⊥
+unused-at : (d : SavedNode) (es : List SavedNode) → used (d .parent) (d .name) es ≡ false → (k : ℕ) (e : SavedNode) → At es k e → d .parent ≡ e .parent → d .name ≡ e .name → ⊥
 unfolding used At
 unused-at d [] u k e a p q = a
 unused-at d (c ∷ es) u zero e a p q =
-    let f : beside c d ≡ false = or-neither (beside c d) (used (d .above) (d .called) es) u .0 in
-    true≢false (sym (rw (a, ← p, ← q, eq-eqb (d .above) (d .above) refl, same-refl (d .called))) ∙ f)
-unused-at d (c ∷ es) u (suc k) e a p q = unused-at d es (or-neither (beside c d) (used (d .above) (d .called) es) u .1) k e a p q
+    let f : beside c d ≡ false = or-neither (beside c d) (used (d .parent) (d .name) es) u .0 in
+    true≢false (sym (rw (a, ← p, ← q, eq-eqb (d .parent) (d .parent) refl, same-refl (d .name))) ∙ f)
+unused-at d (c ∷ es) u (suc k) e a p q = unused-at d es (or-neither (beside c d) (used (d .parent) (d .name) es) u .1) k e a p q
 
-unique-two : (es : List SavedNode) → Unique es → (j k : ℕ) (d e : SavedNode) → j < k → At es j d → At es k e → d .above ≡ e .above → d .called ≡ e .called → ⊥
+unique-two : (es : List SavedNode) → Unique es → (j k : ℕ) (d e : SavedNode) → j < k → At es j d → At es k e → d .parent ≡ e .parent → d .name ≡ e .name → ⊥
 unfolding Unique At
 unique-two [] u j k d e l a b = absurd a
 unique-two (c ∷ es) u j zero d e l a b = absurd (omega arith)
@@ -111,16 +111,16 @@ shape-tidy s t h = record {
 }
 
 -- a parent that is there among those before is 1 or an earlier record's number
-pub parents-at : (next : ℕ) (es before : List SavedNode) → goodNodes next before es ≡ true → (k : ℕ) (e : SavedNode) → At es k e → (present (e .above) before ≡ true) ⊎ Earlier es k (e .above)
+pub parents-at : (next : ℕ) (es before : List SavedNode) → goodNodes next before es ≡ true → (k : ℕ) (e : SavedNode) → At es k e → (present (e .parent) before ≡ true) ⊎ Earlier es k (e .parent)
 unfolding goodNodes present At
 parents-at next [] before h k e a = absurd a
 parents-at next (d ∷ es) before h zero e a = rw (← a) (inl (good-is next before d (and-both (goodNode next before d) (goodNodes next (d ∷ before) es) h .0) .parent))
 parents-at next (d ∷ es) before h (suc k) e a =
-    ⊎-elim (first (eqb (d .number) (e .above)) refl) (λ w. inr (suc (w .0), w .1, omega (arith, w .2), w .3, w .4))
+    ⊎-elim (first (eqb (d .number) (e .parent)) refl) (λ w. inr (suc (w .0), w .1, omega (arith, w .2), w .3, w .4))
     (parents-at next es (d ∷ before) (and-both (goodNode next before d) (goodNodes next (d ∷ before) es) h .1) k e a)
   where
-    first : (t : Bool) → eqb (d .number) (e .above) ≡ t → (t || present (e .above) before) ≡ true → (present (e .above) before ≡ true) ⊎ Earlier (d ∷ es) (suc k) (e .above)
-    first true q p = inr (0, d, omega arith, refl, eqb-true (d .number) (e .above) q)
+    first : (t : Bool) → eqb (d .number) (e .parent) ≡ t → (t || present (e .parent) before) ≡ true → (present (e .parent) before ≡ true) ⊎ Earlier (d ∷ es) (suc k) (e .parent)
+    first true q p = inr (0, d, omega arith, refl, eqb-true (d .number) (e .parent) q)
     first false q p = inl p
 
 -- ---- from the places to the list
@@ -135,29 +135,29 @@ rises-from low high (d ∷ es) l f g = (
       (λ j k c e m. g (suc j) (suc k) c e (omega arith)),
 )
 
-pub below-from : (es : List SavedNode) → ((k : ℕ) (e : SavedNode) → At es k e → (1 ≤ e .above) × (e .above < e .number)) → Below es
+pub below-from : (es : List SavedNode) → ((k : ℕ) (e : SavedNode) → At es k e → (1 ≤ e .parent) × (e .parent < e .number)) → Below es
 unfolding Below At
 below-from [] f = tt
 below-from (d ∷ es) f = (f 0 d refl .0, f 0 d refl .1, below-from es (λ k. f (suc k)))
 
-pub named-from : (es : List SavedNode) → ((k : ℕ) (e : SavedNode) → At es k e → Name (e .called)) → Named es
+pub named-from : (es : List SavedNode) → ((k : ℕ) (e : SavedNode) → At es k e → Name (e .name)) → Named es
 unfolding Named At
 named-from [] f = tt
-named-from (d ∷ es) f = (name-good (d .called) (f 0 d refl), named-from es (λ k. f (suc k)))
+named-from (d ∷ es) f = (name-good (d .name) (f 0 d refl), named-from es (λ k. f (suc k)))
 
-not-beside : (c d : SavedNode) → (d .above ≡ c .above → d .called ≡ c .called → ⊥) → beside c d ≡ false
+not-beside : (c d : SavedNode) → (d .parent ≡ c .parent → d .name ≡ c .name → ⊥) → beside c d ≡ false
 not-beside c d f =
-    elim (ℕ-discrete (c .above) (d .above)) [
-      | yes q ↦ rw (ne-same (c .called) (d .called) (λ p. f (sym q) (sym p)), and-false)
-      | no q ↦ rw (ne-eqb (c .above) (d .above) q)
+    elim (ℕ-discrete (c .parent) (d .parent)) [
+      | yes q ↦ rw (ne-same (c .name) (d .name) (λ p. f (sym q) (sym p)), and-false)
+      | no q ↦ rw (ne-eqb (c .parent) (d .parent) q)
     ]
 
-unused-from : (d : SavedNode) (es : List SavedNode) → ((k : ℕ) (e : SavedNode) → At es k e → d .above ≡ e .above → d .called ≡ e .called → ⊥) → used (d .above) (d .called) es ≡ false
+unused-from : (d : SavedNode) (es : List SavedNode) → ((k : ℕ) (e : SavedNode) → At es k e → d .parent ≡ e .parent → d .name ≡ e .name → ⊥) → used (d .parent) (d .name) es ≡ false
 unfolding used At
 unused-from d [] f = refl
 unused-from d (c ∷ es) f = rw (not-beside c d (f 0 c refl)) (unused-from d es (λ k. f (suc k)))
 
-pub unique-from : (es : List SavedNode) → ((j k : ℕ) (d e : SavedNode) → j < k → At es j d → At es k e → d .above ≡ e .above → d .called ≡ e .called → ⊥) → Unique es
+pub unique-from : (es : List SavedNode) → ((j k : ℕ) (d e : SavedNode) → j < k → At es j d → At es k e → d .parent ≡ e .parent → d .name ≡ e .name → ⊥) → Unique es
 unfolding Unique At
 unique-from [] f = tt
 unique-from (d ∷ es) f = (
@@ -171,7 +171,7 @@ in-at [] k d a = a
 in-at (c ∷ es) zero d a = inl (ap (λ (e : SavedNode). e .number) a)
 in-at (c ∷ es) (suc k) d a = inr (in-at es k d a)
 
-pub parents-from : (all es : List SavedNode) → ((k : ℕ) (e : SavedNode) → At es k e → (e .above ≡ 1) ⊎ HasNumber (e .above) all) → Parents [] all es
+pub parents-from : (all es : List SavedNode) → ((k : ℕ) (e : SavedNode) → At es k e → (e .parent ≡ 1) ⊎ HasNumber (e .parent) all) → Parents [] all es
 unfolding Parents At present
 parents-from all [] f = tt
-parents-from all (d ∷ es) f = (⊎-elim (λ (q : d .above ≡ 1). inl (eq-eqb (d .above) rootNumber q)) (λ q. inr q) (f 0 d refl), parents-from all es (λ k. f (suc k)))
+parents-from all (d ∷ es) f = (⊎-elim (λ (q : d .parent ≡ 1). inl (eq-eqb (d .parent) rootNumber q)) (λ q. inr q) (f 0 d refl), parents-from all es (λ k. f (suc k)))

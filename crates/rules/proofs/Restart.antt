@@ -5,17 +5,17 @@ use Prim.Native.Nat.{ℕ, _+_, _%_, _<_}
 use native.Mathlib.Omega.{arith}
 use Rattle.rules.specs.Instance.{Instance, counterOf}
 use Rattle.rules.specs.Saved.{State, encode}
-use Rattle.rules.specs.Restore.{saved, restoredTo}
+use Rattle.rules.specs.StateRestore.{savedState, stateRestoredTo}
 use Rattle.rules.specs.Calls.{rule}
-use Rattle.rules.specs.Driven.{Driven}
-use Rattle.rules.specs.Laps.{Going, total}
-use Rattle.rules.specs.Trace.{afterAll, stepsOf}
-use Rattle.rules.specs.Restart.{Life, leftBy, stepsIn, Carried, Restarted, Restarts, EveryRestart, EverySavedRestart}
+use Rattle.rules.specs.claims.Driven.{Driven}
+use Rattle.rules.specs.claims.Laps.{Going, total}
+use Rattle.rules.specs.claims.Trace.{afterAll, stepsOf}
+use Rattle.rules.specs.claims.Restart.{Life, leftBy, stepsIn, Carried, Restarted, Restarts, EveryRestart, EverySavedRestart}
 use Rattle.rules.proofs.Laps.{going-append}
 use Rattle.rules.proofs.Trace.{steps-going, all-moved, low-after, laps-from}
 use Rattle.rules.proofs.Encoded.{state-read}
 use Rattle.rules.proofs.Driven.{facts}
-use Rattle.rules.proofs.Restored.{saved-fits, restore-done}
+use Rattle.rules.proofs.SaveThenRestore.{saved-fits, restore-done}
 
 -- the steps of lives go on from the counter that was left
 lives-going : (ls : List Life) (i : Instance) → counterOf i < 256 → Carried i ls → Going (counterOf i) (stepsIn ls)
@@ -36,10 +36,10 @@ laps-over i h c k first ls u = laps-from i h c k first (stepsIn ls) (lives-going
 
 -- a done restore of what a driven instance saved sets its counter
 restored-counter : (i f j : Instance) → Driven i → Restarted i f j → counterOf j ≡ counterOf i
-unfolding saved restoredTo
+unfolding savedState stateRestoredTo
 restored-counter i f j d r =
-    ap counterOf (sym (r .gives) ∙ restore-done f (encode (saved i)) (r .done) .1)
-    ∙ ap (λ (s : State). s .counter) (state-read (saved i) (saved-fits i (facts i d)))
+    ap counterOf (sym (r .gives) ∙ restore-done f (encode (savedState i)) (r .done) .1)
+    ∙ ap (λ (s : State). s .counter) (state-read (savedState i) (saved-fits i (facts i d)))
 
 carried : (ls : List Life) (i : Instance) → Restarts i ls → Carried i ls
 unfolding Restarts Carried

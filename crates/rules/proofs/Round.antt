@@ -8,7 +8,7 @@ use Prim.Native.Nat.{ℕ, zero, suc, _+_, _%_, _<_}
 use native.Mathlib.Omega.{arith}
 use lib.ListN.{length}
 use Rattle.rules.specs.Round.{after, goingRound, visited, firstFree}
-use Rattle.rules.specs.Laps.{Has}
+use Rattle.rules.specs.claims.Laps.{Has}
 use Rattle.rules.proofs.Tests.{known}
 
 -- two ways round, one after the other

@@ -6,8 +6,8 @@ use native.Mathlib.Omega.{arith}
 use lib.ListN.{length, length-append}
 use Rattle.rules.specs.Create.{newInstance}
 use Rattle.rules.specs.Saved.{SavedNode, nodeBytes, nodesBytes}
-use Rattle.rules.specs.Restore.{saved, savedNodes}
-use Rattle.rules.specs.RoundTrip.{ThereAndBack, NoOther, FreshLength, NamesTo, NamesOf, Longest}
+use Rattle.rules.specs.StateRestore.{savedState, savedNodes}
+use Rattle.rules.specs.claims.RoundTrip.{ThereAndBack, NoOther, FreshLength, NamesTo, NamesOf, Longest}
 use Rattle.rules.proofs.Encoded.{node-length, encode-length, state-read, is-accepted}
 use Rattle.rules.proofs.Accepted.{clauses, written, fits}
 
@@ -23,8 +23,8 @@ no-other b h a = record { bytes = sym (written b h a); fits = fits b h a; good =
 
 -- the theorem: a fresh state has 56 bytes
 pub fresh-length : FreshLength
-unfolding saved newInstance savedNodes nodesBytes
-fresh-length q = encode-length (saved (newInstance q))
+unfolding savedState newInstance savedNodes nodesBytes
+fresh-length q = encode-length (savedState (newInstance q))
 
 pub most-bytes : (ns : List SavedNode) → NamesTo 255 ns → length (nodesBytes ns) ≤ 273 * length ns
 unfolding NamesTo nodesBytes

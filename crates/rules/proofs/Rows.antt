@@ -5,7 +5,7 @@ use mathlib.Core.Logic.{inl, inr, ⊎-elim}
 use mathlib.Core.List.{List, [], _∷_}
 use Prim.Native.Nat.{ℕ}
 use Rattle.rules.specs.Outcome.{Row, _⟹_, firstOf}
-use Rattle.rules.specs.Exactly.{Test, _⟼_, FirstIs, Decides}
+use Rattle.rules.specs.claims.Exactly.{Test, _⟼_, FirstIs, Decides}
 
 -- each row holds where its test does and those before it do not, and so does the last resort
 abbrev pub Rows : {A : Type 0} → (A → Type 0) → List (Row A) → A → Type 0

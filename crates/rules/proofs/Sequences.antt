@@ -10,7 +10,7 @@ use lib.ListN.{length, take, drop, take-append-drop}
 use lib.Dec.{leb}
 use borrow.Author.Tests.{leb-true, le-leb, lt-leb, eqb-true, eq-eqb}
 use Rattle.rules.specs.Utf8.{Range, _‥_, table, within, fits, firstRow, sequence, onSequence, endFrom, validTo, wellFormed}
-use Rattle.rules.specs.Sequences.{In, Fills, FillsOne, Text, empty, begins, EveryText}
+use Rattle.rules.specs.claims.Sequences.{In, Fills, FillsOne, Text, empty, begins, EveryText}
 use Rattle.rules.proofs.Tests.{and-both}
 
 -- ---- one byte, and one row

@@ -8,10 +8,10 @@ use native.Mathlib.Omega.{arith}
 use lib.ListN.{length}
 use lib.Dec.{eqb}
 use Rattle.rules.specs.Bytes.{same}
-use Rattle.rules.specs.Tree.{Mount, Node, isChild, childIn, withMount, mountAt, without}
+use Rattle.rules.specs.Tree.{Mount, Node, isChild, childIn, withMount, nodesWithMount, without}
 use Rattle.rules.specs.Saved.{SavedNode, used, goodName}
-use Rattle.rules.specs.Restore.{savedNode, savedNodes, nodesFrom}
-use Rattle.rules.specs.Driven.{Rises, Below, Named, Unique, Shape}
+use Rattle.rules.specs.StateRestore.{savedNode, savedNodes, nodesOfRecords}
+use Rattle.rules.specs.claims.Driven.{Rises, Below, Named, Unique, Shape}
 use Rattle.rules.proofs.Tests.{or-neither}
 use Rattle.rules.proofs.Same.{eqb-sym, same-sym}
 
@@ -19,15 +19,15 @@ use Rattle.rules.proofs.Same.{eqb-sym, same-sym}
 
 -- d stands among those before: a name that is not used there is not d's
 unfoldable pub Among : SavedNode → List SavedNode → Type 0
-Among d before = (x : ℕ) (p : List ℕ) → used x p before ≡ false → (eqb (d .above) x && same (d .called) p) ≡ false
+Among d before = (x : ℕ) (p : List ℕ) → used x p before ≡ false → (eqb (d .parent) x && same (d .name) p) ≡ false
 
 pub among-first : (d : SavedNode) (before : List SavedNode) → Among d (d ∷ before)
 unfolding Among used
-among-first d before x p u = or-neither (eqb (d .above) x && same (d .called) p) (used x p before) u .0
+among-first d before x p u = or-neither (eqb (d .parent) x && same (d .name) p) (used x p before) u .0
 
 pub among-more : (d e : SavedNode) (before : List SavedNode) → Among d before → Among d (e ∷ before)
 unfolding Among used
-among-more d e before a x p u = a x p (or-neither (eqb (e .above) x && same (e .called) p) (used x p before) u .1)
+among-more d e before a x p u = a x p (or-neither (eqb (e .parent) x && same (e .name) p) (used x p before) u .1)
 
 -- ---- nodes, and as they are saved
 
@@ -36,17 +36,17 @@ unfolding savedNodes
 saved-append [] ys = refl
 saved-append (x ∷ xs) ys = ap (λ (l : List SavedNode). savedNode x ∷ l) (saved-append xs ys)
 
-pub saved-mount : (m : Option Mount) (ns : List Node) (x : ℕ) → savedNodes (mountAt m ns x) ≡ savedNodes ns
-unfolding savedNodes mountAt
+pub saved-mount : (m : Option Mount) (ns : List Node) (x : ℕ) → savedNodes (nodesWithMount m ns x) ≡ savedNodes ns
+unfolding savedNodes nodesWithMount
 saved-mount m [] x = refl
 saved-mount m (n ∷ ns) x = go (eqb (n .number) x) (saved-mount m ns x)
   where
-    go : (b : Bool) → savedNodes (mountAt m ns x) ≡ savedNodes ns → savedNodes (cond b (withMount m n ∷ ns) (n ∷ mountAt m ns x)) ≡ savedNode n ∷ savedNodes ns
+    go : (b : Bool) → savedNodes (nodesWithMount m ns x) ≡ savedNodes ns → savedNodes (cond b (withMount m n ∷ ns) (n ∷ nodesWithMount m ns x)) ≡ savedNode n ∷ savedNodes ns
     go true e = refl
     go false e = ap (λ (l : List SavedNode). savedNode n ∷ l) e
 
-pub saved-from : (es : List SavedNode) → savedNodes (nodesFrom es) ≡ es
-unfolding savedNodes nodesFrom
+pub saved-from : (es : List SavedNode) → savedNodes (nodesOfRecords es) ≡ es
+unfolding savedNodes nodesOfRecords
 saved-from [] = refl
 saved-from (e ∷ es) = ap (λ (l : List SavedNode). e ∷ l) (saved-from es)
 
@@ -59,7 +59,7 @@ saved-length (n ∷ ns) = ap suc (saved-length ns)
 pub child-unused : (ns : List Node) (here : ℕ) (p : List ℕ) → childIn ns here p ≡ none → used here p (savedNodes ns) ≡ false
 unfolding childIn isChild savedNodes used
 child-unused [] here p e = refl
-child-unused (n ∷ ns) here p e = go (eqb (n .above) here && same (n .called) p) e (child-unused ns here p)
+child-unused (n ∷ ns) here p e = go (eqb (n .parent) here && same (n .name) p) e (child-unused ns here p)
   where
     go : (b : Bool) → cond b (some (n .number)) (childIn ns here p) ≡ none → (childIn ns here p ≡ none → used here p (savedNodes ns) ≡ false) → (b || used here p (savedNodes ns)) ≡ false
     go true f k = absurd (Option·none-ne-some (n .number) (sym f))
@@ -68,10 +68,10 @@ child-unused (n ∷ ns) here p e = go (eqb (n .above) here && same (n .called) p
 -- ---- the same parent and name, either way round
 
 abbrev pub beside : SavedNode → SavedNode → Bool
-beside d e = eqb (d .above) (e .above) && same (d .called) (e .called)
+beside d e = eqb (d .parent) (e .parent) && same (d .name) (e .name)
 
 pub beside-sym : (d e : SavedNode) → beside d e ≡ beside e d
-beside-sym d e = rw (eqb-sym (d .above) (e .above), same-sym (d .called) (e .called))
+beside-sym d e = rw (eqb-sym (d .parent) (e .parent), same-sym (d .name) (e .name))
 
 -- ---- one more
 
@@ -90,32 +90,32 @@ unfolding Rises
 rises-more low high [] e r q = (omega arith, omega arith)
 rises-more low high (d ∷ es) e r q = (r .0, rises-more (d .number + 1) high es e (r .1) q)
 
-below-more : (es : List SavedNode) (e : SavedNode) → Below es → 1 ≤ e .above → e .above < e .number → Below (es ++ (e ∷ []))
+below-more : (es : List SavedNode) (e : SavedNode) → Below es → 1 ≤ e .parent → e .parent < e .number → Below (es ++ (e ∷ []))
 unfolding Below
 below-more [] e b l h = (l, h, tt)
 below-more (d ∷ es) e b l h = (b .0, b .1, below-more es e (b .2) l h)
 
-named-more : (es : List SavedNode) (e : SavedNode) → Named es → goodName (e .called) ≡ true → Named (es ++ (e ∷ []))
+named-more : (es : List SavedNode) (e : SavedNode) → Named es → goodName (e .name) ≡ true → Named (es ++ (e ∷ []))
 unfolding Named
 named-more [] e n g = (g, tt)
 named-more (d ∷ es) e n g = (n .0, named-more es e (n .1) g)
 
-used-more : (es : List SavedNode) (d e : SavedNode) → used (d .above) (d .called) es ≡ false → beside e d ≡ false → used (d .above) (d .called) (es ++ (e ∷ [])) ≡ false
+used-more : (es : List SavedNode) (d e : SavedNode) → used (d .parent) (d .name) es ≡ false → beside e d ≡ false → used (d .parent) (d .name) (es ++ (e ∷ [])) ≡ false
 unfolding used
 used-more [] d e u f = rw f
 used-more (c ∷ es) d e u f =
-    let o = or-neither (beside c d) (used (d .above) (d .called) es) u in
+    let o = or-neither (beside c d) (used (d .parent) (d .name) es) u in
     rw (o .0) (used-more es d e (o .1) f)
 
-unique-more : (es : List SavedNode) (e : SavedNode) → Unique es → used (e .above) (e .called) es ≡ false → Unique (es ++ (e ∷ []))
+unique-more : (es : List SavedNode) (e : SavedNode) → Unique es → used (e .parent) (e .name) es ≡ false → Unique (es ++ (e ∷ []))
 unfolding Unique used
 unique-more [] e u f = (refl, tt)
 unique-more (d ∷ es) e u f =
-    let o = or-neither (beside d e) (used (e .above) (e .called) es) f in
+    let o = or-neither (beside d e) (used (e .parent) (e .name) es) f in
     (used-more es d e (u .0) (beside-sym e d ∙ o .0), unique-more es e (u .1) (o .1))
 
-pub shape-more : (es : List SavedNode) (high : ℕ) (e : SavedNode) → Shape es high → e .number ≡ high → used (e .above) (e .called) es ≡ false → goodName (e .called) ≡ true
-    → 1 ≤ e .above → e .above < e .number → Shape (es ++ (e ∷ [])) (high + 1)
+pub shape-more : (es : List SavedNode) (high : ℕ) (e : SavedNode) → Shape es high → e .number ≡ high → used (e .parent) (e .name) es ≡ false → goodName (e .name) ≡ true
+    → 1 ≤ e .parent → e .parent < e .number → Shape (es ++ (e ∷ [])) (high + 1)
 shape-more es high e s q u g l h = record {
   rises = rises-more 2 high es e (s .rises) q;
   below = below-more es e (s .below) l h;
@@ -129,10 +129,10 @@ used-less : (ns : List Node) (x here : ℕ) (p : List ℕ) → used here p (save
 unfolding savedNodes without used
 used-less [] x here p u = refl
 used-less (n ∷ ns) x here p u =
-    let o = or-neither (eqb (n .above) here && same (n .called) p) (used here p (savedNodes ns)) u in
+    let o = or-neither (eqb (n .parent) here && same (n .name) p) (used here p (savedNodes ns)) u in
     go (eqb (n .number) x) (o .0) (o .1) (used-less ns x here p (o .1))
   where
-    go : (b : Bool) → (eqb (n .above) here && same (n .called) p) ≡ false → used here p (savedNodes ns) ≡ false → used here p (savedNodes (without ns x)) ≡ false
+    go : (b : Bool) → (eqb (n .parent) here && same (n .name) p) ≡ false → used here p (savedNodes ns) ≡ false → used here p (savedNodes (without ns x)) ≡ false
         → used here p (savedNodes (cond b ns (n ∷ without ns x))) ≡ false
     go true f g k = g
     go false f g k = rw (f, k)
@@ -171,7 +171,7 @@ unique-less (n ∷ ns) x u = go (eqb (n .number) x) (unique-less ns x (u .1))
   where
     go : (t : Bool) → Unique (savedNodes (without ns x)) → Unique (savedNodes (cond t ns (n ∷ without ns x)))
     go true k = u .1
-    go false k = (used-less ns x (n .above) (n .called) (u .0), k)
+    go false k = (used-less ns x (n .parent) (n .name) (u .0), k)
 
 pub shape-less : (ns : List Node) (x high : ℕ) → Shape (savedNodes ns) high → Shape (savedNodes (without ns x)) high
 shape-less ns x high s = record {
@@ -190,5 +190,5 @@ length-less (n ∷ ns) x = go (eqb (n .number) x) (length-less ns x)
     go true k = omega arith
     go false k = omega arith
 
-pub length-mount : (m : Option Mount) (ns : List Node) (x : ℕ) → length (mountAt m ns x) ≡ length ns
-length-mount m ns x = sym (saved-length (mountAt m ns x)) ∙ (ap length (saved-mount m ns x) ∙ saved-length ns)
+pub length-mount : (m : Option Mount) (ns : List Node) (x : ℕ) → length (nodesWithMount m ns x) ≡ length ns
+length-mount m ns x = sym (saved-length (nodesWithMount m ns x)) ∙ (ap length (saved-mount m ns x) ∙ saved-length ns)

@@ -8,14 +8,15 @@ use native.Mathlib.Decide.{ℕ-discrete}
 use lib.ListN.{length, getD, set, length-set, List·getD-eq-default}
 use lib.Seq.{getD-set-same, getD-set-other, set-out}
 use Rattle.rules.specs.Tree.{Mount}
-use Rattle.rules.specs.Instance.{Slot, Instance, emptySlot, heldBy, slotOf, mountOf}
+use Rattle.rules.specs.Instance.{Slot, Instance, emptySlot, heldBy, slotOf, mountOfNode}
 use Rattle.rules.specs.Outcome.{nothing, says}
-use Rattle.rules.specs.Mount.{Request, freedSlots, placed, allocation, mountAs, restoreAs}
-use Rattle.rules.specs.Unmount.{reached, mountUnder, unmounts}
+use Rattle.rules.specs.Mount.{Request, freedSlots, placed, allocation, mountByIndex, restoreMountByIndex}
+use Rattle.rules.specs.Reached.{reached, reachedMount}
+use Rattle.rules.specs.Unmount.{unmounts}
 use Rattle.rules.specs.Saved.{stateOf}
-use Rattle.rules.specs.Restore.{restoredTo}
-use Rattle.rules.specs.Calls.{mount, restore-mount, umount, restore}
-use Rattle.rules.specs.Kept.{indexIn, SlotAfter, same-slot, emptied, handed-out, by-restored, EverySlot}
+use Rattle.rules.specs.StateRestore.{stateRestoredTo}
+use Rattle.rules.specs.Calls.{mount, restore-mount, umount, restore-from-bytes}
+use Rattle.rules.specs.claims.Kept.{indexIn, SlotAfter, same-slot, emptied, handed-out, by-restored, EverySlot}
 use Rattle.rules.proofs.Tests.{le-or-lt}
 use Rattle.rules.proofs.Rows.{each-of}
 use Rattle.rules.proofs.Ways.{every-call}
@@ -59,15 +60,15 @@ freed-slots (some m) slots = length-set slots (m .index) emptySlot
 -- ---- calls
 
 -- another slot than the one that a mount was placed in
-other-slot : (k : ℕ) (r : Request) (x : ℕ) (i : Instance) (j : ℕ) → (j ≡ k → ⊥) → (slotOf (placed k r x i) j ≡ slotOf i j) ⊎ ((indexIn (mountOf (i .tree) x) ≡ some j) × (slotOf (placed k r x i) j ≡ emptySlot))
+other-slot : (k : ℕ) (r : Request) (x : ℕ) (i : Instance) (j : ℕ) → (j ≡ k → ⊥) → (slotOf (placed k r x i) j ≡ slotOf i j) ⊎ ((indexIn (mountOfNode (i .tree) x) ≡ some j) × (slotOf (placed k r x i) j ≡ emptySlot))
 unfolding placed
 other-slot k r x i j n =
-    let slots = freedSlots (mountOf (i .tree) x) (i .indexes .slots) in
+    let slots = freedSlots (mountOfNode (i .tree) x) (i .indexes .slots) in
     let e = getD-set-other slots k j (heldBy (r .tag)) emptySlot n in
-    ⊎-elim (λ a. inl (e ∙ a)) (λ a. inr (a .0, e ∙ a .1)) (freed (mountOf (i .tree) x) (i .indexes .slots) j)
+    ⊎-elim (λ a. inl (e ∙ a)) (λ a. inr (a .0, e ∙ a .1)) (freed (mountOfNode (i .tree) x) (i .indexes .slots) j)
 
-mount-as : (i : Instance) (r : Request) (k : Option ℕ) → allocation i .found ≡ k → (j : ℕ) → SlotAfter i (mount r) (mountAs i r k) j
-unfolding mountAs
+mount-as : (i : Instance) (r : Request) (k : Option ℕ) → allocation i .found ≡ k → (j : ℕ) → SlotAfter i (mount r) (mountByIndex i r k) j
+unfolding mountByIndex
 mount-as i r none e j = same-slot refl
 mount-as i r (some k) e j =
     each-of (λ o. SlotAfter i (mount r) o j) _ _ (
@@ -81,28 +82,25 @@ mount-as i r (some k) e j =
       ),
     )
 
-restored-as : (i : Instance) (k : ℕ) (r : Request) (j : ℕ) → SlotAfter i (restore-mount k r) (restoreAs i k r) j
-unfolding restoreAs
+restored-as : (i : Instance) (k : ℕ) (r : Request) (j : ℕ) → SlotAfter i (restore-mount k r) (restoreMountByIndex i k r) j
+unfolding restoreMountByIndex
 restored-as i k r j =
     each-of (λ o. SlotAfter i (restore-mount k r) o j) _ _ (
       same-slot refl,
-      (
-        same-slot refl,
-        elim (ℕ-discrete j k) [
-          | yes s ↦ by-restored refl (ap {B = Option ℕ} some (sym s))
-          | no n ↦ ⊎-elim same-slot (λ a. emptied refl (a .0) (a .1)) (other-slot k _ _ _ j n)
-        ],
-      ),
+      elim (ℕ-discrete j k) [
+        | yes s ↦ by-restored refl (ap {B = Option ℕ} some (sym s))
+        | no n ↦ ⊎-elim same-slot (λ a. emptied refl (a .0) (a .1)) (other-slot k _ _ _ j n)
+      ],
     )
 
-unmounted : (i : Instance) (path : List ℕ) (x : ℕ) (m : Mount) → reached i path ≡ some x → mountOf (i .tree) x ≡ some m → (j : ℕ) → SlotAfter i (umount path) (unmounts i x m) j
+unmounted : (i : Instance) (path : List ℕ) (x : ℕ) (m : Mount) → reached i path ≡ some x → mountOfNode (i .tree) x ≡ some m → (j : ℕ) → SlotAfter i (umount path) (unmounts i x m) j
 unfolding unmounts
 unmounted i path x m q e j =
-    let old : indexIn (mountUnder i (reached i path)) ≡ some (m .index) = ap (λ (y : Option ℕ). indexIn (mountUnder i y)) q ∙ ap indexIn e in
+    let old : indexIn (reachedMount i (reached i path)) ≡ some (m .index) = ap (λ (y : Option ℕ). indexIn (reachedMount i y)) q ∙ ap indexIn e in
     ⊎-elim same-slot (λ a. emptied refl (old ∙ ap {B = Option ℕ} some (a .0)) (a .1)) (cleared (i .indexes .slots) (m .index) j)
 
-state-restored : (i : Instance) (b : List ℕ) (j : ℕ) → SlotAfter i (restore b) (says nothing (restoredTo (stateOf b) i)) j
-unfolding restoredTo
+state-restored : (i : Instance) (b : List ℕ) (j : ℕ) → SlotAfter i (restore-from-bytes b) (says nothing (stateRestoredTo (stateOf b) i)) j
+unfolding stateRestoredTo
 state-restored i b j = same-slot refl
 
 -- the theorem
@@ -111,7 +109,7 @@ every-slot = every-call (λ i c o. (j : ℕ) → SlotAfter i c o j) (record {
   still = λ i c o q s j. same-slot (ap (λ (a : Instance). slotOf a j) (s .after));
   early = λ i c code e j. same-slot refl;
   mounts = λ i r p j. mount-as i r (allocation i .found) refl j;
-  restores-mount = λ i k r p j. restored-as i k r j;
+  restores-mount = λ i k r p on j. restored-as i k r j;
   unmounted = unmounted;
   sets-removal = λ i j. same-slot refl;
   state-restored = λ i b ok j. state-restored i b j;

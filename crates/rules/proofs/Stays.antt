@@ -11,17 +11,17 @@ use Rattle.rules.specs.Numbers.{rootNumber}
 use Rattle.rules.specs.Tree.{Mount, Node}
 use Rattle.rules.specs.Instance.{Indexes, Tree, Instance, withIndexes, withTree, setMount}
 use Rattle.rules.specs.Outcome.{nothing, Outcome, refused, says}
-use Rattle.rules.specs.Mount.{Request, placed, allocation, mountAs, restoreAs}
+use Rattle.rules.specs.Mount.{Request, placed, allocation, mountByIndex, restoreMountByIndex}
 use Rattle.rules.specs.Unmount.{taken, unmounts}
 use Rattle.rules.specs.Saved.{SavedNode, stateOf}
-use Rattle.rules.specs.Restore.{savedNodes, nodesFrom, fresh, restoredTo}
-use Rattle.rules.specs.Calls.{Call, mount, restore-mount, umount, restore, rule}
-use Rattle.rules.specs.Driven.{Rises}
-use Rattle.rules.specs.Stays.{mountsIn, mountsOf, NoMounting, Stays, EveryStays, RemovalSet, TakenOver, EveryTakenOver, Absent, Distinct, NumbersOnce}
+use Rattle.rules.specs.StateRestore.{savedNodes, nodesOfRecords, fresh, stateRestoredTo}
+use Rattle.rules.specs.Calls.{Call, mount, restore-mount, umount, restore-from-bytes, rule}
+use Rattle.rules.specs.claims.Driven.{Rises}
+use Rattle.rules.specs.claims.Stays.{mountsIn, mountsOf, NoMounting, Stays, EveryStays, RemovalSet, TakenOver, EveryTakenOver, Absent, Distinct, NumbersOnce}
 use Rattle.rules.proofs.Rows.{each-of, either}
 use Rattle.rules.proofs.Ways.{every-call}
 use Rattle.rules.proofs.Driven.{facts, fresh-bare}
-use Rattle.rules.proofs.Restored.{restore-done}
+use Rattle.rules.proofs.SaveThenRestore.{restore-done}
 
 -- ---- what a mounting call keeps
 
@@ -63,8 +63,8 @@ placed-next : (n k : ℕ) (r : Request) (x : ℕ) (i : Instance) → n ≤ i .tr
 unfolding placed
 placed-next n k r x i l = rw (set-next (i .tree) x _) l
 
-mount-as : (i : Instance) (r : Request) (k : Option ℕ) → Keeps i (mountAs i r k)
-unfolding mountAs
+mount-as : (i : Instance) (r : Request) (k : Option ℕ) → Keeps i (mountByIndex i r k)
+unfolding mountByIndex
 mount-as i r none = record { others = rest i _ _; next = omega arith }
 mount-as i r (some k) =
     each-of (Keeps i) _ _ (
@@ -75,15 +75,12 @@ mount-as i r (some k) =
       ),
     )
 
-restored-as : (i : Instance) (k : ℕ) (r : Request) → Keeps i (restoreAs i k r)
-unfolding restoreAs
+restored-as : (i : Instance) (k : ℕ) (r : Request) → Keeps i (restoreMountByIndex i k r)
+unfolding restoreMountByIndex
 restored-as i k r =
     each-of (Keeps i) _ _ (
       record { others = rest i _ _; next = omega arith },
-      (
-        record { others = rest i _ _; next = omega arith },
-        record { others = placed-rest _ _ _ i _ (rest i _ _); next = placed-next _ _ _ _ _ (omega arith) },
-      ),
+      record { others = placed-rest _ _ _ i _ (rest i _ _); next = placed-next _ _ _ _ _ (omega arith) },
     )
 
 taken-next : (i : Instance) (x : ℕ) → taken i x .next ≡ i .tree .next
@@ -109,13 +106,13 @@ still-stays i c o s = record {
   next = λ n. omega (arith, ap (λ (j : Instance). j .tree .next) s);
 }
 
-no-mounts : (es : List SavedNode) → mountsIn (nodesFrom es) ≡ []
-unfolding mountsIn nodesFrom
+no-mounts : (es : List SavedNode) → mountsIn (nodesOfRecords es) ≡ []
+unfolding mountsIn nodesOfRecords
 no-mounts [] = refl
 no-mounts (e ∷ es) = no-mounts es
 
-state-restored : (i : Instance) (b : List ℕ) → fresh i ≡ true → Stays i (restore b) (says nothing (restoredTo (stateOf b) i))
-unfolding restoredTo mountsIn
+state-restored : (i : Instance) (b : List ℕ) → fresh i ≡ true → Stays i (restore-from-bytes b) (says nothing (stateRestoredTo (stateOf b) i))
+unfolding stateRestoredTo mountsIn
 state-restored i b a =
     let f = fresh-bare i a in
     record {
@@ -135,7 +132,7 @@ stays = every-call Stays (record {
   still = λ i c o m s. still-stays i c o (s .after);
   early = λ i c code e. still-stays i c (refused code i) refl;
   mounts = λ i r p. keeps-stays i (mount r) _ (λ n. n .no-mount r refl) (mount-as i r (allocation i .found));
-  restores-mount = λ i k r p. keeps-stays i (restore-mount k r) _ (λ n. n .no-restored k r refl) (restored-as i k r);
+  restores-mount = λ i k r p on. keeps-stays i (restore-mount k r) _ (λ n. n .no-restored k r refl) (restored-as i k r);
   unmounted = λ i path x m q e. keeps-stays i (umount path) _ (λ n. n .no-unmount path refl) (unmounted i x m);
   sets-removal = λ i. record {
     fixed = refl;
@@ -157,8 +154,8 @@ removal-set i = refl
 
 -- ---- what a done state restore takes over
 
-taken-over : (i : Instance) (b : List ℕ) → TakenOver b (restoredTo (stateOf b) i)
-unfolding restoredTo
+taken-over : (i : Instance) (b : List ℕ) → TakenOver b (stateRestoredTo (stateOf b) i)
+unfolding stateRestoredTo
 taken-over i b =
     let n = stateOf b .options .inOpts in
     record { options = refl; no-bits = λ e. eqb-true n 0 (not-false _ e); bits = λ e. eqb-false n 0 (not-true _ e) }
@@ -183,4 +180,4 @@ distinct (n ∷ ns) low high l r =
 
 -- the theorem: no live number is given twice
 pub numbers-once : NumbersOnce
-numbers-once i d = distinct (i .tree .nodes) 2 (i .tree .next) (omega arith) (facts i d .shape .rises)
+numbers-once i d = distinct (i .tree .nodes) 2 (i .tree .next) (omega arith) (facts i d .tree .shape .rises)

@@ -1,5 +1,6 @@
--- Calls that change nothing. Assumes nothing.
+-- Calls that change nothing, the queries first of all. Assumes nothing.
 use mathlib.Core.Path.{_≡_, refl}
+use mathlib.Core.Bool.{Bool}
 use mathlib.Core.Logic.{_⊎_, inl, inr}
 use mathlib.Core.List.{List, []}
 use mathlib.Core.Option.{Option, none, some}
@@ -8,12 +9,15 @@ use native.Mathlib.Omega.{arith}
 use lib.Dec.{eqb}
 use Rattle.rules.specs.Numbers.{rootNumber, indexOf, numberOf, NOENT, INVAL, FULL, NOTFOUND, SMALL}
 use Rattle.rules.specs.Tree.{Mount, parentIn, childIn}
-use Rattle.rules.specs.Instance.{Instance, mountOf, tagOf}
+use Rattle.rules.specs.Instance.{Instance, mountOfNode, tagOf}
 use Rattle.rules.specs.Outcome.{Answer, nothing, Outcome, refused, says, writes}
-use Rattle.rules.specs.Unmount.{reached, mountUnder, walkRule, rootHeld, rootAt, rootRule}
-use Rattle.rules.specs.Lookup.{routeTag, routeTree, routeRule, entryOf, entryAt, lookupBy, lookupRule}
+use Rattle.rules.specs.Reached.{reached, reachedMount, walkRule}
+use Rattle.rules.specs.Rootfs.{rootHeld, rootAt, rootRule}
+use Rattle.rules.specs.Lookup.{routeTag, routeTree, routeRule, entryOf, entryAt, lookupBy, lookupRule, remapRule}
 use Rattle.rules.specs.Listing.{ListRequest, listRule}
-use Rattle.rules.specs.Restore.{saveRule}
+use Rattle.rules.specs.StateRestore.{saveRule}
+use Rattle.rules.specs.Calls.{Query, path-walk, get-rootfs, route, lookup, readdir, remap-attr-id, options, initialized, save-to-bytes, asked}
+use Rattle.rules.specs.claims.Stays.{EveryAsked}
 use Rattle.rules.proofs.Rows.{each-of, either}
 
 -- nothing is visited, and the instance stays; a refusal has no values
@@ -59,7 +63,7 @@ module _ (i : Instance) where
 
   pub root-still : (path : List ℕ) → Still i (rootRule i path)
   unfolding rootRule
-  root-still path = each-of (Still i) _ _ (inval-still, root-at (mountUnder i (reached i path)))
+  root-still path = each-of (Still i) _ _ (inval-still, root-at (reachedMount i (reached i path)))
 
   route-tag : (k x : ℕ) (t : Option ℕ) → Still i (routeTag i k x t)
   unfolding routeTag
@@ -94,7 +98,7 @@ module _ (i : Instance) where
 
   pub lookup-still : (x : ℕ) (p : List ℕ) → Still i (lookupRule i x p)
   unfolding lookupRule
-  lookup-still x p = lookup-by-still (mountOf (i .tree)) x p
+  lookup-still x p = lookup-by-still (mountOfNode (i .tree)) x p
 
   pub list-still : (q : ListRequest) → Still i (listRule i q)
   unfolding listRule
@@ -103,3 +107,24 @@ module _ (i : Instance) where
   pub save-still : (n : ℕ) → Still i (saveRule i n)
   unfolding saveRule
   save-still n = each-of (Still i) _ _ (still-refused SMALL (λ e. omega arith), still-writes _)
+
+  remap-still : (out : Bool) (uid gid : ℕ) → Still i (remapRule i out uid gid)
+  unfolding remapRule
+  remap-still out uid gid = still-says _
+
+  pub asked-still : (q : Query) → Still i (asked i q)
+  asked-still (path-walk path) = walk-still path
+  asked-still (get-rootfs path) = root-still path
+  asked-still (route x) = route-still x
+  asked-still (lookup x p) = lookup-still x p
+  asked-still (readdir q) = list-still q
+  asked-still (remap-attr-id out uid gid) = remap-still out uid gid
+  asked-still options = still-says _
+  asked-still initialized = still-says _
+  asked-still (save-to-bytes n) = save-still n
+
+-- the theorem: a query leaves the instance, and makes no allocation
+pub asked-stays : EveryAsked
+asked-stays i q =
+    let s = asked-still i q in
+    record { after = s .after; visits = s .visits; found = s .found }

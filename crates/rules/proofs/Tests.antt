@@ -7,7 +7,7 @@ use Prim.Native.Nat.{ℕ, zero, suc, _≤_, _<_}
 use native.Mathlib.Omega.{arith}
 use native.Mathlib.Decide.{decLe}
 use lib.ListN.{getD}
-use Rattle.rules.specs.Saved.{every}
+use Rattle.rules.specs.Tests.{every}
 
 pub known : (b : Bool) → (b ≡ true) ⊎ (b ≡ false)
 known true = inl refl

@@ -9,13 +9,13 @@ use lib.ListN.{length}
 use lib.Seq.{getD-set-same}
 use Rattle.rules.specs.Round.{goingRound, untilTwice, visited, allocate}
 use Rattle.rules.specs.Tree.{Mount}
-use Rattle.rules.specs.Instance.{Instance, counterOf, emptySlot, heldBy, tagOf, mountOf}
+use Rattle.rules.specs.Instance.{Instance, counterOf, emptySlot, heldBy, tagOf, mountOfNode}
 use Rattle.rules.specs.Outcome.{Answer, Outcome, refused}
-use Rattle.rules.specs.Mount.{Request, freed, placed, allocation, stepped, allocated, walkedTo, ended, mountAs, mountRule, restoreAs}
+use Rattle.rules.specs.Mount.{Request, freed, placed, allocation, stepped, allocated, walkedTo, ended, mountByIndex, mountRule, restoreMountByIndex}
 use Rattle.rules.specs.Unmount.{unmounts}
-use Rattle.rules.specs.Restore.{restoreRule}
+use Rattle.rules.specs.StateRestore.{restoreStateRule}
 use Rattle.rules.specs.Calls.{Call, mount, rule}
-use Rattle.rules.specs.Trace.{NoRestore, Moves, Keeps, MountAnswers, EveryMount, OnlyMounts}
+use Rattle.rules.specs.claims.Trace.{NoStateRestore, Moves, Keeps, MountAnswers, EveryMount, OnlyMounts}
 use Rattle.rules.proofs.Rows.{each-of}
 use Rattle.rules.proofs.Ways.{mount-passed, every-call}
 use Rattle.rules.proofs.Slots.{freed-slots}
@@ -32,11 +32,11 @@ moves i j r code a e = record { call = refl; visits = refl; found = refl; counte
 pub placed-tag : (k : ℕ) (r : Request) (x : ℕ) (i : Instance) → k < length (i .indexes .slots) → tagOf (placed k r x i) k ≡ some (r .tag)
 unfolding placed
 placed-tag k r x i h =
-    let j = freed (mountOf (i .tree) x) i in
-    rw (getD-set-same (j .indexes .slots) k (heldBy (r .tag)) emptySlot (rw (freed-slots (mountOf (i .tree) x) (i .indexes .slots)) h))
+    let j = freed (mountOfNode (i .tree) x) i in
+    rw (getD-set-same (j .indexes .slots) k (heldBy (r .tag)) emptySlot (rw (freed-slots (mountOfNode (i .tree) x) (i .indexes .slots)) h))
 
-mount-as : (i : Instance) (r : Request) (k : Option ℕ) → Moves i (mount r) (mountAs i r k) r
-unfolding mountAs
+mount-as : (i : Instance) (r : Request) (k : Option ℕ) → Moves i (mount r) (mountByIndex i r k) r
+unfolding mountByIndex
 mount-as i r none = moves i (stepped i) r _ _ refl
 mount-as i r (some k) =
     let j = walkedTo (r .path) (stepped i) in
@@ -44,8 +44,8 @@ mount-as i r (some k) =
     (moves i (stepped i) r _ _ refl, (moves i j r _ _ refl, moves i _ r _ _ (placed-counter _ _ _ _)))
 
 -- a done one answers what its allocation found
-answers-as : (i : Instance) (r : Request) (k : Option ℕ) → allocation i .found ≡ k → mountAs i r k .code ≡ 0 → (j : ℕ) × MountAnswers i r (mountAs i r k) j
-unfolding mountAs
+answers-as : (i : Instance) (r : Request) (k : Option ℕ) → allocation i .found ≡ k → mountByIndex i r k .code ≡ 0 → (j : ℕ) × MountAnswers i r (mountByIndex i r k) j
+unfolding mountByIndex
 answers-as i r none e = λ z. absurd (omega arith)
 answers-as i r (some k) e =
     each-of (λ (o : Outcome). o .code ≡ 0 → (j : ℕ) × MountAnswers i r o j) _ _ (
@@ -70,23 +70,17 @@ mounts-allocate i r = record {
 }
 
 abbrev Turns : Instance → Call → Outcome → Type 0
-Turns i c o = NoRestore c o → Keeps i o ⊎ ((r : Request) × Moves i c o r)
+Turns i c o = NoStateRestore c o → Keeps i o ⊎ ((r : Request) × Moves i c o r)
 
 -- ---- the others
 
 keeps-refused : (i : Instance) (code : ℕ) → Keeps i (refused code i)
 keeps-refused i code = record { visits = refl; found = refl; counter = refl }
 
-restored-as : (i : Instance) (k : ℕ) (r : Request) → Keeps i (restoreAs i k r)
-unfolding restoreAs
+restored-as : (i : Instance) (k : ℕ) (r : Request) → Keeps i (restoreMountByIndex i k r)
+unfolding restoreMountByIndex
 restored-as i k r =
-    each-of (Keeps i) _ _ (
-      keeps-refused i _,
-      (
-        record { visits = refl; found = refl; counter = refl },
-        record { visits = refl; found = refl; counter = placed-counter _ _ _ _ },
-      ),
-    )
+    each-of (Keeps i) _ _ (record { visits = refl; found = refl; counter = refl }, record { visits = refl; found = refl; counter = placed-counter _ _ _ _ })
 
 unmounted : (i : Instance) (x : ℕ) (m : Mount) → Keeps i (unmounts i x m)
 unfolding unmounts
@@ -98,7 +92,7 @@ only-mounts = every-call Turns (record {
   still = λ i c o m s un. inl (record { visits = s .visits; found = s .found; counter = ap counterOf (s .after) });
   early = λ i c code e un. inl (keeps-refused i code);
   mounts = λ i r p un. inr (r, mount-as i r (allocation i .found));
-  restores-mount = λ i k r p un. inl (restored-as i k r);
+  restores-mount = λ i k r p on un. inl (restored-as i k r);
   unmounted = λ i path x m q e un. inl (unmounted i x m);
   sets-removal = λ i un. inl (record { visits = refl; found = refl; counter = refl });
   state-restored = λ i b ok un. absurd (un b refl refl);
@@ -115,11 +109,11 @@ unfolding allocation allocate untilTwice goingRound visited
 visits-some i = omega arith
 
 -- a call that handed an index out is no state restore
-restore-finds : (i : Instance) (b : List ℕ) → restoreRule i b .found ≡ none
-unfolding restoreRule
+restore-finds : (i : Instance) (b : List ℕ) → restoreStateRule i b .found ≡ none
+unfolding restoreStateRule
 restore-finds i b = each-of (λ (o : Outcome). o .found ≡ none) _ _ (refl, (refl, (refl, (refl, refl))))
 
-pub found-no-restore : (i : Instance) (c : Call) (k : ℕ) → rule i c .found ≡ some k → NoRestore c (rule i c)
+pub found-no-restore : (i : Instance) (c : Call) (k : ℕ) → rule i c .found ≡ some k → NoStateRestore c (rule i c)
 unfolding rule
 found-no-restore i c k e b is done =
     Option·none-ne-some k (sym (ap (λ (d : Call). rule i d .found) is ∙ restore-finds i b) ∙ e)

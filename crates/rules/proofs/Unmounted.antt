@@ -10,13 +10,14 @@ use lib.Dec.{eqb}
 use borrow.Author.Tests.{eqb-true, eqb-false, ne-eqb}
 use Rattle.rules.specs.Numbers.{rootNumber}
 use Rattle.rules.specs.Tree.{Mount, Node, nodeIn, isKnown, without}
-use Rattle.rules.specs.Instance.{Tree, Instance, mountOf, setMount, cut}
+use Rattle.rules.specs.Instance.{Tree, Instance, mountOfNode, setMount, cut}
 use Rattle.rules.specs.Outcome.{Outcome}
-use Rattle.rules.specs.Unmount.{reached, mountUnder, taken, unmounts, unmountAt, unmountRule}
-use Rattle.rules.specs.Restore.{savedNodes}
+use Rattle.rules.specs.Reached.{reached, reachedMount}
+use Rattle.rules.specs.Unmount.{taken, unmounts, unmountAt, unmountRule}
+use Rattle.rules.specs.StateRestore.{savedNodes}
 use Rattle.rules.specs.Calls.{umount, rule}
-use Rattle.rules.specs.Driven.{Rises, Rooted}
-use Rattle.rules.specs.Found.{Unmounted, EveryUnmounted}
+use Rattle.rules.specs.claims.Driven.{Rises, Rooted}
+use Rattle.rules.specs.claims.Found.{Unmounted, EveryUnmounted}
 use Rattle.rules.proofs.Rows.{first-of, either}
 use Rattle.rules.proofs.Walk.{reached-live}
 use Rattle.rules.proofs.Driven.{facts, reached-rooted}
@@ -65,7 +66,7 @@ module _ (i : Instance) (x : ℕ) (high : ℕ) (r : Rises 2 (savedNodes (i .tree
       go false e (inr (n, q)) = rw (e, node-set none (i .tree .nodes) x n q)
 
   left : Unmounted i (taken i x) x
-  unfolding taken isKnown mountOf
+  unfolding taken isKnown mountOfNode
   left = go (i .removal) refl (eqb x rootNumber) refl
     where
       go : (a : Bool) → i .removal ≡ a → (b : Bool) → eqb x rootNumber ≡ b → Unmounted i (cond (a && not b) (cut x off) off) x
@@ -102,11 +103,11 @@ module _ (i : Instance) (path : List ℕ) where
 
   takes-off : TakesOff (rule i (umount path))
   unfolding rule unmountRule
-  takes-off = first-of TakesOff _ _ (λ a z. absurd (omega arith), λ a. takes-at (reached i path) (mountUnder i (reached i path)) refl)
+  takes-off = first-of TakesOff _ _ (λ a z. absurd (omega arith), λ a. takes-at (reached i path) (reachedMount i (reached i path)) refl)
 
 -- the theorem
 pub every-unmounted : EveryUnmounted
 every-unmounted i d path z =
     let w = takes-off i path z in
     let x = w .0 in
-    (x, w .1, subst (λ (t : Tree). Unmounted i t x) (sym (w .2)) (left i x (i .tree .next) (facts i d .shape .rises) (reached-rooted i d path x (w .1))))
+    (x, w .1, subst (λ (t : Tree). Unmounted i t x) (sym (w .2)) (left i x (i .tree .next) (facts i d .tree .shape .rises) (reached-rooted i d path x (w .1))))

@@ -12,10 +12,10 @@ use lib.Dec.{eqb}
 use borrow.Author.Tests.{ne-eqb}
 use Rattle.rules.specs.Instance.{Slot, Instance, heldIn}
 use Rattle.rules.specs.Calls.{Call, rule}
-use Rattle.rules.specs.Laps.{Step, lastFound, Has, Met}
-use Rattle.rules.specs.Trace.{stepsOf}
-use Rattle.rules.specs.Kept.{named, namedIn, handedOut, same-slot, emptied, handed-out, by-restored}
-use Rattle.rules.specs.Wait.{othersHeld, EveryWait}
+use Rattle.rules.specs.claims.Laps.{SearchStep, lastFound, Has, Met}
+use Rattle.rules.specs.claims.Trace.{stepsOf}
+use Rattle.rules.specs.claims.Kept.{named, namedIn, handedOut, same-slot, emptied, handed-out, by-restored}
+use Rattle.rules.specs.claims.Wait.{othersHeld, EveryWait}
 use Rattle.rules.proofs.Trace.{laps}
 use Rattle.rules.proofs.Slots.{every-slot}
 use Rattle.rules.proofs.Kept.{has-first, has-later}
@@ -74,7 +74,7 @@ has-right j [] ls h = h
 has-right j (k ∷ ks) ls h = inr (has-right j ks ls h)
 
 -- what the last step hands out is handed out
-last-has : (ss : List Step) (x : Option ℕ) (k : ℕ) → lastFound x ss ≡ some k → (x ≡ some k) ⊎ Has k (handedOut ss)
+last-has : (ss : List SearchStep) (x : Option ℕ) (k : ℕ) → lastFound x ss ≡ some k → (x ≡ some k) ⊎ Has k (handedOut ss)
 unfolding lastFound handedOut
 last-has [] x k e = inl e
 last-has (s ∷ ss) x k e = inr (⊎-elim (λ f. has-first (s .found) k (handedOut ss) f) (λ w. has-later (s .found) k (handedOut ss) w) (last-has ss (s .found) k e))

@@ -12,16 +12,16 @@ use lib.Dec.{eqb}
 use borrow.Author.Tests.{eqb-true, eq-eqb, ne-eqb}
 use Rattle.rules.specs.Numbers.{rootNumber}
 use Rattle.rules.specs.Bytes.{same}
-use Rattle.rules.specs.Path.{Part, name, parent, components, tooLong}
+use Rattle.rules.specs.Path.{Part, Normal, ParentDir, components, tooLong}
 use Rattle.rules.specs.Utf8.{wellFormed}
-use Rattle.rules.specs.Tree.{Node, Made, bare, isChild, childIn, nodeIn, aboveOf, parentIn, orMake, step, makes, atRoot}
+use Rattle.rules.specs.Tree.{Node, Made, bare, isChild, childIn, nodeIn, parentOf, parentIn, orMake, mountStep, makes, atRoot}
 use Rattle.rules.specs.Instance.{Tree}
 use Rattle.rules.specs.Saved.{goodName}
-use Rattle.rules.specs.Restore.{savedNode, savedNodes}
+use Rattle.rules.specs.StateRestore.{savedNode, savedNodes}
 use Rattle.rules.specs.Mount.{planned}
-use Rattle.rules.specs.Driven.{Rises, Shape, Rooted, top, under}
-use Rattle.rules.specs.Names.{EachName, GoodName}
-use Rattle.rules.specs.Walk.{Walking, PlannedWalking}
+use Rattle.rules.specs.claims.Driven.{Rises, Shape, Rooted, top, under}
+use Rattle.rules.specs.claims.Names.{EachName, GoodName}
+use Rattle.rules.specs.claims.Walk.{Walking, PlannedWalking}
 use Rattle.rules.proofs.Parts.{rest-names}
 use Rattle.rules.proofs.Names.{components-good}
 use Rattle.rules.proofs.Shape.{saved-append, child-unused, shape-more, rises-end}
@@ -38,29 +38,29 @@ unfolding parentIn
 rooted-up ns x top = top
 rooted-up ns x (under y n e r) = go (eqb x rootNumber)
   where
-    go : (b : Bool) → Rooted ns (cond b rootNumber (aboveOf (nodeIn ns x)))
+    go : (b : Bool) → Rooted ns (cond b rootNumber (parentOf (nodeIn ns x)))
     go true = top
     go false = rw e r
 
 -- ---- down
 
 abbrev Place : List Node → ℕ → ℕ → ℕ → ℕ → Type 0
-Place ns low high here x = (n : Node) × (nodeIn ns x ≡ some n) × (n .above ≡ here) × (low ≤ x) × (x < high)
+Place ns low high here x = (n : Node) × (nodeIn ns x ≡ some n) × (n .parent ≡ here) × (low ≤ x) × (x < high)
 
 child-place : (ns : List Node) (low high here : ℕ) (p : List ℕ) (x : ℕ) → Rises low (savedNodes ns) high → childIn ns here p ≡ some x → Place ns low high here x
 unfolding childIn isChild nodeIn savedNodes Rises
 child-place [] low high here p x r e = absurd (Option·none-ne-some x e)
 child-place (n ∷ ns) low high here p x r e =
-    go (eqb (n .above) here) refl (same (n .called) p) e (child-place ns (n .number + 1) high here p x (r .1))
+    go (eqb (n .parent) here) refl (same (n .name) p) e (child-place ns (n .number + 1) high here p x (r .1))
   where
     later : Place ns (n .number + 1) high here x → Place (n ∷ ns) low high here x
     later (m, f, g, l, h) = (m, rw (ne-eqb (n .number) x (λ q. omega arith)) f, g, omega (arith, r .0), h)
 
-    go : (a : Bool) → eqb (n .above) here ≡ a → (b : Bool) → cond (a && b) (some (n .number)) (childIn ns here p) ≡ some x
+    go : (a : Bool) → eqb (n .parent) here ≡ a → (b : Bool) → cond (a && b) (some (n .number)) (childIn ns here p) ≡ some x
         → (childIn ns here p ≡ some x → Place ns (n .number + 1) high here x) → Place (n ∷ ns) low high here x
     go true q true f k =
         let s : n .number ≡ x = cc in
-        (n, rw (eq-eqb (n .number) x s), eqb-true (n .above) here q, omega (arith, r .0), omega (arith, rises-end (n .number + 1) high (savedNodes ns) (r .1)))
+        (n, rw (eq-eqb (n .number) x s), eqb-true (n .parent) here q, omega (arith, r .0), omega (arith, rises-end (n .number + 1) high (savedNodes ns) (r .1)))
     go true q false f k = later (k f)
     go false q b f k = later (k f)
 
@@ -92,7 +92,7 @@ node-second (m ∷ ns) ms x e = go (eqb (m .number) x) e (node-second ns ms x)
 
 reached-append : (ns ms : List Node) (x : ℕ) → Rooted ns x → Rooted (ns ++ ms) x
 reached-append ns ms x top = top
-reached-append ns ms x (under y n e r) = under y n (node-append ns ms y n e) (reached-append ns ms (n .above) r)
+reached-append ns ms x (under y n e r) = under y n (node-append ns ms y n e) (reached-append ns ms (n .parent) r)
 
 -- a new number is that of the last node
 node-last : (ns : List Node) (low high : ℕ) (n : Node) → Rises low (savedNodes ns) high → n .number ≡ high → nodeIn (ns ++ (n ∷ [])) high ≡ some n
@@ -127,10 +127,10 @@ reached-bounds ns high x r (under y n e h) =
 -- what holds of the nodes of a tree, and with a new node put last, holds with those that a mount walk makes
 module _ (P : List Node → Type 0) (t : Tree) (more : (ns : List Node) (n : Node) → t .next ≤ n .number → n .mount ≡ none → P ns → P (ns ++ (n ∷ []))) where
   pub makes-all : (ps : List Part) (m : Made) → P (t .nodes ++ m .nodes) → P (t .nodes ++ makes (t .nodes) (t .next) m ps .nodes)
-  unfolding makes step
+  unfolding makes mountStep
   makes-all [] m h = h
-  makes-all (parent at ∷ ps) m h = makes-all ps _ h
-  makes-all (name at p ∷ ps) m h = makes-all ps _ (made (childIn (t .nodes ++ m .nodes) (m .here) p))
+  makes-all (ParentDir at ∷ ps) m h = makes-all ps _ h
+  makes-all (Normal at p ∷ ps) m h = makes-all ps _ (made (childIn (t .nodes ++ m .nodes) (m .here) p))
     where
       made : (y : Option ℕ) → P (t .nodes ++ orMake (t .next) m p y .nodes)
       made none =
@@ -157,10 +157,10 @@ module _ (live : List Node) (next : ℕ) where
         reached = rw (← append-assoc live (m .nodes) (n ∷ [])) (under x n found (reached-append (live ++ m .nodes) (n ∷ []) (m .here) (w .reached)));
       }
 
-  pub step-walking : (m : Made) (p : Part) (ps : List Part) → EachName GoodName (p ∷ ps) → Walking live next m → Walking live next (step live next m p)
-  unfolding step EachName
-  step-walking m (parent at) ps g w = record { shape = w .shape; reached = rooted-up (live ++ m .nodes) (m .here) (w .reached) }
-  step-walking m (name at p) ps g w = go (childIn (live ++ m .nodes) (m .here) p) refl
+  pub step-walking : (m : Made) (p : Part) (ps : List Part) → EachName GoodName (p ∷ ps) → Walking live next m → Walking live next (mountStep live next m p)
+  unfolding mountStep EachName
+  step-walking m (ParentDir at) ps g w = record { shape = w .shape; reached = rooted-up (live ++ m .nodes) (m .here) (w .reached) }
+  step-walking m (Normal at p) ps g w = go (childIn (live ++ m .nodes) (m .here) p) refl
     where
       go : (o : Option ℕ) → childIn (live ++ m .nodes) (m .here) p ≡ o → Walking live next (orMake next m p o)
       go (some x) e = record { shape = w .shape; reached = rooted-down (live ++ m .nodes) (next + length (m .nodes)) (m .here) p x (w .shape .rises) e (w .reached) }
@@ -169,7 +169,7 @@ module _ (live : List Node) (next : ℕ) where
   makes-walking : (m : Made) (ps : List Part) → EachName GoodName ps → Walking live next m → Walking live next (makes live next m ps)
   unfolding makes
   makes-walking m [] g w = w
-  makes-walking m (p ∷ ps) g w = makes-walking (step live next m p) ps (rest-names GoodName p ps g) (step-walking m p ps g w)
+  makes-walking m (p ∷ ps) g w = makes-walking (mountStep live next m p) ps (rest-names GoodName p ps g) (step-walking m p ps g w)
 
 -- the theorem: of a path that rows 1 and 2 of a mount let pass
 pub planned-walking : PlannedWalking

@@ -14,19 +14,19 @@ use Rattle.rules.specs.Numbers.{maxIno, TOOLONG, INVAL, INODE, FULL, NOR
 use Rattle.rules.specs.Utf8.{wellFormed}
 use Rattle.rules.specs.Path.{rooted, tooLong}
 use Rattle.rules.specs.Tree.{Mount}
-use Rattle.rules.specs.Instance.{Instance, mountOf, removing}
+use Rattle.rules.specs.Instance.{Instance, mountOfNode, removing}
 use Rattle.rules.specs.Outcome.{nothing, Outcome, refused, says, firstOf}
 use Rattle.rules.specs.Create.{unknown}
-use Rattle.rules.specs.Mount.{Request, noRoom, allocation, mountAs, mountRule, restoreAs, restoreMountRule}
-use Rattle.rules.specs.Unmount.{reached, mountUnder, unmounts, unmountAt, unmountRule}
-use Rattle.rules.specs.Lookup.{remapRule}
+use Rattle.rules.specs.Mount.{Request, noRoom, allocation, mountByIndex, mountRule, restoreMountByIndex, restoreMountRule}
+use Rattle.rules.specs.Reached.{reached, reachedMount}
+use Rattle.rules.specs.Unmount.{unmounts, unmountAt, unmountRule}
 use Rattle.rules.specs.Saved.{accepted, stateOf}
-use Rattle.rules.specs.Restore.{fresh, restoredTo, restoreRule}
-use Rattle.rules.specs.Calls.{Call, mount, restore-mount, umount, set-remove-pseudo-root, path-walk, get-rootfs, route, lookup, readdir, remap-attr-id, options, initialized, save, restore, rule}
-use Rattle.rules.specs.Leaves.{ByRow2, ByRow3}
+use Rattle.rules.specs.StateRestore.{fresh, stateRestoredTo, restoreStateRule}
+use Rattle.rules.specs.Calls.{Call, mount, restore-mount, umount, set-remove-pseudo-root, restore-from-bytes, ask, rule}
+use Rattle.rules.specs.claims.Leaves.{ByRow2, ByRow3}
 use Rattle.rules.proofs.Tests.{or-neither}
 use Rattle.rules.proofs.Rows.{first-of}
-use Rattle.rules.proofs.Still.{Still, still-refused, still-says, walk-still, root-still, route-still, lookup-still, list-still, save-still}
+use Rattle.rules.proofs.Still.{Still, still-refused, asked-still}
 
 -- the call is a mount or a restored mount
 abbrev pub isMount : Call → Bool
@@ -34,16 +34,8 @@ isMount (mount r) = true
 isMount (restore-mount k r) = true
 isMount (umount path) = false
 isMount set-remove-pseudo-root = false
-isMount (path-walk path) = false
-isMount (get-rootfs path) = false
-isMount (route x) = false
-isMount (lookup x p) = false
-isMount (readdir q) = false
-isMount (remap-attr-id out uid gid) = false
-isMount options = false
-isMount initialized = false
-isMount (save n) = false
-isMount (restore b) = false
+isMount (restore-from-bytes b) = false
+isMount (ask q) = false
 
 -- a request that rows 1 to 4 let pass
 pub record Passed (i : Instance) (r : Request) : Type 0 where
@@ -89,7 +81,7 @@ module _ (r : Request) where
   mount-row3 l q (inr (k, e)) = let z : _≡_ {A = ℕ} 0 1 = cc in absurd (omega arith)
 
   -- it is no mount
-  pub restored-row2 : (k : ℕ) → ByRow2 (restore-mount k r)
+  restored-row2 : (k : ℕ) → ByRow2 (restore-mount k r)
   restored-row2 k q e = let z : _≡_ {A = ℕ} 0 1 = cc in absurd (omega arith)
 
   restored-row3 : (k : ℕ) → maxIno < r .largest → ByRow3 (restore-mount k r)
@@ -99,7 +91,7 @@ module _ (r : Request) where
 -- ---- mount
 
 -- one that rows 1 to 4 let pass goes by what the search finds, over the slots as they are before it (R90)
-pub mount-passed : (i : Instance) (r : Request) → Passed i r → mountRule i r ≡ mountAs i r (allocation i .found)
+pub mount-passed : (i : Instance) (r : Request) → Passed i r → mountRule i r ≡ mountByIndex i r (allocation i .found)
 unfolding mountRule firstOf
 mount-passed i r p = rw (p .short, p .utf8, le-ltb maxIno (r .largest) (p .largest), p .room)
 
@@ -110,11 +102,11 @@ module _ (P : Instance → Call → Outcome → Type 0) where
   pub record Cases : Type 0 where
     pub still : (i : Instance) (c : Call) (o : Outcome) → isMount c ≡ false → Still i o → P i c o
     pub early : (i : Instance) (c : Call) (code : ℕ) → Early c code → P i c (refused code i)
-    pub mounts : (i : Instance) (r : Request) → Passed i r → P i (mount r) (mountAs i r (allocation i .found))
-    pub restores-mount : (i : Instance) (k : ℕ) (r : Request) → Passed i r → P i (restore-mount k r) (restoreAs i k r)
-    pub unmounted : (i : Instance) (path : List ℕ) (x : ℕ) (m : Mount) → reached i path ≡ some x → mountOf (i .tree) x ≡ some m → P i (umount path) (unmounts i x m)
+    pub mounts : (i : Instance) (r : Request) → Passed i r → P i (mount r) (mountByIndex i r (allocation i .found))
+    pub restores-mount : (i : Instance) (k : ℕ) (r : Request) → Passed i r → rooted (r .path) ≡ true → P i (restore-mount k r) (restoreMountByIndex i k r)
+    pub unmounted : (i : Instance) (path : List ℕ) (x : ℕ) (m : Mount) → reached i path ≡ some x → mountOfNode (i .tree) x ≡ some m → P i (umount path) (unmounts i x m)
     pub sets-removal : (i : Instance) → P i set-remove-pseudo-root (says nothing (removing i))
-    pub state-restored : (i : Instance) (b : List ℕ) → Restorable i b → P i (restore b) (says nothing (restoredTo (stateOf b) i))
+    pub state-restored : (i : Instance) (b : List ℕ) → Restorable i b → P i (restore-from-bytes b) (says nothing (stateRestoredTo (stateOf b) i))
 
   module _ (h : Cases) (i : Instance) where
     mount-case : (r : Request) → P i (mount r) (mountRule i r)
@@ -150,7 +142,10 @@ module _ (P : Instance → Call → Outcome → Type 0) where
                 λ d. early _ (too-large c (restored-row3 r k (ltb-true maxIno (r .largest) d))),
                 λ d. (
                   λ n. early _ (plainly c NOROOM refl),
-                  λ n. h .restores-mount i k r (record { short = a; utf8 = not-false _ b; largest = ltb-false maxIno (r .largest) d; room = n }),
+                  λ n. (
+                    λ s. early _ (not-utf8 c (restored-row2 r k)),
+                    λ s. h .restores-mount i k r (record { short = a; utf8 = not-false _ b; largest = ltb-false maxIno (r .largest) d; room = n }) (not-false _ s),
+                  ),
                 ),
               ),
             ),
@@ -161,7 +156,7 @@ module _ (P : Instance → Call → Outcome → Type 0) where
     refusal : (c : Call) → isMount c ≡ false → (code : ℕ) → (code ≡ FULL → ⊥) → P i c (refused code i)
     refusal c q code f = h .still i c (refused code i) q (still-refused i code f)
 
-    unmount-at : (path : List ℕ) (x : Option ℕ) (m : Option Mount) → reached i path ≡ x → mountUnder i x ≡ m → P i (umount path) (unmountAt i x m)
+    unmount-at : (path : List ℕ) (x : Option ℕ) (m : Option Mount) → reached i path ≡ x → reachedMount i x ≡ m → P i (umount path) (unmountAt i x m)
     unfolding unmountAt
     unmount-at path none m q e = refusal (umount path) refl _ (λ f. omega arith)
     unmount-at path (some x) none q e = refusal (umount path) refl _ (λ f. omega arith)
@@ -172,14 +167,14 @@ module _ (P : Instance → Call → Outcome → Type 0) where
     unmount-case path =
         first-of (P i (umount path)) _ _ (
           λ a. refusal (umount path) refl _ (λ f. omega arith),
-          λ a. unmount-at path (reached i path) (mountUnder i (reached i path)) refl refl,
+          λ a. unmount-at path (reached i path) (reachedMount i (reached i path)) refl refl,
         )
 
-    restore-case : (b : List ℕ) → P i (restore b) (restoreRule i b)
-    unfolding restoreRule
+    restore-case : (b : List ℕ) → P i (restore-from-bytes b) (restoreStateRule i b)
+    unfolding restoreStateRule
     restore-case b =
-        let refuse = refusal (restore b) refl in
-        first-of (P i (restore b)) _ _ (
+        let refuse = refusal (restore-from-bytes b) refl in
+        first-of (P i (restore-from-bytes b)) _ _ (
           λ a. refuse _ (λ f. omega arith),
           λ a. (
             λ c. refuse _ (λ f. omega arith),
@@ -194,18 +189,10 @@ module _ (P : Instance → Call → Outcome → Type 0) where
         )
 
   pub every-call : Cases → (i : Instance) (c : Call) → P i c (rule i c)
-  unfolding rule remapRule
+  unfolding rule
   every-call h i (mount r) = mount-case h i r
   every-call h i (restore-mount k r) = restore-mount-case h i k r
   every-call h i (umount path) = unmount-case h i path
   every-call h i set-remove-pseudo-root = h .sets-removal i
-  every-call h i (path-walk path) = h .still i _ _ refl (walk-still i path)
-  every-call h i (get-rootfs path) = h .still i _ _ refl (root-still i path)
-  every-call h i (route x) = h .still i _ _ refl (route-still i x)
-  every-call h i (lookup x p) = h .still i _ _ refl (lookup-still i x p)
-  every-call h i (readdir q) = h .still i _ _ refl (list-still i q)
-  every-call h i (remap-attr-id out uid gid) = h .still i _ _ refl (still-says i _)
-  every-call h i options = h .still i _ _ refl (still-says i _)
-  every-call h i initialized = h .still i _ _ refl (still-says i _)
-  every-call h i (save n) = h .still i _ _ refl (save-still i n)
-  every-call h i (restore b) = restore-case h i b
+  every-call h i (restore-from-bytes b) = restore-case h i b
+  every-call h i (ask q) = h .still i _ _ refl (asked-still i q)

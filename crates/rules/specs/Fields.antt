@@ -1,7 +1,7 @@
 -- Little-endian fields: numbers as bytes, the lowest first, and rows of them. Reading is total: past the end every byte is 0.
 use Prim.Native.Nat.{ℕ, zero, suc, _+_, _*_, _/_, _%_}
 use mathlib.Core.List.{List, [], _∷_, _++_}
-use lib.ListN.{getD}
+use lib.ListN.{getD, take}
 
 -- the k bytes from a place on
 unfoldable pub read : List ℕ → ℕ → ℕ → List ℕ
@@ -27,3 +27,17 @@ unfoldable pub fields : List ℕ → List ℕ → List ℕ
 fields [] vs = []
 fields (w ∷ ws) [] = []
 fields (w ∷ ws) (v ∷ vs) = bytesOf w v ++ fields ws vs
+
+-- how long a row is: its widths, added (R120, R121, R123)
+abbrev pub rowLength : List ℕ → ℕ
+rowLength [] = 0
+rowLength (w ∷ ws) = w + rowLength ws
+
+-- where field k of the row at a place stands: behind the k fields before it
+abbrev pub fieldPlace : List ℕ → ℕ → ℕ → ℕ
+fieldPlace ws zero at = at
+fieldPlace ws (suc k) at = at + rowLength (take (suc k) ws)
+
+-- field k of the row at a place, read
+abbrev pub fieldAt : List ℕ → ℕ → List ℕ → ℕ → ℕ
+fieldAt ws k b at = get (getD ws k 0) b (fieldPlace ws k at)

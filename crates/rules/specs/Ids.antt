@@ -1,15 +1,23 @@
 -- Ids: one range mapped out and back.
-use Prim.Native.Nat.{ℕ, _+_, _-_, _%_, _^_, _<_}
-use mathlib.Core.Bool.{Bool, true, false, cond, _&&_, _||_}
-use mathlib.Core.Logic.{_⊎_}
-use mathlib.Core.Path.{_≡_}
+use Prim.Native.Nat.{ℕ, _+_, _-_, _%_, _^_}
+use mathlib.Core.Bool.{Bool, cond, _&&_, _||_}
+use mathlib.Core.List.{List}
 use lib.Dec.{leb, ltb}
+use Rattle.rules.specs.Fields.{get}
 
 -- (internal start, external start, range); range 0 means no mapping (R27, R112)
 pub record Mapping : Type 0 where
   pub internal : ℕ
   pub external : ℕ
   pub range : ℕ
+
+-- of three numbers in the order in which they stand in bytes (R27, R121)
+abbrev pub mappingBy : ℕ → ℕ → ℕ → Mapping
+mappingBy internal external range = record { internal = internal; external = external; range = range }
+
+-- the mapping whose numbers, of four bytes each, stand at a place (R27, R121)
+abbrev pub mappingAt : List ℕ → ℕ → Mapping
+mappingAt b at = mappingBy (get 4 b at) (get 4 b (at + 4)) (get 4 b (at + 8))
 
 -- the same mapping the other way round (R114)
 abbrev pub turned : Mapping → Mapping
@@ -38,17 +46,3 @@ wrapped m id = cond (leb (m .internal) id && ltb (id - m .internal) (m .range)) 
 -- and back (R24, R114, R115, R117)
 unfoldable pub unwrapped : Mapping → ℕ → ℕ
 unwrapped m id = wrapped (turned m) id
-
--- ---- the claims
-
--- of a mapping that passes its test, what wraps is the formula in whole numbers (R115)
-abbrev pub WrappedIsWhole : Type 0
-WrappedIsWhole = (m : Mapping) (id : ℕ) → badMapping m ≡ false → id < 2 ^ 32 → (wrapped m id ≡ mapped m id) × (unwrapped m id ≡ unmapped m id)
-
--- mapped out and then back, an id of the internal range, or of neither range, is what it was (R116)
-abbrev pub OutAndBack : Type 0
-OutAndBack = (m : Mapping) (id : ℕ) → (inside m id ≡ true) ⊎ ((inside m id ≡ false) × (inside (turned m) id ≡ false)) → unmapped m (mapped m id) ≡ id
-
--- the same of what wraps, of a mapping that passes its test (R116)
-abbrev pub WrappedBack : Type 0
-WrappedBack = (m : Mapping) (id : ℕ) → badMapping m ≡ false → id < 2 ^ 32 → (inside m id ≡ true) ⊎ ((inside m id ≡ false) × (inside (turned m) id ≡ false)) → unwrapped m (wrapped m id) ≡ id

@@ -8,7 +8,7 @@ use lib.ListN.{length, replicate, getD, set}
 use lib.Dec.{eqb}
 use Rattle.rules.specs.Numbers.{rootNumber, firstNumber, slotCount}
 use Rattle.rules.specs.Ids.{Mapping}
-use Rattle.rules.specs.Tree.{Mount, Node, nodeIn, mountAt, without}
+use Rattle.rules.specs.Tree.{Mount, Node, nodeIn, nodesWithMount, without}
 
 -- what creation fixes for good: N, the mask of known option bits, the mapping in force (R9, R26, R34)
 pub record Fixed : Type 0 where
@@ -119,20 +119,20 @@ newIndexes = record { slots = replicate slotCount emptySlot; counter = 1 }
 -- ---- mounts
 
 -- the mount on a node that was found
-abbrev pub mountIn : Option Node → Option Mount
-mountIn none = none
-mountIn (some n) = n .mount
+abbrev pub mountOfFound : Option Node → Option Mount
+mountOfFound none = none
+mountOfFound (some n) = n .mount
 
 -- the mount on a node; 1 is the root before any node is asked (R52, R53)
-unfoldable pub mountOf : Tree → ℕ → Option Mount
-mountOf t x = cond (eqb x rootNumber) (t .root) (mountIn (nodeIn (t .nodes) x))
+unfoldable pub mountOfNode : Tree → ℕ → Option Mount
+mountOfNode t x = cond (eqb x rootNumber) (t .root) (mountOfFound (nodeIn (t .nodes) x))
 
 -- the node has that mount, or none; 1 is the root before any node is asked (R52, R53, R76, R98)
 unfoldable pub setMount : Tree → ℕ → Option Mount → Tree
 setMount t x m =
     cond (eqb x rootNumber)
     (record { next = t .next; root = m; nodes = t .nodes })
-    (record { next = t .next; root = t .root; nodes = mountAt m (t .nodes) x })
+    (record { next = t .next; root = t .root; nodes = nodesWithMount m (t .nodes) x })
 
 -- ---- nodes
 

@@ -29,7 +29,7 @@ dirent number offset p = recordOf (fields direntRow (number ∷ offset ∷ lengt
 -- of the children from a place on; the offset of each is its place + 1 (R64)
 unfoldable pub direntsFrom : ℕ → List Node → List (List ℕ)
 direntsFrom place [] = []
-direntsFrom place (n ∷ ns) = dirent (n .number) (place + 1) (n .called) ∷ direntsFrom (place + 1) ns
+direntsFrom place (n ∷ ns) = dirent (n .number) (place + 1) (n .name) ∷ direntsFrom (place + 1) ns
 
 -- each record behind the one before it, whole ones only, stopping at the first that does not fit (R65)
 unfoldable pub laidRecords : ℕ → List (List ℕ) → List ℕ

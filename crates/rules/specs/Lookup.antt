@@ -10,7 +10,7 @@ use Rattle.rules.specs.Utf8.{wellFormed}
 use Rattle.rules.specs.Path.{slash, isDot, isDots}
 use Rattle.rules.specs.Ids.{mapped, unmapped}
 use Rattle.rules.specs.Tree.{Mount, childIn, isKnown, parentIn}
-use Rattle.rules.specs.Instance.{Instance, tagOf, mountOf}
+use Rattle.rules.specs.Instance.{Instance, tagOf, mountOfNode}
 use Rattle.rules.specs.Outcome.{toTree, toBackend, entry, ids, Outcome, refused, says, _⟹_, firstOf}
 
 -- ---- routing, of a full number
@@ -66,7 +66,7 @@ lookupBy mounts i x p =
 
 -- with the mounts of the tree (R108 to R111)
 unfoldable pub lookupRule : Instance → ℕ → List ℕ → Outcome
-lookupRule i x p = lookupBy (mountOf (i .tree)) i x p
+lookupRule i x p = lookupBy (mountOfNode (i .tree)) i x p
 
 -- ---- ids
 

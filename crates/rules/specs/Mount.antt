@@ -10,8 +10,8 @@ use Rattle.rules.specs.Utf8.{wellFormed}
 use Rattle.rules.specs.Path.{components, rooted, tooLong}
 use Rattle.rules.specs.Tree.{Mount, Made, makes, atRoot}
 use Rattle.rules.specs.Round.{Allocation, allocate}
-use Rattle.rules.specs.Instance.{Slot, Tree, Instance, withTree, withCounter, withSlots, withSlot, emptySlot, heldBy, tagOf, heldIn, mountOf, setMount, grown, live}
-use Rattle.rules.specs.Outcome.{Answer, nothing, mounted, restored, Outcome, refused, says, _⟹_, firstOf}
+use Rattle.rules.specs.Instance.{Slot, Tree, Instance, withTree, withCounter, withSlots, withSlot, emptySlot, heldBy, tagOf, heldIn, mountOfNode, setMount, grown, live}
+use Rattle.rules.specs.Outcome.{Answer, nothing, mounted, restoredMount, Outcome, refused, says, _⟹_, firstOf}
 
 -- a mount request: a path, a tag, the root number, the largest number, uid, gid and mode (R3)
 pub record Request : Type 0 where
@@ -46,8 +46,8 @@ abbrev pub walkedTo : List ℕ → Instance → Instance
 walkedTo path i = withTree (grown (planned (i .tree) path .nodes) (i .tree)) i
 
 -- the mount on the node where the path ends
-abbrev pub mountThere : Instance → List ℕ → Option Mount
-mountThere i path = mountOf (walkedTo path i .tree) (ended i path)
+abbrev pub endedMount : Instance → List ℕ → Option Mount
+endedMount i path = mountOfNode (walkedTo path i .tree) (ended i path)
 
 -- ---- the change
 
@@ -66,14 +66,14 @@ tagAt none i = none
 tagAt (some m) i = tagOf i (m .index)
 
 -- the mount of a request at an index; the numbers are converted and mapped where they are answered (R77, R108)
-abbrev pub mountOn : ℕ → Request → Mount
-mountOn k r = record { index = k; root = r .root; uid = r .uid; gid = r .gid; mode = r .mode }
+abbrev pub requestedMount : ℕ → Request → Mount
+requestedMount k r = record { index = k; root = r .root; uid = r .uid; gid = r .gid; mode = r .mode }
 
 -- the old index is freed before the new tag is set, and the mount is on the node (R76, R93)
 unfoldable pub placed : ℕ → Request → ℕ → Instance → Instance
 placed k r x i =
-    let j = freed (mountOf (i .tree) x) i in
-    withSlot k (heldBy (r .tag)) (withTree (setMount (j .tree) x (some (mountOn k r))) j)
+    let j = freed (mountOfNode (i .tree) x) i in
+    withSlot k (heldBy (r .tag)) (withTree (setMount (j .tree) x (some (requestedMount k r))) j)
 
 -- ---- mount
 
@@ -90,14 +90,14 @@ abbrev pub allocated : Instance → ℕ → Answer → Instance → Outcome
 allocated i code a j = record { code = code; answer = a; visits = allocation i .visits; found = allocation i .found; written = []; after = j }
 
 -- rows 5 to 8, by what the allocation found: FULL, INVAL, INODE, done (R72 to R79)
-unfoldable pub mountAs : Instance → Request → Option ℕ → Outcome
-mountAs i r none = allocated i FULL nothing (stepped i)
-mountAs i r (some k) =
+unfoldable pub mountByIndex : Instance → Request → Option ℕ → Outcome
+mountByIndex i r none = allocated i FULL nothing (stepped i)
+mountByIndex i r (some k) =
     firstOf
     ((not (rooted (r .path)) ⟹ allocated i INVAL nothing (stepped i))
     ∷ (ltb maxIno (r .root) ⟹ allocated i INODE nothing (walkedTo (r .path) (stepped i)))
     ∷ [])
-    (allocated i 0 (mounted k (tagAt (mountThere i (r .path)) i)) (placed k r (ended i (r .path)) (walkedTo (r .path) (stepped i))))
+    (allocated i 0 (mounted k (tagAt (endedMount i (r .path)) i)) (placed k r (ended i (r .path)) (walkedTo (r .path) (stepped i))))
 
 -- rows 1 to 4, which visit nothing: TOOLONG, INVAL, INODE, NOROOM; then the rest (R68 to R71, R79)
 unfoldable pub mountRule : Instance → Request → Outcome
@@ -108,21 +108,19 @@ mountRule i r =
     ∷ (ltb maxIno (r .largest) ⟹ refused INODE i)
     ∷ (rooted (r .path) && noRoom i (r .path) ⟹ refused NOROOM i)
     ∷ [])
-    (mountAs i r (allocation i .found))
+    (mountByIndex i r (allocation i .found))
 
 -- ---- restored mount: no allocation
 
--- rows 6 to 8 with the index given: INVAL, INODE, done; the counter stays; what then still stands in the slot is displaced (R92 to R95)
-unfoldable pub restoreAs : Instance → ℕ → Request → Outcome
-restoreAs i k r =
+-- rows 7 and 8 with the index given: INODE, done; the counter stays; what then still stands in the slot is displaced (R92 to R95)
+unfoldable pub restoreMountByIndex : Instance → ℕ → Request → Outcome
+restoreMountByIndex i k r =
     firstOf
-    ((not (rooted (r .path)) ⟹ refused INVAL i)
-    ∷ (ltb maxIno (r .root) ⟹ refused INODE (walkedTo (r .path) i))
-    ∷ [])
-    (let old = mountThere i (r .path) in
-    says (restored (tagAt old i) (tagOf (freed old i) k)) (placed k r (ended i (r .path)) (walkedTo (r .path) i)))
+    ((ltb maxIno (r .root) ⟹ refused INODE (walkedTo (r .path) i)) ∷ [])
+    (let old = endedMount i (r .path) in
+    says (restoredMount (tagAt old i) (tagOf (freed old i) k)) (placed k r (ended i (r .path)) (walkedTo (r .path) i)))
 
--- rows 1, 2, BADINDEX, 3 and 4, which change nothing; then the rest (R91)
+-- rows 1, 2, BADINDEX, 3, 4 and 6, which change nothing; then the rest (R91)
 unfoldable pub restoreMountRule : Instance → ℕ → Request → Outcome
 restoreMountRule i k r =
     firstOf
@@ -131,5 +129,6 @@ restoreMountRule i k r =
     ∷ (eqb k 0 ⟹ refused BADINDEX i)
     ∷ (ltb maxIno (r .largest) ⟹ refused INODE i)
     ∷ (rooted (r .path) && noRoom i (r .path) ⟹ refused NOROOM i)
+    ∷ (not (rooted (r .path)) ⟹ refused INVAL i)
     ∷ [])
-    (restoreAs i k r)
+    (restoreMountByIndex i k r)

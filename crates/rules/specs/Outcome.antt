@@ -13,7 +13,7 @@ pub data Answer : Type 0 where
   -- the index, and the tag replaced or none (R75, R78)
   mounted : ℕ → Option ℕ → Answer
   -- the tag replaced on the node, and the tag displaced from the slot (R93)
-  restored : Option ℕ → Option ℕ → Answer
+  restoredMount : Option ℕ → Option ℕ → Answer
   -- the node, its parent, and the tag released or none (R97)
   unmounted : ℕ → ℕ → Option ℕ → Answer
   -- a node, or none (R47)

@@ -1,7 +1,7 @@
--- Paths: the components of a rooted path, the limits, and the check of one component.
+-- Parts of bytes, split and joined by a byte; and paths: the components of a rooted path, the limits, and the check of one component.
 use Prim.Native.Nat.{ℕ, _+_}
 use mathlib.Core.Bool.{Bool, false, cond, _||_}
-use mathlib.Core.List.{List, [], _∷_}
+use mathlib.Core.List.{List, [], _∷_, _++_}
 use lib.ListN.{length}
 use lib.Dec.{eqb, ltb}
 use Rattle.rules.specs.Numbers.{maxName, maxPath}
@@ -17,8 +17,8 @@ dot = 46
 
 -- a component, a name or the parent, with the place of the path where it starts (R37)
 pub data Part : Type 0 where
-  name : ℕ → List ℕ → Part
-  parent : ℕ → Part
+  Normal : ℕ → List ℕ → Part
+  ParentDir : ℕ → Part
 
 -- the byte before the first of the parts
 abbrev pub onto : ℕ → List (List ℕ) → List (List ℕ)
@@ -29,6 +29,12 @@ onto b (p ∷ ps) = (b ∷ p) ∷ ps
 unfoldable pub partsBy : ℕ → List ℕ → List (List ℕ)
 partsBy sep [] = [] ∷ []
 partsBy sep (b ∷ s) = cond (eqb b sep) ([] ∷ partsBy sep s) (onto b (partsBy sep s))
+
+-- the parts with the byte `sep` between two of them (R152)
+abbrev pub joinedBy : ℕ → List (List ℕ) → List ℕ
+joinedBy sep [] = []
+joinedBy sep (p ∷ []) = p
+joinedBy sep (p ∷ q ∷ ps) = p ++ (sep ∷ joinedBy sep (q ∷ ps))
 
 -- the parts between the slashes (R37, R40)
 abbrev pub pieces : List ℕ → List (List ℕ)
@@ -44,16 +50,16 @@ isDots p = same p (dot ∷ dot ∷ [])
 
 -- an empty part and `.` are dropped, `..` is the parent, any other part is a name; no name is folded away (R37, R38)
 unfoldable pub sorted : ℕ → List ℕ → List Part → List Part
-sorted at p ps = cond (same p []) ps (cond (isDot p) ps (cond (isDots p) (parent at ∷ ps) (name at p ∷ ps)))
+sorted at p ps = cond (same p []) ps (cond (isDot p) ps (cond (isDots p) (ParentDir at ∷ ps) (Normal at p ∷ ps)))
 
 -- the components among pieces, the first of which stands at a place, with one slash between two (R37)
-unfoldable pub kept : ℕ → List (List ℕ) → List Part
-kept at [] = []
-kept at (p ∷ ps) = sorted at p (kept (at + length p + 1) ps)
+unfoldable pub keptParts : ℕ → List (List ℕ) → List Part
+keptParts at [] = []
+keptParts at (p ∷ ps) = sorted at p (keptParts (at + length p + 1) ps)
 
 -- the components of the bytes s, which stand at a place of the path (R37, R38)
 unfoldable pub components : ℕ → List ℕ → List Part
-components at s = kept at (pieces s)
+components at s = keptParts at (pieces s)
 
 -- the path has its leading slash; the empty path has none (R36, R43)
 unfoldable pub rooted : List ℕ → Bool

@@ -7,12 +7,12 @@ use lib.ListN.{length}
 use lib.Dec.{leb, ltb}
 use Rattle.rules.specs.Numbers.{maxLine, dirMode, orZero}
 use Rattle.rules.specs.Bytes.{same, ascii}
-use Rattle.rules.specs.Path.{partsBy}
+use Rattle.rules.specs.Path.{partsBy, joinedBy}
 use Rattle.rules.specs.Tree.{onward}
 use Rattle.rules.specs.Instance.{Instance}
 use Rattle.rules.specs.Mount.{Request}
-use Rattle.rules.specs.Outcome.{Answer, nothing, mounted, restored, unmounted, walked, rootfs, toTree, toBackend, entry, ids, wrote, settings, truth, Outcome, count}
-use Rattle.rules.specs.Calls.{mount as mount-call, umount as umount-call, path-walk, route, lookup, rule}
+use Rattle.rules.specs.Outcome.{Answer, nothing, mounted, restoredMount, unmounted, walked, rootfs, toTree, toBackend, entry, ids, wrote, settings, truth, Outcome, count}
+use Rattle.rules.specs.Calls.{mount as mount-call, umount as umount-call, ask, path-walk, route, lookup, rule}
 
 -- the byte between fields (R146)
 abbrev pub space : ℕ
@@ -88,9 +88,7 @@ parsed s = cond (ltb maxLine (length s) || anyEmpty (words s)) none (lineOf (wor
 
 -- by single spaces (R152)
 unfoldable pub joined : List (List ℕ) → List ℕ
-joined [] = []
-joined (w ∷ []) = w
-joined (w ∷ v ∷ ws) = w ++ (space ∷ joined (v ∷ ws))
+joined ws = joinedBy space ws
 
 -- each as a decimal (R152)
 unfoldable pub numbers : List ℕ → List (List ℕ)
@@ -110,7 +108,7 @@ pub record Reply : Type 0 where
 unfoldable pub values : Answer → List ℕ
 values nothing = []
 values (mounted k t) = k ∷ []
-values (restored a b) = []
+values (restoredMount a b) = []
 values (unmounted x p t) = x ∷ p ∷ []
 values (walked x) = orZero x ∷ []
 values (rootfs r) = []
@@ -140,11 +138,11 @@ lineRequest path tag root largest = record { path = path; tag = tag; root = root
 unfoldable pub routed : Instance → List ℕ → Outcome → Answer → Reply
 routed i p o nothing = reply 1 [] o
 routed i p o (mounted k t) = reply 1 [] o
-routed i p o (restored a b) = reply 1 [] o
+routed i p o (restoredMount a b) = reply 1 [] o
 routed i p o (unmounted x q t) = reply 1 [] o
 routed i p o (walked x) = reply 1 [] o
 routed i p o (rootfs r) = reply 1 [] o
-routed i p o (toTree x) = reply 1 [] (rule i (lookup x p))
+routed i p o (toTree x) = reply 1 [] (rule i (ask (lookup x p)))
 routed i p o (toBackend t k x) = record { text = joined (ascii "r" ∷ numbers (t ∷ x ∷ [])); instance = i }
 routed i p o (entry x mode uid gid size) = reply 1 [] o
 routed i p o (ids u g) = reply 1 [] o
@@ -158,8 +156,8 @@ lineReply i (mount path tag root largest) =
     let o = rule i (mount-call (lineRequest path tag root largest)) in
     reply 1 (count o ∷ []) o
 lineReply i (umount path) = reply 2 [] (rule i (umount-call path))
-lineReply i (walk path) = reply 1 [] (rule i (path-walk path))
-lineReply i (look x p) = routed i p (rule i (route x)) (rule i (route x) .answer)
+lineReply i (walk path) = reply 1 [] (rule i (ask (path-walk path)))
+lineReply i (look x p) = routed i p (rule i (ask (route x))) (rule i (ask (route x)) .answer)
 
 -- a line of no such form answers `?` and changes nothing (R145)
 unfoldable pub answers : Instance → Option Line → Reply

@@ -7,7 +7,7 @@ use lib.ListN.{length}
 use lib.Dec.{eqb}
 use Rattle.rules.specs.Bytes.{same}
 use Rattle.rules.specs.Numbers.{rootNumber}
-use Rattle.rules.specs.Path.{Part, name, parent}
+use Rattle.rules.specs.Path.{Part, Normal, ParentDir}
 
 -- a mount on a node, with the numbers as the request brought them (R3)
 pub record Mount : Type 0 where
@@ -20,8 +20,8 @@ pub record Mount : Type 0 where
 -- a node: its number, its parent, its name, the mount on it; the root is none of them (R12, R44)
 pub record Node : Type 0 where
   pub number : ℕ
-  pub above : ℕ
-  pub called : List ℕ
+  pub parent : ℕ
+  pub name : List ℕ
   pub mount : Option Mount
 
 -- there is none
@@ -33,7 +33,7 @@ isNone (some a) = false
 
 -- the node has that parent and that name, byte for byte (R45)
 unfoldable pub isChild : ℕ → List ℕ → Node → Bool
-isChild here p n = eqb (n .above) here && same (n .called) p
+isChild here p n = eqb (n .parent) here && same (n .name) p
 
 -- the number of the child of that name: the first in table order (R45)
 unfoldable pub childIn : List Node → ℕ → List ℕ → Option ℕ
@@ -50,18 +50,18 @@ unfoldable pub isKnown : List Node → ℕ → Bool
 isKnown nodes x = eqb x rootNumber || not (isNone (nodeIn nodes x))
 
 -- the parent of a node; of none it is the root (R54)
-abbrev pub aboveOf : Option Node → ℕ
-aboveOf none = rootNumber
-aboveOf (some n) = n .above
+abbrev pub parentOf : Option Node → ℕ
+parentOf none = rootNumber
+parentOf (some n) = n .parent
 
 -- the parent's number, also where that parent was removed (R58, R102); of the root (R12, R39, R52) and of a number that is no node (R54) it is the root's
 unfoldable pub parentIn : List Node → ℕ → ℕ
-parentIn nodes x = cond (eqb x rootNumber) rootNumber (aboveOf (nodeIn nodes x))
+parentIn nodes x = cond (eqb x rootNumber) rootNumber (parentOf (nodeIn nodes x))
 
 -- the children, in table order, which is the order in which they were made (R44)
 unfoldable pub childrenIn : List Node → ℕ → List Node
 childrenIn [] x = []
-childrenIn (n ∷ ns) x = cond (eqb (n .above) x) (n ∷ childrenIn ns x) (childrenIn ns x)
+childrenIn (n ∷ ns) x = cond (eqb (n .parent) x) (n ∷ childrenIn ns x) (childrenIn ns x)
 
 -- ---- the walk
 
@@ -73,8 +73,8 @@ onward (some a) f = f a
 -- from a node on, one component after another, to the node where it ends; a missing name answers none (R39, R46, R47, R55)
 unfoldable pub walk : List Node → ℕ → List Part → Option ℕ
 walk nodes here [] = some here
-walk nodes here (parent at ∷ ps) = walk nodes (parentIn nodes here) ps
-walk nodes here (name at p ∷ ps) = onward (childIn nodes here p) (λ (x : ℕ). walk nodes x ps)
+walk nodes here (ParentDir at ∷ ps) = walk nodes (parentIn nodes here) ps
+walk nodes here (Normal at p ∷ ps) = onward (childIn nodes here p) (λ (x : ℕ). walk nodes x ps)
 
 -- ---- the mount walk
 
@@ -85,7 +85,7 @@ pub record Made : Type 0 where
 
 -- a new node has no mount (R48)
 abbrev pub bare : ℕ → ℕ → List ℕ → Node
-bare x above p = record { number = x; above = above; called = p; mount = none }
+bare x parent p = record { number = x; parent = parent; name = p; mount = none }
 
 -- the child that was found, or a new node with the next number, last of all (R48, R49)
 abbrev pub orMake : ℕ → Made → List ℕ → Option ℕ → Made
@@ -95,14 +95,14 @@ orMake next m p none =
     record { nodes = m .nodes ++ (bare x (m .here) p ∷ []); here = x }
 
 -- one component, over the live nodes and those made; the k-th made has the number next + k (R38, R39, R48, R50)
-unfoldable pub step : List Node → ℕ → Made → Part → Made
-step live next m (parent at) = record { nodes = m .nodes; here = parentIn (live ++ m .nodes) (m .here) }
-step live next m (name at p) = orMake next m p (childIn (live ++ m .nodes) (m .here) p)
+unfoldable pub mountStep : List Node → ℕ → Made → Part → Made
+mountStep live next m (ParentDir at) = record { nodes = m .nodes; here = parentIn (live ++ m .nodes) (m .here) }
+mountStep live next m (Normal at p) = orMake next m p (childIn (live ++ m .nodes) (m .here) p)
 
 -- the mount walk: every component in order, also behind `..`; one step for each (R38, R48, R55)
 unfoldable pub makes : List Node → ℕ → Made → List Part → Made
 makes live next m [] = m
-makes live next m (p ∷ ps) = makes live next (step live next m p) ps
+makes live next m (p ∷ ps) = makes live next (mountStep live next m p) ps
 
 -- the walk starts at the root, with nothing made (R48)
 abbrev pub atRoot : Made
@@ -112,12 +112,12 @@ atRoot = record { nodes = []; here = rootNumber }
 
 -- the node with that mount, or with none
 abbrev pub withMount : Option Mount → Node → Node
-withMount m n = record { number = n .number; above = n .above; called = n .called; mount = m }
+withMount m n = record { number = n .number; parent = n .parent; name = n .name; mount = m }
 
 -- the node of that number, the first in table order, has that mount (R53)
-unfoldable pub mountAt : Option Mount → List Node → ℕ → List Node
-mountAt m [] x = []
-mountAt m (n ∷ ns) x = cond (eqb (n .number) x) (withMount m n ∷ ns) (n ∷ mountAt m ns x)
+unfoldable pub nodesWithMount : Option Mount → List Node → ℕ → List Node
+nodesWithMount m [] x = []
+nodesWithMount m (n ∷ ns) x = cond (eqb (n .number) x) (withMount m n ∷ ns) (n ∷ nodesWithMount m ns x)
 
 -- the node of that number, the first in table order, is gone; the others stay, in their order (R44, R53, R101)
 unfoldable pub without : List Node → ℕ → List Node

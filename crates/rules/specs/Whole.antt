@@ -5,7 +5,16 @@ use mathlib.Core.List.{List, [], _∷_, _++_}
 use lib.Dec.{eqb}
 use Rattle.rules.specs.Path.{onto}
 use Rattle.rules.specs.Instance.{Instance}
+use Rattle.rules.specs.Create.{newInstance}
 use Rattle.rules.specs.Session.{Reply, replyTo}
+
+-- an instance of n nodes: no option bits, no mapping, nodes kept (R137)
+abbrev pub plain : ℕ → Instance
+plain n = newInstance (record {
+  capacity = n;
+  known = 0;
+  options = record { inOpts = 0; outOpts = 0; mapping = record { internal = 0; external = 0; range = 0 }; flags = 0 };
+})
 
 -- the byte that ends a line (R151)
 abbrev pub lineEnd : ℕ

@@ -37,21 +37,6 @@ pub const MAX_LINE: usize = 8192;
 // The flags of the options are below this (R29, R122).
 pub const FLAGS: u8 = 64;
 
-// The bytes of a node record without its name (R120).
-pub const RECORD: usize = 18;
-
-// The bytes of the options (R121).
-pub const OPTIONS: usize = 32;
-
-// The version of saved state (R123).
-pub const VERSION: u8 = 1;
-
-// The bytes of the trailer (R123).
-pub const TRAILER: usize = 24;
-
-// The bytes behind the records: options and trailer (R129 a).
-pub const TAIL: usize = OPTIONS + TRAILER;
-
 // The mode of a pseudo entry (R13).
 pub const DIR_MODE: u32 = 16895;
 

@@ -1,74 +1,67 @@
--- The last 56 bytes: what each test of `is_framed` says. Assumes nothing.
-use mathlib.Core.Path.{_≡_, ap, _∙_}
+-- The length, the trailer and the options: what each test of `is_framed` says. Assumes nothing.
+use mathlib.Core.Path.{_≡_, sym, _∙_}
 use mathlib.Core.Bool.{true, false, and-true}
 use mathlib.Core.Logic.{⊎-elim}
 use mathlib.Core.List.{List}
-use Prim.Native.Nat.{ℕ, _+_, _*_, _/_, _^_, _≤_, _<_}
+use Prim.Native.Nat.{ℕ, _+_, _*_, _≤_, _<_}
 use native.Mathlib.Omega.{arith}
 use lib.ListN.{length}
 use lib.Dec.{leb, eqb}
 use borrow.Author.Tests.{eq-eqb, ne-eqb, le-leb, lt-leb, le-ltb, lt-ltb, leb-true, eqb-true}
-use Rattle.rules.specs.Numbers.{topNumber}
-use Rattle.rules.specs.Bytes.{Bytes}
-use Rattle.rules.specs.Fields.{get}
-use Rattle.rules.specs.Saved.{optionsStart, trailerStart, offsetOf, nextOf, every}
+use Rattle.rules.specs.Numbers.{firstNumber, topNumber}
+use Rattle.rules.specs.Instance.{flagLimit}
+use Rattle.rules.specs.Saved.{savedFlagsField, savedZerosField, trailerVersionField, trailerZerosField, tailLength, savedVersion, optionsStart, optionsField, trailerField, savedOffset, savedNext}
+use Rattle.rules.specs.Tests.{every}
 use Rattle.rules.proofs.Tests.{known, passed, fails}
-use Rattle.rules.proofs.Fields.{get-fits}
-use Rattle.le.proofs.Lens.{get-add, get-split}
 use Rattle.saved.specs.Scan.{framed}
 
 module _ (b : List ℕ) where
-  abbrev t : ℕ
-  t = trailerStart b
+  abbrev version : ℕ
+  version = trailerField trailerVersionField b
 
-  abbrev o : ℕ
-  o = optionsStart b
+  abbrev flags : ℕ
+  flags = optionsField savedFlagsField b
 
-  -- counter, version and six zeros are one number of eight bytes; flags and three zeros one of four
-  eight : Bytes b → get 8 b (t + 16) / 256 ≡ get 1 b (t + 17) + 256 * get 6 b (t + 18)
-  eight bytes =
-      let e : t + 16 + 1 ≡ t + 17 = omega arith in
-      let f : t + 17 + 1 ≡ t + 18 = omega arith in
-      get-split 1 7 b (t + 16) bytes .1 ∙ ap (get 7 b) e ∙ get-add 1 6 b (t + 17) ∙ ap (λ (n : ℕ). get 1 b (t + 17) + 256 * get 6 b n) f
+  -- the zeros behind each
+  abbrev six : ℕ
+  six = trailerField trailerZerosField b
 
-  four : get 4 b (o + 28) ≡ get 1 b (o + 28) + 256 * get 3 b (o + 29)
-  four =
-      let e : o + 28 + 1 ≡ o + 29 = omega arith in
-      let p : get 4 b (o + 28) ≡ get 1 b (o + 28) + 256 ^ 1 * get 3 b (o + 29) = rw e at (get-add 1 3 b (o + 28)) in
-      omega arith
+  abbrev three : ℕ
+  three = optionsField savedZerosField b
 
-  pub frame-long : framed b ≡ true → 56 ≤ length b
+  pub frame-long : framed b ≡ true → tailLength ≤ length b
   unfolding framed
-  frame-long h = leb-true 56 (length b) (passed _ h .0)
+  frame-long h = leb-true tailLength (length b) (passed _ h .0)
 
-  pub frame-short : length b < 56 → framed b ≡ false
+  pub frame-short : length b < tailLength → framed b ≡ false
   unfolding framed
-  frame-short h = fails 0 _ (lt-leb 56 (length b) h)
+  frame-short h = fails 0 _ (lt-leb tailLength (length b) h)
 
-  pub frame-offset : (get 4 b t ≡ o → ⊥) → framed b ≡ false
-  unfolding framed offsetOf
-  frame-offset h = fails 1 _ (ne-eqb (get 4 b t) o h)
-
-  pub frame-version : Bytes b → (get 8 b (t + 16) / 256 ≡ 1 → ⊥) → framed b ≡ false
+  pub frame-offset : (x o : ℕ) → x ≡ savedOffset b → o ≡ optionsStart b → (x ≡ o → ⊥) → framed b ≡ false
   unfolding framed
-  frame-version bytes h =
-      ⊎-elim (λ v. fails 3 _ (ne-eqb (get 6 b (t + 18)) 0 (λ z. h (omega (arith, eight bytes, eqb-true (get 1 b (t + 17)) 1 v))))) (λ v. fails 2 _ v)
-      (known (eqb (get 1 b (t + 17)) 1))
+  frame-offset x o e f h = fails 1 _ (ne-eqb (savedOffset b) (optionsStart b) (λ g. h (e ∙ g ∙ sym f)))
 
-  pub frame-flags : 64 ≤ get 4 b (o + 28) → framed b ≡ false
+  pub frame-version : (v : ℕ) → v ≡ version + 256 * six → (v ≡ savedVersion → ⊥) → framed b ≡ false
   unfolding framed
-  frame-flags h =
-      ⊎-elim (λ v. fails 5 _ (le-ltb (get 1 b (o + 28)) 64 (omega (arith, four, eqb-true (get 3 b (o + 29)) 0 v)))) (λ v. fails 4 _ v)
-      (known (eqb (get 3 b (o + 29)) 0))
+  frame-version v e h =
+      ⊎-elim (λ w. fails 3 _ (ne-eqb six 0 (λ z. h (omega (arith, eqb-true version savedVersion w))))) (λ w. fails 2 _ w)
+      (known (eqb version savedVersion))
 
-  pub frame-low : nextOf b < 2 → framed b ≡ false
+  pub frame-flags : (v : ℕ) → v ≡ flags + 256 * three → flagLimit ≤ v → framed b ≡ false
   unfolding framed
-  frame-low h = fails 6 _ (lt-leb 2 (nextOf b) h)
+  frame-flags v e h =
+      ⊎-elim (λ z. fails 5 _ (le-ltb flags flagLimit (omega (arith, eqb-true three 0 z)))) (λ z. fails 4 _ z)
+      (known (eqb three 0))
 
-  pub frame-next : Bytes b → 56 ≤ length b → get 4 b t ≡ o → get 8 b (t + 16) / 256 ≡ 1 → get 4 b (o + 28) < 64 → 2 ≤ nextOf b → leb (nextOf b) topNumber ≡ framed b
-  unfolding framed every offsetOf
-  frame-next bytes l f v g n =
-      let one : get 1 b (t + 17) ≡ 1 = omega (arith, eight bytes, get-fits 1 b (t + 17) bytes) in
-      let six : get 6 b (t + 18) ≡ 0 = omega (arith, eight bytes, get-fits 1 b (t + 17) bytes) in
-      let three : get 3 b (o + 29) ≡ 0 = omega (arith, four) in
-      simp (le-leb 56 (length b) l, eq-eqb (get 4 b t) o f, one, six, three, lt-ltb (get 1 b (o + 28)) 64 (omega (arith, four)), le-leb 2 (nextOf b) n, and-true)
+  pub frame-low : savedNext b < firstNumber → framed b ≡ false
+  unfolding framed
+  frame-low h = fails 6 _ (lt-leb firstNumber (savedNext b) h)
+
+  pub frame-next : tailLength ≤ length b → savedOffset b ≡ optionsStart b → version + 256 * six ≡ savedVersion → flags + 256 * three < flagLimit → firstNumber ≤ savedNext b
+      → leb (savedNext b) topNumber ≡ framed b
+  unfolding framed every
+  frame-next l f v g n =
+      let one : version ≡ savedVersion = omega arith in
+      let none-of-six : six ≡ 0 = omega arith in
+      let none-of-three : three ≡ 0 = omega arith in
+      simp (le-leb tailLength (length b) l, eq-eqb (savedOffset b) (optionsStart b) f, one, none-of-six, none-of-three, lt-ltb flags flagLimit (omega arith), le-leb firstNumber (savedNext b) n, and-true)

@@ -10,8 +10,8 @@ use borrow.Author.Tests.{le-leb, lt-leb, le-ltb, lt-ltb, ne-eqb}
 use Rattle.rules.specs.Bytes.{holds}
 use Rattle.rules.specs.Utf8.{wellFormed}
 use Rattle.rules.specs.Path.{slash, isDot, isDots}
-use Rattle.rules.specs.Fields.{get}
-use Rattle.rules.specs.Saved.{SavedNode, nodeAt, behind, nodesAt, endAt, every, goodName}
+use Rattle.rules.specs.Saved.{SavedNode, nameLength, nameStart, savedNodeAt, behind, savedNodesAt, endAt, goodName}
+use Rattle.rules.specs.Tests.{every}
 use Rattle.rules.proofs.Tests.{fails}
 use Rattle.rules.proofs.Fields.{read-slice}
 use Rattle.rules.proofs.Accepted.{ends-on}
@@ -45,11 +45,11 @@ module _ (p : List ℕ) where
 -- ---- one record
 
 -- the name, as the part of the bytes that is passed on
-pub name-is : (b : List ℕ) (at end : ℕ) → end ≡ behind b at → behind b at ≤ length b → take (end - (at + 18)) (drop (at + 18) b) ≡ nodeAt b at .called
-unfolding nodeAt
+pub name-is : (b : List ℕ) (at end : ℕ) → end ≡ behind b at → behind b at ≤ length b → take (end - (nameStart at)) (drop (nameStart at) b) ≡ savedNodeAt b at .name
+unfolding savedNodeAt
 name-is b at end e h =
-    let d : end - (at + 18) ≡ get 2 b (at + 16) = omega arith in
-    rw d (sym (read-slice b (at + 18) (get 2 b (at + 16)) (omega arith)))
+    let d : end - (nameStart at) ≡ nameLength b at = omega arith in
+    rw d (sym (read-slice b (nameStart at) (nameLength b at) (omega arith)))
 
 module _ (next last : ℕ) (n : SavedNode) where
   pub sound-low : n .number ≤ last → sound next last n ≡ false
@@ -60,7 +60,7 @@ module _ (next last : ℕ) (n : SavedNode) where
   unfolding sound
   sound-high h = fails 1 _ (le-ltb (n .number) next h)
 
-  pub sound-name : last < n .number → n .number < next → (p : List ℕ) → p ≡ n .called → goodName p ≡ sound next last n
+  pub sound-name : last < n .number → n .number < next → (p : List ℕ) → p ≡ n .name → goodName p ≡ sound next last n
   unfolding sound every
   sound-name l h p e = rw (lt-ltb last (n .number) l, lt-ltb (n .number) next h, and-true, e)
 
@@ -73,21 +73,21 @@ module _ (b : List ℕ) (next to count at i last : ℕ) where
       let left : count - i ≡ suc (count - (i + 1)) = omega arith in
       rw left (fails 0 _ (ne-eqb (endAt b (count - (i + 1)) (behind b at)) to (λ e. omega (arith, ends-on b (count - (i + 1)) (behind b at)))))
 
-  pub rest-bad : i < count → sound next last (nodeAt b at) ≡ false → soundTo b next to (count - i) at last ≡ false
-  unfolding soundTo allSound nodesAt
+  pub rest-bad : i < count → sound next last (savedNodeAt b at) ≡ false → soundTo b next to (count - i) at last ≡ false
+  unfolding soundTo allSound savedNodesAt
   rest-bad h g =
       let left : count - i ≡ suc (count - (i + 1)) = omega arith in
       rw left (fails 1 _ (rw g))
 
-  pub rest-on : i < count → sound next last (nodeAt b at) ≡ true → (end number : ℕ) → end ≡ behind b at → number ≡ nodeAt b at .number
+  pub rest-on : i < count → sound next last (savedNodeAt b at) ≡ true → (end number : ℕ) → end ≡ behind b at → number ≡ savedNodeAt b at .number
       → soundTo b next to (count - i) at last ≡ soundTo b next to (count - (i + 1)) end number
-  unfolding soundTo allSound nodesAt endAt
+  unfolding soundTo allSound savedNodesAt endAt
   rest-on h g end number e f =
       let left : count - i ≡ suc (count - (i + 1)) = omega arith in
       rw (left, g, e, f)
 
   pub rest-done : count ≤ i → soundTo b next to (count - i) at last ≡ eqb at to
-  unfolding soundTo allSound nodesAt endAt every
+  unfolding soundTo allSound savedNodesAt endAt every
   rest-done h =
       let z : count - i ≡ 0 = omega arith in
       rw (z, and-true)

@@ -5,8 +5,9 @@ use mathlib.Core.List.{List, [], _∷_, _++_}
 use Prim.Native.Nat.{ℕ}
 use lib.Dec.{leb, ltb, eqb}
 use Rattle.rules.specs.Numbers.{topNumber}
-use Rattle.rules.specs.Saved.{SavedNode, nodesAt, endAt, optionsStart, recordsOf, nextOf, stateOf, every, frame, laidOut, lastNumber, present, used, goodName, goodNode, goodNodes, valid, accepted}
-use Rattle.saved.specs.Scan.{framed, sound, allSound, soundTo, placed, allPlaced}
+use Rattle.rules.specs.Tests.{every}
+use Rattle.rules.specs.Saved.{SavedNode, savedNodesAt, endAt, optionsStart, savedRecords, savedNext, stateOf, frame, laidOut, lastNumber, present, used, goodName, goodNode, goodNodes, valid, accepted}
+use Rattle.saved.specs.Scan.{framed, sound, allSound, soundTo, wellPlaced, allPlaced}
 
 every-append : (xs ys : List Bool) → every (xs ++ ys) ≡ (every xs && every ys)
 unfolding every
@@ -25,11 +26,11 @@ middle true true S P = refl
 
 -- ---- records
 
-node-split : (next : ℕ) (before : List SavedNode) (n : SavedNode) → goodNode next before n ≡ (sound next (lastNumber before) n && placed before n)
-unfolding goodNode sound placed
+node-split : (next : ℕ) (before : List SavedNode) (n : SavedNode) → goodNode next before n ≡ (sound next (lastNumber before) n && wellPlaced before n)
+unfolding goodNode sound wellPlaced
 node-split next before n =
-    every-append (ltb (lastNumber before) (n .number) ∷ ltb (n .number) next ∷ goodName (n .called) ∷ [])
-    (present (n .above) before ∷ not (used (n .above) (n .called) before) ∷ [])
+    every-append (ltb (lastNumber before) (n .number) ∷ ltb (n .number) next ∷ goodName (n .name) ∷ [])
+    (present (n .parent) before ∷ not (used (n .parent) (n .name) before) ∷ [])
 
 -- the law: all pass the one group and all pass the other
 nodes-split : (next : ℕ) (before ns : List SavedNode) → goodNodes next before ns ≡ (allSound next (lastNumber before) ns && allPlaced before ns)
@@ -37,7 +38,7 @@ unfolding goodNodes allSound allPlaced lastNumber
 nodes-split next before [] = refl
 nodes-split next before (n ∷ ns) =
     rw (node-split next before n, nodes-split next (n ∷ before) ns)
-    (middle (sound next (lastNumber before) n) (placed before n) (allSound next (n .number) ns) (allPlaced (n ∷ before) ns))
+    (middle (sound next (lastNumber before) n) (wellPlaced before n) (allSound next (n .number) ns) (allPlaced (n ∷ before) ns))
 
 -- ---- the whole
 
@@ -50,47 +51,47 @@ shuffle true true true S P = refl
 
 module _ (b : List ℕ) where
   abbrev bounds : List Bool
-  bounds = leb 2 (nextOf b) ∷ leb (nextOf b) topNumber ∷ []
+  bounds = leb 2 (savedNext b) ∷ leb (savedNext b) topNumber ∷ []
 
   abbrev filled : Bool
-  filled = eqb (endAt b (recordsOf b) 0) (optionsStart b)
+  filled = eqb (endAt b (savedRecords b) 0) (optionsStart b)
 
   abbrev records : List SavedNode
-  records = nodesAt b (recordsOf b) 0
+  records = savedNodesAt b (savedRecords b) 0
 
   laid-split : laidOut b ≡ (every (frame b) && filled)
   unfolding laidOut
   laid-split = every-append (frame b) (filled ∷ []) ∙ rw (every-one filled)
 
-  valid-split : valid (stateOf b) ≡ (every bounds && (allSound (nextOf b) 1 records && allPlaced [] records))
+  valid-split : valid (stateOf b) ≡ (every bounds && (allSound (savedNext b) 1 records && allPlaced [] records))
   unfolding valid stateOf lastNumber
-  valid-split = every-append bounds (goodNodes (nextOf b) [] records ∷ []) ∙ rw (every-one (goodNodes (nextOf b) [] records), nodes-split (nextOf b) [] records)
+  valid-split = every-append bounds (goodNodes (savedNext b) [] records ∷ []) ∙ rw (every-one (goodNodes (savedNext b) [] records), nodes-split (savedNext b) [] records)
 
   framed-split : framed b ≡ (every (frame b) && every bounds)
   unfolding framed
   framed-split = every-append (frame b) bounds
 
-  sound-split : soundTo b (nextOf b) (optionsStart b) (recordsOf b) 0 1 ≡ (filled && allSound (nextOf b) 1 records)
+  sound-split : soundTo b (savedNext b) (optionsStart b) (savedRecords b) 0 1 ≡ (filled && allSound (savedNext b) 1 records)
   unfolding soundTo
-  sound-split = every-append (filled ∷ []) (allSound (nextOf b) 1 records ∷ []) ∙ rw (every-one filled, every-one (allSound (nextOf b) 1 records))
+  sound-split = every-append (filled ∷ []) (allSound (savedNext b) 1 records ∷ []) ∙ rw (every-one filled, every-one (allSound (savedNext b) 1 records))
 
-  pub accepted-split : accepted b ≡ (framed b && (soundTo b (nextOf b) (optionsStart b) (recordsOf b) 0 1 && allPlaced [] records))
+  pub accepted-split : accepted b ≡ (framed b && (soundTo b (savedNext b) (optionsStart b) (savedRecords b) 0 1 && allPlaced [] records))
   unfolding accepted
   accepted-split =
       rw (laid-split, valid-split, framed-split, sound-split)
-      (shuffle (every (frame b)) filled (every bounds) (allSound (nextOf b) 1 records) (allPlaced [] records))
+      (shuffle (every (frame b)) filled (every bounds) (allSound (savedNext b) 1 records) (allPlaced [] records))
 
   -- where a part fails, and where the first two hold
   pub not-framed : framed b ≡ false → accepted b ≡ false
   not-framed e = rw (accepted-split, e)
 
-  pub not-sound : soundTo b (nextOf b) (optionsStart b) (recordsOf b) 0 1 ≡ false → accepted b ≡ false
+  pub not-sound : soundTo b (savedNext b) (optionsStart b) (savedRecords b) 0 1 ≡ false → accepted b ≡ false
   not-sound e = rw (accepted-split, e, and-false)
 
-  pub by-pairs : framed b ≡ true → soundTo b (nextOf b) (optionsStart b) (recordsOf b) 0 1 ≡ true → allPlaced [] records ≡ accepted b
+  pub by-pairs : framed b ≡ true → soundTo b (savedNext b) (optionsStart b) (savedRecords b) 0 1 ≡ true → allPlaced [] records ≡ accepted b
   by-pairs e f = rw (accepted-split, e, f)
 
-  -- the answer of the one pass, for the next number and the count that were read
-  pub sound-by : (next count : ℕ) (r : Bool) → next ≡ nextOf b → count ≡ recordsOf b → r ≡ soundTo b next (optionsStart b) count 0 1
-      → soundTo b (nextOf b) (optionsStart b) (recordsOf b) 0 1 ≡ r
-  sound-by next count r e f g = sym (g ∙ rw (e, f))
+  -- the answer of the one pass, for the end, the next number and the count that were read
+  pub sound-by : (to next count : ℕ) (r : Bool) → to ≡ optionsStart b → next ≡ savedNext b → count ≡ savedRecords b → r ≡ soundTo b next to count 0 1
+      → soundTo b (savedNext b) (optionsStart b) (savedRecords b) 0 1 ≡ r
+  sound-by to next count r d e f g = sym (g ∙ rw (d, e, f))

@@ -7,12 +7,12 @@ use lib.ListN.{length, getD, set}
 use lib.Dec.{eqb}
 use Rattle.rules.specs.Numbers.{rootNumber}
 use Rattle.rules.specs.Fields.{get}
-use Rattle.rules.specs.Saved.{nodeAt, behind}
+use Rattle.rules.specs.Saved.{savedNodeAt, behind}
 use Rattle.saved.specs.Scan.{startOf}
 
 -- the parent and the last eight bytes of the record at a place, added: equal for records with one parent and equal names
 unfoldable pub keyAt : List ℕ → ℕ → ℕ
-keyAt b at = (nodeAt b at .above + get 8 b (behind b at - 8)) % 2 ^ 64
+keyAt b at = (savedNodeAt b at .parent + get 8 b (behind b at - 8)) % 2 ^ 64
 
 -- a number is the root's or one of the first i (R129 i)
 unfoldable pub listed : ℕ → List ℕ → ℕ → Bool
@@ -23,7 +23,7 @@ listed x c (suc i) = eqb (getD c i 0) x || listed x c i
 
 -- the number of record j
 abbrev pub recordNumber : List ℕ → ℕ → ℕ
-recordNumber b j = nodeAt b (startOf b j) .number
+recordNumber b j = savedNodeAt b (startOf b j) .number
 
 -- its key
 abbrev pub recordKey : List ℕ → ℕ → ℕ
@@ -45,7 +45,7 @@ abbrev pub Column : (ℕ → ℕ) → ℕ → List ℕ → Type 0
 Column f k c = (j : ℕ) → j < k → getD c j 0 ≡ f j
 
 -- what filled columns hold
-pub record Columns (b : List ℕ) (k : ℕ) (s n c : List ℕ) : Type 0 where
+pub record RecordColumns (b : List ℕ) (k : ℕ) (s n c : List ℕ) : Type 0 where
   pub starts : Column (startOf b) k s
   pub numbers : Column (recordNumber b) k n
   pub keys : Column (recordKey b) k c

@@ -4,11 +4,18 @@ ghost use mathlib.Core.Path.{_≡_};
 ghost use mathlib.Core.List.{[]};
 ghost use Prim.Native.Nat.{_≤_};
 ghost use lib.ListN.{length};
-ghost use Rattle.rules.specs.Saved.{nodeAt, nodesAt, behind, goodName, used, accepted};
-ghost use Rattle.saved.specs.Scan.{startOf, earlier, sound, placed, allPlaced, framed, soundTo, twin};
-ghost use Rattle.saved.specs.Columns.{keyAt, listed, FillsColumns, Among, Columns};
-
-pub mod inner;
+ghost use Rattle.rules.specs.Saved.{savedNodeAt, savedNodesAt, behind, goodName, used, accepted};
+ghost use Rattle.saved.specs.Scan.{startOf, earlier, sound, wellPlaced, allPlaced, framed, soundTo, twin};
+ghost use Rattle.saved.specs.Columns.{keyAt, listed, FillsColumns, Among, RecordColumns};
+use saved_parts::options;
+use saved_parts::places::RECORD;
+use saved_parts::places::TAIL;
+use saved_parts::places::VERSION;
+use saved_parts::records::name_len;
+use saved_parts::records::number_at;
+use saved_parts::records::parent_at;
+use saved_parts::records::record_end;
+use saved_parts::trailer;
 
 // The records that columns know: all that an instance has room for besides its root (R9).
 const COLUMN: usize = rules::MAX_NODES - 1;
@@ -18,22 +25,19 @@ const COLUMN: usize = rules::MAX_NODES - 1;
 fn is_framed(b: &[u8]) -> bool
     ensures { λ r. ⌜ r ≡ framed (now (b .entry)) ⌝ }
 {
-    let n = b.len();
-    if n < rules::TAIL {
+    if b.len() < TAIL {
         return false;
     }
-    let o = n - rules::TAIL;
-    let t = n - rules::TRAILER;
-    if le::fields::get_u32(b, t) as usize != o {
+    if trailer::offset_of(b) != options::start(b) {
         return false;
     }
-    if le::fields::get_u64(b, t + 16) / 256 != rules::VERSION as u64 {
+    if trailer::version_of(b) != VERSION as u64 {
         return false;
     }
-    if (rules::FLAGS as u32) <= le::fields::get_u32(b, o + 28) {
+    if (rules::FLAGS as u32) <= options::flags_of(b) {
         return false;
     }
-    let next = inner::next_of(b);
+    let next = trailer::next_of(b);
     if next < rules::PSEUDOFS_NEXT_INODE {
         return false;
     }
@@ -65,17 +69,17 @@ fn is_good_name(name: &[u8]) -> bool
 // Whether the record at a place has a number above the last one and below the next, and a good name (R129 g, h, j).
 fn is_sound(b: &[u8], at: usize, last: u64, next: u64) -> bool
     requires { ⌜ behind (now b) at ≤ length (now b) ⌝ }
-    ensures { λ r. ⌜ r ≡ sound next last (nodeAt (now (b .entry)) at) ⌝ }
+    ensures { λ r. ⌜ r ≡ sound next last (savedNodeAt (now (b .entry)) at) ⌝ }
 {
-    let number = inner::number_at(b, at);
+    let number = number_at(b, at);
     if number <= last {
         return false;
     }
     if next <= number {
         return false;
     }
-    let start = at + rules::RECORD;
-    let end = inner::record_end(b, at);
+    let start = at + RECORD;
+    let end = record_end(b, at);
     is_good_name(&b[start..end])
 }
 
@@ -88,18 +92,18 @@ fn are_sound(b: &[u8], to: usize, count: usize, next: u64) -> bool
     let mut at = 0;
     let mut i = 0;
     while i < count {
-        if to - at < rules::RECORD {
+        if to - at < RECORD {
             return false;
         }
-        let len = inner::name_len(b, at);
-        if to - at - rules::RECORD < len {
+        let len = name_len(b, at);
+        if to - at - RECORD < len {
             return false;
         }
         if !is_sound(b, at, last, next) {
             return false;
         }
-        last = inner::number_at(b, at);
-        at = at + rules::RECORD + len;
+        last = number_at(b, at);
+        at = at + RECORD + len;
         i += 1;
     }
     at == to
@@ -109,25 +113,25 @@ fn are_sound(b: &[u8], to: usize, count: usize, next: u64) -> bool
 fn is_twin(b: &[u8], p: usize, q: usize) -> bool
     requires { ⌜ behind (now b) p ≤ length (now b) ⌝ }
     requires { ⌜ behind (now b) q ≤ length (now b) ⌝ }
-    ensures { λ r. ⌜ r ≡ twin (nodeAt (now (b .entry)) p) (nodeAt (now (b .entry)) q) ⌝ }
+    ensures { λ r. ⌜ r ≡ twin (savedNodeAt (now (b .entry)) p) (savedNodeAt (now (b .entry)) q) ⌝ }
 {
-    if inner::parent_at(b, p) != inner::parent_at(b, q) {
+    if parent_at(b, p) != parent_at(b, q) {
         return false;
     }
-    let len = inner::name_len(b, q);
-    if inner::name_len(b, p) != len {
+    let len = name_len(b, q);
+    if name_len(b, p) != len {
         return false;
     }
-    le::runs::same_at(b, p + rules::RECORD, b, q + rules::RECORD, len)
+    le::runs::same_at(b, p + RECORD, b, q + RECORD, len)
 }
 
 // Whether the parent of the record at a place, before which i stand, is there, and no twin, by a scan of the bytes (R129 i, k).
 fn is_placed_by_scan(b: &[u8], at: usize, i: usize) -> bool
     requires { ⌜ at ≡ startOf (now b) i ⌝ }
     requires { ⌜ behind (now b) at ≤ length (now b) ⌝ }
-    ensures { λ r. ⌜ r ≡ placed (earlier (now (b .entry)) i) (nodeAt (now (b .entry)) at) ⌝ }
+    ensures { λ r. ⌜ r ≡ wellPlaced (earlier (now (b .entry)) i) (savedNodeAt (now (b .entry)) at) ⌝ }
 {
-    let parent = inner::parent_at(b, at);
+    let parent = parent_at(b, at);
     let mut found = parent == rules::ROOT_ID;
     let mut p = 0;
     let mut j = 0;
@@ -135,10 +139,10 @@ fn is_placed_by_scan(b: &[u8], at: usize, i: usize) -> bool
         if is_twin(b, p, at) {
             return false;
         }
-        if inner::number_at(b, p) == parent {
+        if number_at(b, p) == parent {
             found = true;
         }
-        p = inner::record_end(b, p);
+        p = record_end(b, p);
         j += 1;
     }
     found
@@ -149,8 +153,8 @@ fn key_at(b: &[u8], at: usize) -> u64
     requires { ⌜ behind (now b) at ≤ length (now b) ⌝ }
     ensures { λ r. ⌜ r ≡ keyAt (now (b .entry)) at ⌝ }
 {
-    let end = inner::record_end(b, at);
-    std::num::wrapping_add_u64(inner::parent_at(b, at), le::fields::get_u64(b, end - 8))
+    let end = record_end(b, at);
+    std::num::wrapping_add_u64(parent_at(b, at), le::fields::get_u64(b, end - 8))
 }
 
 // Whether a number is the root's or one of the first i (R129 i).
@@ -171,7 +175,7 @@ fn is_listed(numbers: &[u64; COLUMN], i: usize, number: u64) -> bool
 // Whether one of the i records before has the parent and the name of the record at a place: only those with its key are read (R129 k).
 fn is_used(b: &[u8], at: usize, i: usize, starts: &[usize; COLUMN], keys: &[u64; COLUMN]) -> bool
     requires { ⌜ Among (now b) at i (now starts) (now keys) ⌝ }
-    ensures { λ r. ⌜ r ≡ used (nodeAt (now (b .entry)) at .above) (nodeAt (now (b .entry)) at .called) (earlier (now (b .entry)) i) ⌝ }
+    ensures { λ r. ⌜ r ≡ used (savedNodeAt (now (b .entry)) at .parent) (savedNodeAt (now (b .entry)) at .name) (earlier (now (b .entry)) i) ⌝ }
 {
     let key = key_at(b, at);
     let mut j = i;
@@ -200,13 +204,13 @@ fn is_placed(
     keys: &[u64; COLUMN],
 ) -> bool
     requires { ⌜ (at ≡ startOf (now b) i) × (behind (now b) at ≤ length (now b)) × (k ≤ 1023) ⌝ }
-    requires { ⌜ Columns (now b) k (now starts) (now numbers) (now keys) ⌝ }
-    ensures { λ r. ⌜ r ≡ placed (earlier (now (b .entry)) i) (nodeAt (now (b .entry)) at) ⌝ }
+    requires { ⌜ RecordColumns (now b) k (now starts) (now numbers) (now keys) ⌝ }
+    ensures { λ r. ⌜ r ≡ wellPlaced (earlier (now (b .entry)) i) (savedNodeAt (now (b .entry)) at) ⌝ }
 {
     if k < i {
         return is_placed_by_scan(b, at, i);
     }
-    if !is_listed(numbers, i, inner::parent_at(b, at)) {
+    if !is_listed(numbers, i, parent_at(b, at)) {
         return false;
     }
     !is_used(b, at, i, starts, keys)
@@ -222,8 +226,8 @@ fn are_placed_by_columns(
     keys: &[u64; COLUMN],
 ) -> bool
     requires { ⌜ (startOf (now b) count ≤ length (now b)) × (k ≤ 1023) ⌝ }
-    requires { ⌜ Columns (now b) k (now starts) (now numbers) (now keys) ⌝ }
-    ensures { λ r. ⌜ r ≡ allPlaced [] (nodesAt (now (b .entry)) count 0) ⌝ }
+    requires { ⌜ RecordColumns (now b) k (now starts) (now numbers) (now keys) ⌝ }
+    ensures { λ r. ⌜ r ≡ allPlaced [] (savedNodesAt (now (b .entry)) count 0) ⌝ }
 {
     let mut at = 0;
     let mut i = 0;
@@ -231,7 +235,7 @@ fn are_placed_by_columns(
         if !is_placed(b, at, i, k, starts, numbers, keys) {
             return false;
         }
-        at = inner::record_end(b, at);
+        at = record_end(b, at);
         i += 1;
     }
     true
@@ -246,9 +250,9 @@ fn fill(b: &[u8], k: usize, starts: &mut [usize], numbers: &mut [u64], keys: &mu
     let mut i = 0;
     while i < k {
         starts[i] = at;
-        numbers[i] = inner::number_at(b, at);
+        numbers[i] = number_at(b, at);
         keys[i] = key_at(b, at);
-        at = inner::record_end(b, at);
+        at = record_end(b, at);
         i += 1;
     }
 }
@@ -256,7 +260,7 @@ fn fill(b: &[u8], k: usize, starts: &mut [usize], numbers: &mut [u64], keys: &mu
 // Whether each parent is 1 or an earlier record, and no two names under one parent are equal (R129 i, k).
 fn are_placed(b: &[u8], count: usize) -> bool
     requires { ⌜ startOf (now b) count ≤ length (now b) ⌝ }
-    ensures { λ r. ⌜ r ≡ allPlaced [] (nodesAt (now (b .entry)) count 0) ⌝ }
+    ensures { λ r. ⌜ r ≡ allPlaced [] (savedNodesAt (now (b .entry)) count 0) ⌝ }
 {
     let mut starts = [0usize; COLUMN];
     let mut numbers = [0u64; COLUMN];
@@ -273,8 +277,8 @@ pub fn is_accepted(b: &[u8]) -> bool
     if !is_framed(b) {
         return false;
     }
-    let count = inner::count_of(b);
-    if !are_sound(b, b.len() - rules::TAIL, count, inner::next_of(b)) {
+    let count = trailer::count_of(b);
+    if !are_sound(b, options::start(b), count, trailer::next_of(b)) {
         return false;
     }
     are_placed(b, count)

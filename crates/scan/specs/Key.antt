@@ -5,8 +5,8 @@ use lib.ListN.{length}
 use Rattle.le.specs.Mem.{get}
 
 -- how many of its bytes stand in the cell
-abbrev pub kept : List ℕ → ℕ
-kept p = min (length p) 7
+abbrev pub keptInCell : List ℕ → ℕ
+keptInCell p = min (length p) 7
 
 -- the ones of k bytes
 abbrev pub ones : ℕ → ℕ
@@ -14,8 +14,8 @@ ones k = 2 ^ (8 * k) - 1
 
 -- the mask of the cell of a name: the length byte and the bytes kept
 unfoldable pub maskOf : List ℕ → ℕ
-maskOf p = ones (kept p + 1)
+maskOf p = ones (keptInCell p + 1)
 
 -- the cell of a name under that mask, as a number: the length in the lowest byte, then the bytes kept (R45)
 unfoldable pub wordOf : List ℕ → ℕ
-wordOf p = length p % 256 + 256 * get (kept p) p (length p - 7)
+wordOf p = length p % 256 + 256 * get (keptInCell p) p (length p - 7)

@@ -9,17 +9,17 @@ use lib.ListN.{length, take, drop, length-drop, drop-of-length-le}
 use lib.Seq.{drop-drop, take-all}
 use lib.Dec.{leb}
 use borrow.Author.Tests.{le-leb, leb-true}
-use Rattle.script.specs.Step.{byBytes}
-use Rattle.script.specs.Feed.{accepts, endAccepts, lastText, Feeds, Finishes}
-use Rattle.script.specs.Runs.{usedIn, wroteIn, keptIn, Feed, Through, Onward, Loop}
-use Rattle.script.specs.declared.Fed.{Fed}
-use Rattle.script.specs.declared.Fed.the-variants.{Went, Refused}
-use Rattle.script.specs.declared.Finished.{Finished}
-use Rattle.script.specs.declared.Finished.the-variants.{Done, Refused as NotDone}
-use Rattle.script.proofs.Carry.{accepts-true, accepts-wide}
-use Rattle.script.proofs.Onward.{onward}
-use Rattle.script.proofs.Loops.{through-none, through-more, through-accepted}
-use Rattle.session.specs.Feeding.{FedAll, Ends, Brought, Over, Turned, Turn, Turns, Ran, LoopOf, EveryRun}
+use Rattle.session_script.specs.Step.{byBytes}
+use Rattle.session_script.specs.Feed.{accepts, endAccepts, lastText, Feeds, Finishes}
+use Rattle.session_script.specs.Runs.{usedIn, wroteIn, keptIn, Feed, Through, Onward, Loop}
+use Rattle.session_script.specs.declared.Fed.{Fed}
+use Rattle.session_script.specs.declared.Fed.the-variants.{Went, Refused}
+use Rattle.session_script.specs.declared.Finished.{Finished}
+use Rattle.session_script.specs.declared.Finished.the-variants.{Done, Refused as NotDone}
+use Rattle.session_script.proofs.Carry.{accepts-true, accepts-wide}
+use Rattle.session_script.proofs.Onward.{onward}
+use Rattle.session_script.proofs.Loops.{through-none, through-more, through-accepted}
+use Rattle.session.specs.Feeding.{FedAll, InputEnds, Brought, Over, Turned, Turn, Turns, Ran, LoopOf, EveryProgramRun}
 use Rattle.session.specs.declared.Stand.{Stand}
 
 -- the invariant: the feeds so far have led to here, and the next one is accepted
@@ -181,7 +181,7 @@ module _ (mem carry : List ℕ) (kept : ℕ) (out : List ℕ) (w : 8192 ≤ leng
         let e : w ≡ length (lastText (List ℕ) byBytes mem carry kept) = cc in
         omega (arith, e, f .within end-on)
 
-    pub ends : (w : ℕ) → r ≡ Done w → Ends mem carry kept out after left
+    pub ends : (w : ℕ) → r ≡ Done w → InputEnds mem carry kept out after left
     ends w g = record { wrote = w; finishes = rw g at f }
 
     pub not-ended : r ≡ NotDone → ⊥
@@ -214,5 +214,5 @@ module _ (room : ℕ) (out : List ℕ) (r : Stand) (after carried left : List �
       }
   looped (t ∷ ts) mem carry kept bytes begun last (inr v, (g, ch)) o = absurd (true≢false (sym g ∙ v .off))
 
-pub every-run : EveryRun
+pub every-run : EveryProgramRun
 every-run room out r after carried left ts mem carry kept bytes begun last t o = looped room out r after carried left ts mem carry kept bytes begun last t o

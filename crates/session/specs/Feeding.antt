@@ -1,14 +1,24 @@
--- What the program makes of a read, and of the end of its input: the contracts of `feed_all`, `end`, `turn` and `run`.
-use Prim.Native.Nat.{ℕ}
-use mathlib.Core.Bool.{true, false}
+-- What the program makes of a write, of a read, and of the end of its input: the contracts of its functions.
+use Prim.Native.Nat.{ℕ, _≤_}
+use mathlib.Core.Bool.{Bool, true, false}
 use mathlib.Core.List.{List, [], _∷_}
 use mathlib.Core.Logic.{_⊎_}
 use mathlib.Core.Path.{_≡_}
 use lib.ListN.{take}
-use Rattle.script.specs.Feed.{Finishes}
-use Rattle.script.specs.Runs.{Feed, Finish, Through, Read, Loop}
-use Rattle.script.specs.declared.Finished.the-variants.{Done}
+use Rattle.session_script.specs.Feed.{Finishes}
+use Rattle.session_script.specs.Runs.{Feed, Finish, Through, Read, Loop}
+use Rattle.session_script.specs.declared.Finished.the-variants.{Done}
 use Rattle.session.specs.declared.Stand.{Stand}
+use Rattle.session.specs.declared.Took.{Took}
+
+-- a write of n bytes, whatever C answers: it took no more of them, and none where it failed
+pub record TookSome (n : ℕ) (t : Took) : Type 0 where
+  pub most : t .count ≤ n
+  pub none : t .failed ≡ true → t .count ≡ 0
+
+-- all of n bytes, written: where there are none, that went well
+abbrev pub WroteAll : ℕ → Bool → Type 0
+WroteAll n well = n ≡ 0 → well ≡ true
 
 -- a read fed from its front on, each feed going on where the one before it ended, with the begun line and the bytes that it left; where all was written, nothing of the read is left (R137, R151)
 pub record FedAll (room : ℕ) (mem carry : List ℕ) (kept : ℕ) (piece : List ℕ) (r : Stand) (after carried : List ℕ) : Type 0 where
@@ -18,7 +28,7 @@ pub record FedAll (room : ℕ) (mem carry : List ℕ) (kept : ℕ) (piece : List
   pub whole : r .on ≡ true → rest ≡ []
 
 -- the input at its end: the finish is done
-pub record Ends (mem carry : List ℕ) (kept : ℕ) (out after left : List ℕ) : Type 0 where
+pub record InputEnds (mem carry : List ℕ) (kept : ℕ) (out after left : List ℕ) : Type 0 where
   pub wrote : ℕ
   pub finishes : Finishes mem carry kept out (Done wrote) after left
 
@@ -32,7 +42,7 @@ pub record Over (mem carry : List ℕ) (kept : ℕ) (out : List ℕ) (r : Stand)
   pub off : r .on ≡ false
   pub same : r .kept ≡ kept
   pub begun : carried ≡ carry
-  pub ends : Ends mem carry kept out after left
+  pub ends : InputEnds mem carry kept out after left
 
 -- one or the other
 abbrev pub Turned : ℕ → List ℕ → List ℕ → ℕ → List ℕ → List ℕ → Stand → List ℕ → List ℕ → List ℕ → Type 0
@@ -71,7 +81,7 @@ pub record LoopOf (room : ℕ) (mem carry : List ℕ) (kept : ℕ) (after : List
   pub loop : Loop room mem carry kept reads finish
   pub end : finish .after ≡ after
 
--- turns that come to the end of the input are such a loop, of which `script` says what it writes and leaves
-abbrev pub EveryRun : Type 0
-EveryRun = (room : ℕ) (out : List ℕ) (r : Stand) (after carried left : List ℕ) (ts : List Turn) (mem carry : List ℕ) (kept : ℕ) (bytes begun : List ℕ) (last : ℕ)
+-- turns that come to the end of the input are such a loop, of which `session_script` says what it writes and leaves
+abbrev pub EveryProgramRun : Type 0
+EveryProgramRun = (room : ℕ) (out : List ℕ) (r : Stand) (after carried left : List ℕ) (ts : List Turn) (mem carry : List ℕ) (kept : ℕ) (bytes begun : List ℕ) (last : ℕ)
     → Turns room mem carry kept ts bytes begun last → Over bytes begun last out r after carried left → LoopOf room mem carry kept after

@@ -1,11 +1,11 @@
 // A session from standard input to standard output (R137): it only reads, calls and writes, 64 KiB at a time. Where a read or a write fails it says so and ends (D130).
 use libc::STDIN_FILENO;
 use libc::STDOUT_FILENO;
-use script::Fed;
-use script::Finished;
+use session_script::Fed;
+use session_script::Finished;
 ghost use Prim.Native.Nat.{_≤_};
 ghost use lib.ListN.{length};
-ghost use Rattle.session.specs.Feeding.{FedAll, Ends, Turned, Ran};
+ghost use Rattle.session.specs.Feeding.{TookSome, WroteAll, FedAll, InputEnds, Turned, Ran};
 
 // The number of nodes of the instance (R137).
 const NODES: usize = 64;
@@ -33,9 +33,9 @@ fn interrupted() -> bool {
     os::errno() == libc::EINTR
 }
 
-// One write: what it took of the bytes, none where it was interrupted, and whether it failed.
+// One write: what it took of the bytes, none where it was interrupted, and whether it failed; then it took none.
 fn write_some(fd: i32, bytes: &[u8]) -> Took
-    ensures { λ r. ⌜ r .count ≤ length (now (bytes .entry)) ⌝ }
+    ensures { λ r. ⌜ TookSome (length (now (bytes .entry))) r ⌝ }
 {
     let put = libc::write(fd, bytes);
     if 0 < put {
@@ -56,8 +56,10 @@ fn write_some(fd: i32, bytes: &[u8]) -> Took
     }
 }
 
-// Writes all of the bytes, and answers whether that went well. A proved loop ends, and nothing says that a write gets on: the turns are counted down from a number that no run uses up.
-fn write_all(fd: i32, bytes: &[u8]) -> bool {
+// Writes all of the bytes, and answers whether that went well; where there are none it did. A proved loop ends, and nothing says that a write gets on: the turns are counted down from a number that no run uses up.
+fn write_all(fd: i32, bytes: &[u8]) -> bool
+    ensures { λ r. ⌜ WroteAll (length (now (bytes .entry))) r ⌝ }
+{
     let mut turns = u64::MAX;
     let mut done = 0;
     while 0 < turns {
@@ -74,9 +76,10 @@ fn write_all(fd: i32, bytes: &[u8]) -> bool {
     false
 }
 
-// Writes the first bytes of the output; where that fails, says so and answers false.
+// Writes the first bytes of the output; where that fails, says so and answers false. None are written well.
 fn put(out: &[u8], wrote: usize) -> bool
     requires { ⌜ wrote ≤ length (now out) ⌝ }
+    ensures { λ r. ⌜ WroteAll wrote r ⌝ }
 {
     let all = write_all(STDOUT_FILENO, &out[0..wrote]);
     if !all {
@@ -101,7 +104,7 @@ fn feed_all(
     let mut at = 0;
     let mut line = kept;
     while at < piece.len() {
-        match script::feed(storage, carry, line, &piece[at..piece.len()], out) {
+        match session_script::feed(storage, carry, line, &piece[at..piece.len()], out) {
             Fed::Went { used, wrote, kept } => {
                 at += used;
                 line = kept;
@@ -131,9 +134,9 @@ fn end(storage: &mut [u8], carry: &[u8], kept: usize, out: &mut [u8])
     requires { ⌜ 8192 ≤ length (now carry) ⌝ }
     requires { ⌜ kept ≤ 8193 ⌝ }
     requires { ⌜ 64 ≤ length (now out) ⌝ }
-    ensures { λ _. ⌜ Ends (now (storage .entry)) (now (carry .entry)) kept (now (out .entry)) (now (storage .exit)) (now (out .exit)) ⌝ }
+    ensures { λ _. ⌜ InputEnds (now (storage .entry)) (now (carry .entry)) kept (now (out .entry)) (now (storage .exit)) (now (out .exit)) ⌝ }
 {
-    match script::finish(storage, carry, kept, out) {
+    match session_script::finish(storage, carry, kept, out) {
         Finished::Done(wrote) => {
             put(out, wrote);
         }
@@ -207,7 +210,7 @@ fn main() {
         external: 0,
         range: 0,
     };
-    let o = storage::VfsOptions {
+    let o = vfs_options::VfsOptions {
         in_opts: 0,
         out_opts: 0,
         id_mapping,

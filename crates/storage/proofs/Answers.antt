@@ -7,19 +7,22 @@ use native.Mathlib.Omega.{arith}
 use lib.Dec.{eqb}
 use Rattle.le.specs.Mem.{get}
 use Rattle.id_map.specs.Mapping.{mappingOf}
+use Rattle.rules.specs.Ids.{mappingAt}
 use Rattle.rules.specs.Outcome.{settings}
 use Rattle.rules.specs.Calls.{rule}
+use Rattle.tables.specs.Layout.{initializedAt, inOptsAt, outOptsAt, ownInternalAt, flagsAt}
 use Rattle.tables.specs.Table.{row}
-use Rattle.tables.specs.View.{optionsFrom, mappingAt, headOf, view}
-use Rattle.tables.specs.Rule.{laid}
+use Rattle.tables.specs.View.{optionsFrom, headOf, view}
+use Rattle.tables.specs.Laid.{laid}
 use Rattle.tables.specs.Write.{setRemoval}
-use Rattle.tables.specs.Call.{tells, answeredBy, Does}
+use Rattle.call_form.specs.Form.{tells, answeredBy, Does}
 use Rattle.tables.proofs.Refine.{view-removal}
 use Rattle.tables.proofs.Keeps.{laid-long, keeps-removal}
-use Rattle.storage.specs.Answers.{removalTold, removeCall, initializedTold, initializedCall, optionsIn, optionsTold, optionsCall}
+use Rattle.storage.specs.Answers.{removalTold, removeCall, initializedTold, initializedCall, optionsTold, optionsCall}
 use Rattle.storage.specs.declared.Removal.the-variants.{Done, Small as RemovalSmall}
 use Rattle.storage.specs.declared.IsInitialized.the-variants.{Is, Small as InitializedSmall}
-use Rattle.storage.specs.declared.VfsOptions.{VfsOptions}
+use Rattle.vfs_options.specs.declared.VfsOptions.{VfsOptions}
+use Rattle.vfs_options.specs.Given.{optionsIn}
 use Rattle.storage.specs.declared.OptionsOf.the-variants.{Options as OptionsAre, Small as OptionsSmall}
 use Rattle.storage.proofs.Laid.{told-small, told-by}
 use Rattle.storage.proofs.Calls.{does-small, does}
@@ -29,7 +32,7 @@ module _ (mem : List ℕ) where
   unfolding initializedTold
   initialized-small e = sym (told-small mem initializedCall e)
 
-  pub initialized-is : laid mem ≡ true → (x : ℕ) → x ≡ get 1 mem 83 → initializedTold (Is (not (eqb x 0))) ≡ answeredBy mem initializedCall
+  pub initialized-is : laid mem ≡ true → (x : ℕ) → x ≡ get 1 mem initializedAt → initializedTold (Is (not (eqb x 0))) ≡ answeredBy mem initializedCall
   unfolding initializedTold rule view row get
   initialized-is e x p = ap (λ (y : ℕ). initializedTold (Is (not (eqb y 0)))) p ∙ sym (told-by mem initializedCall e)
 
@@ -37,8 +40,8 @@ module _ (mem : List ℕ) where
   unfolding optionsTold
   options-small e = sym (told-small mem optionsCall e)
 
-  pub options-by : (o : VfsOptions) → o .«in_opts» ≡ get 8 mem 40 → o .«out_opts» ≡ get 8 mem 48 → mappingOf (o .«id_mapping») ≡ mappingAt mem 68
-      → o .flags ≡ get 1 mem 80 → optionsIn o ≡ optionsFrom (headOf mem)
+  pub options-by : (o : VfsOptions) → o .«in_opts» ≡ get 8 mem inOptsAt → o .«out_opts» ≡ get 8 mem outOptsAt → mappingOf (o .«id_mapping») ≡ mappingAt mem ownInternalAt
+      → o .flags ≡ get 1 mem flagsAt → optionsIn o ≡ optionsFrom (headOf mem)
   unfolding row get
   options-by o a b m g = λ t. record { inOpts = a t; outOpts = b t; mapping = m t; flags = g t }
 

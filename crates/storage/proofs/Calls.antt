@@ -8,8 +8,8 @@ use Rattle.le.specs.Mem.{write}
 use Rattle.rules.specs.Instance.{Instance}
 use Rattle.rules.specs.Outcome.{Outcome}
 use Rattle.tables.specs.View.{view}
-use Rattle.tables.specs.Rule.{laid}
-use Rattle.tables.specs.Call.{Told, toldBy, toldSmall, writtenBy, Writes, Does}
+use Rattle.tables.specs.Laid.{laid}
+use Rattle.call_form.specs.Form.{Told, toldBy, toldSmall, writtenBy, Writes, Does}
 use Rattle.storage.proofs.Laid.{told-small, told-by}
 
 module _ (mem : List ℕ) (f : Instance → Outcome) where

@@ -11,14 +11,14 @@ use Rattle.rules.specs.Numbers.{DONE, storageFor}
 use Rattle.rules.specs.Ids.{badMapping}
 use Rattle.rules.specs.Instance.{Instance, emptySlot, heldBy}
 use Rattle.rules.specs.Create.{Creation, tooSmall, badOptions, newInstance, createRule}
-use Rattle.rules.specs.Driven.{Driven, creation}
+use Rattle.rules.specs.claims.Driven.{Driven, creation}
 use Rattle.rules.proofs.Ids.{within}
 use Rattle.tables.specs.Table.{putRow, tab}
-use Rattle.tables.specs.Layout.{mark, flagsField, markField}
+use Rattle.tables.specs.Layout.{flagsAt, counterAt, removalAt, initializedAt, rootCellAt, mark, flagsField, markField}
 use Rattle.tables.specs.View.{nodesFrom, view}
-use Rattle.tables.specs.Rule.{laid}
+use Rattle.tables.specs.Laid.{laid}
 use Rattle.tables.specs.Write.{putHeader}
-use Rattle.storage.specs.declared.VfsOptions.{VfsOptions}
+use Rattle.vfs_options.specs.declared.VfsOptions.{VfsOptions}
 use Rattle.storage.specs.Header.{spell, headerOf}
 use Rattle.storage.specs.Limits.{SlotsFit, Limits}
 use Rattle.storage.specs.Creation.{creationOf, emptySlots, createMem, Creates, CreatesDriven}
@@ -34,7 +34,7 @@ pub words-put : (mem : List ℕ) (n known ins outs : ℕ) →
 unfolding put putHeader putRow
 words-put mem n known ins outs = refl
 
-pub bytes-put : (mem : List ℕ) (flags : ℕ) → put 8 (put 1 (put 1 (put 1 (put 1 mem 80 flags) 81 1) 82 0) 83 0) 88 0
+pub bytes-put : (mem : List ℕ) (flags : ℕ) → put 8 (put 1 (put 1 (put 1 (put 1 mem flagsAt flags) counterAt 1) removalAt 0) initializedAt 0) rootCellAt 0
     ≡ putHeader flagsField (bytesOf 1 flags ∷ bytesOf 1 1 ∷ bytesOf 1 0 ∷ bytesOf 1 0 ∷ bytesOf 8 0 ∷ []) mem
 unfolding put putHeader putRow
 bytes-put mem flags = refl

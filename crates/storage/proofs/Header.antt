@@ -7,15 +7,16 @@ use Prim.Native.Nat.{ℕ, zero, suc, _+_, _*_, _^_, _≤_, _<_}
 use native.Mathlib.Omega.{arith}
 use lib.ListN.{length, getD}
 use lib.Dec.{eqb}
+use Rattle.rules.specs.Numbers.{storageFor}
 use Rattle.rules.specs.Ids.{badMapping}
 use Rattle.rules.specs.Instance.{Instance}
 use Rattle.rules.specs.Create.{unknown}
 use Rattle.rules.proofs.Ids.{within}
 use Rattle.rules.proofs.Fields.{length-bytesOf}
 use Rattle.tables.specs.Table.{Col}
-use Rattle.tables.specs.Layout.{header, capacityField, countField, flagsField, markField, nextField, rootGidField, rootModeField, rootUidField}
-use Rattle.tables.specs.View.{field, mountFrom, slotsOf, nodesFrom, view}
-use Rattle.tables.specs.Rule.{laidBy, laid}
+use Rattle.tables.specs.Layout.{externalField, rangeField, occupancyAt, mappingField, ownMappingField, ownExternalField, ownRangeField, knownField, inOptsField, outOptsField, counterField, removalField, initializedField, rootCellField, header, capacityField, countField, flagsField, markField, nextField, rootGidField, rootModeField, rootUidField}
+use Rattle.tables.specs.View.{field, mountFromCells, slotsOf, nodesFrom, view}
+use Rattle.tables.specs.Laid.{laidBy, laid}
 use Rattle.tables.specs.Write.{putHeader}
 use Rattle.tables.proofs.Table.{over, Fit}
 use Rattle.tables.proofs.Spells.{cell-back, yes-back, yes-fits}
@@ -48,7 +49,7 @@ spelt (c ∷ cs) (v ∷ vs) mem i (suc k) w h g = spelt cs vs mem i k (w .1) (om
 
 -- ---- the header of an instance
 
-module _ (i : Instance) (mem : List ℕ) (l : Limits i) (b : 256 ≤ length mem) where
+module _ (i : Instance) (mem : List ℕ) (l : Limits i) (b : occupancyAt ≤ length mem) where
   abbrev vs : List ℕ
   vs = headerOf i
 
@@ -75,46 +76,46 @@ module _ (i : Instance) (mem : List ℕ) (l : Limits i) (b : 256 ≤ length mem)
     indexes = record { slots = slotsOf mem; counter = i .indexes .counter };
     tree = record { next = i .tree .next; root = none; nodes = nodesFrom (i .fixed .capacity) mem 0 (length (i .tree .nodes)) };
   }
-  unfolding headerOf mountFrom
+  unfolding headerOf mountFromCells
   view-headed =
       let f : (k : ℕ) → k < 18 → field k H ≡ getD vs k 0 = reads in
-      view-header 0 (spell header vs) mem (spell-fits header vs) b
+      view-header markField (spell header vs) mem (spell-fits header vs) b
       ∙ (λ t. record {
         fixed = record {
-          capacity = f 1 (omega arith) t;
-          known = f 4 (omega arith) t;
-          mapping = record { internal = f 7 (omega arith) t; external = f 8 (omega arith) t; range = f 9 (omega arith) t };
+          capacity = f capacityField (omega arith) t;
+          known = f knownField (omega arith) t;
+          mapping = record { internal = f mappingField (omega arith) t; external = f externalField (omega arith) t; range = f rangeField (omega arith) t };
         };
-        removal = (ap (λ (x : ℕ). not (eqb x 0)) (f 15 (omega arith)) ∙ yes-back (i .removal)) t;
-        initialized = (ap (λ (x : ℕ). not (eqb x 0)) (f 16 (omega arith)) ∙ yes-back (i .initialized)) t;
+        removal = (ap (λ (x : ℕ). not (eqb x 0)) (f removalField (omega arith)) ∙ yes-back (i .removal)) t;
+        initialized = (ap (λ (x : ℕ). not (eqb x 0)) (f initializedField (omega arith)) ∙ yes-back (i .initialized)) t;
         options = record {
-          inOpts = f 5 (omega arith) t;
-          outOpts = f 6 (omega arith) t;
-          mapping = record { internal = f 10 (omega arith) t; external = f 11 (omega arith) t; range = f 12 (omega arith) t };
-          flags = f 13 (omega arith) t;
+          inOpts = f inOptsField (omega arith) t;
+          outOpts = f outOptsField (omega arith) t;
+          mapping = record { internal = f ownMappingField (omega arith) t; external = f ownExternalField (omega arith) t; range = f ownRangeField (omega arith) t };
+          flags = f flagsField (omega arith) t;
         };
-        indexes = record { slots = slotsOf mem; counter = f 14 (omega arith) t };
+        indexes = record { slots = slotsOf mem; counter = f counterField (omega arith) t };
         tree = record {
-          next = f 3 (omega arith) t;
-          root = mountFrom (f 17 (omega arith) t) (field rootUidField H) (field rootGidField H) (field rootModeField H);
-          nodes = nodesFrom (f 1 (omega arith) t) mem 0 (f 2 (omega arith) t);
+          next = f nextField (omega arith) t;
+          root = mountFromCells (f rootCellField (omega arith) t) (field rootUidField H) (field rootGidField H) (field rootModeField H);
+          nodes = nodesFrom (f capacityField (omega arith) t) mem 0 (f countField (omega arith) t);
         };
       })
 
-  pub laid-headed : 512 * i .fixed .capacity + 8192 ≤ length mem → laid after ≡ true
+  pub laid-headed : storageFor (i .fixed .capacity) ≤ length mem → laid after ≡ true
   unfolding laid headerOf
   laid-headed long =
       let f : (k : ℕ) → k < 18 → field k H ≡ getD vs k 0 = reads in
-      let n : field capacityField H ≡ i .fixed .capacity = f 1 (omega arith) in
-      let c : field countField H ≡ length (i .tree .nodes) = f 2 (omega arith) in
-      let x : field nextField H ≡ i .tree .next = f 3 (omega arith) in
-      let g : field flagsField H ≡ i .options .flags = f 13 (omega arith) in
-      let size : length after ≡ length mem = length-header 0 (spell header vs) mem in
-      ap₂ laidBy (head-put 0 (spell header vs) mem (spell-fits header vs) b) size
+      let n : field capacityField H ≡ i .fixed .capacity = f capacityField (omega arith) in
+      let c : field countField H ≡ length (i .tree .nodes) = f countField (omega arith) in
+      let x : field nextField H ≡ i .tree .next = f nextField (omega arith) in
+      let g : field flagsField H ≡ i .options .flags = f flagsField (omega arith) in
+      let size : length after ≡ length mem = length-header markField (spell header vs) mem in
+      ap₂ laidBy (head-put markField (spell header vs) mem (spell-fits header vs) b) size
       ∙ is-ruled H (length mem) (record {
         size = record {
           long = omega arith;
-          marked = f 0 (omega arith);
+          marked = f markField (omega arith);
           some-node = omega (arith, l .some-node);
           few-nodes = omega (arith, l .few-nodes);
           enough = omega arith;
@@ -123,13 +124,13 @@ module _ (i : Instance) (mem : List ℕ) (l : Limits i) (b : 256 ≤ length mem)
         low = omega (arith, l .low);
         top = omega (arith, l .top);
         bits =
-            (λ t. unknown (f 4 (omega arith) t) (record {
-              inOpts = f 5 (omega arith) t;
-              outOpts = f 6 (omega arith) t;
-              mapping = record { internal = f 10 (omega arith) t; external = f 11 (omega arith) t; range = f 12 (omega arith) t };
-              flags = f 13 (omega arith) t;
+            (λ t. unknown (f knownField (omega arith) t) (record {
+              inOpts = f inOptsField (omega arith) t;
+              outOpts = f outOptsField (omega arith) t;
+              mapping = record { internal = f ownMappingField (omega arith) t; external = f ownExternalField (omega arith) t; range = f ownRangeField (omega arith) t };
+              flags = f flagsField (omega arith) t;
             }))
             ∙ l .within;
         flags = omega (arith, l .options .flags);
-        maps = (λ t. badMapping (record { internal = f 7 (omega arith) t; external = f 8 (omega arith) t; range = f 9 (omega arith) t })) ∙ l .mapping;
+        maps = (λ t. badMapping (record { internal = f mappingField (omega arith) t; external = f externalField (omega arith) t; range = f rangeField (omega arith) t })) ∙ l .mapping;
       })

@@ -2,33 +2,34 @@
 use mathlib.Core.Path.{_≡_, sym, ap, _∙_}
 use mathlib.Core.Bool.{Bool, true, false, not, and-true}
 use mathlib.Core.List.{List}
-use Prim.Native.Nat.{ℕ, _^_, _≤_, _<_}
+use Prim.Native.Nat.{ℕ, _≤_, _<_}
 use lib.ListN.{length}
 use borrow.Author.Tests.{eq-eqb, ne-eqb, le-leb, lt-leb, lt-ltb, le-ltb, not-true, not-false}
 use Rattle.le.specs.Mem.{get}
+use Rattle.rules.specs.Numbers.{firstNumber, topNumber}
 use Rattle.rules.specs.Ids.{badMapping}
 use Rattle.rules.specs.Create.{tooSmall, badOptions}
 use Rattle.rules.specs.Instance.{Instance}
 use Rattle.rules.specs.Outcome.{Outcome}
-use Rattle.rules.specs.Saved.{every}
+use Rattle.rules.specs.Tests.{every}
 use Rattle.rules.proofs.Tests.{fails}
 use Rattle.tables.specs.Table.{row}
-use Rattle.tables.specs.Layout.{mark, capacityOf, countOf, nextOf, mappingField}
+use Rattle.tables.specs.Layout.{tableAt, markAt, knownAt, mark, capacityOf, countOf, nextOf, mappingField}
 use Rattle.tables.specs.View.{mappingFrom, optionsFrom, headOf, view}
-use Rattle.tables.specs.Rule.{laidBy, laid, Bounds}
-use Rattle.tables.specs.Call.{Told, toldBy, toldSmall, answeredBy}
+use Rattle.tables.specs.Laid.{laidBy, laid, Bounds}
+use Rattle.call_form.specs.Form.{Told, toldBy, toldSmall, answeredBy}
 use Rattle.tables.proofs.Keeps.{laid-is}
 
 -- ---- the tests of the rule
 
 module _ (mem : List ℕ) where
-  pub short : length mem < 8192 → laid mem ≡ false
+  pub short : length mem < tableAt → laid mem ≡ false
   unfolding laid laidBy
-  short h = fails 0 _ (lt-leb 8192 (length mem) h)
+  short h = fails 0 _ (lt-leb tableAt (length mem) h)
 
-  pub unmarked : (get 8 mem 0 ≡ mark → ⊥) → laid mem ≡ false
+  pub unmarked : (get 8 mem markAt ≡ mark → ⊥) → laid mem ≡ false
   unfolding laid laidBy row get
-  unmarked h = fails 1 _ (ne-eqb (get 8 mem 0) mark h)
+  unmarked h = fails 1 _ (ne-eqb (get 8 mem markAt) mark h)
 
   pub too-small : tooSmall (length mem) (capacityOf mem) ≡ true → laid mem ≡ false
   unfolding laid laidBy row get
@@ -38,24 +39,24 @@ module _ (mem : List ℕ) where
   unfolding laid laidBy row get
   crowded h = fails 3 _ (le-ltb (countOf mem) (capacityOf mem) h)
 
-  pub low-next : nextOf mem < 2 → laid mem ≡ false
+  pub low-next : nextOf mem < firstNumber → laid mem ≡ false
   unfolding laid laidBy row get
-  low-next h = fails 4 _ (lt-leb 2 (nextOf mem) h)
+  low-next h = fails 4 _ (lt-leb firstNumber (nextOf mem) h)
 
-  pub high-next : 2 ^ 56 < nextOf mem → laid mem ≡ false
+  pub high-next : topNumber < nextOf mem → laid mem ≡ false
   unfolding laid laidBy row get
-  high-next h = fails 5 _ (lt-leb (nextOf mem) (2 ^ 56) h)
+  high-next h = fails 5 _ (lt-leb (nextOf mem) topNumber h)
 
-  pub bad-options : badOptions (get 8 mem 32) (optionsFrom (headOf mem)) ≡ true → laid mem ≡ false
+  pub bad-options : badOptions (get 8 mem knownAt) (optionsFrom (headOf mem)) ≡ true → laid mem ≡ false
   unfolding laid laidBy row get
   bad-options e = fails 6 _ (rw e)
 
   -- all but the last pass: it decides
-  pub by-mapping : 8192 ≤ length mem → get 8 mem 0 ≡ mark → tooSmall (length mem) (capacityOf mem) ≡ false → countOf mem < capacityOf mem → 2 ≤ nextOf mem → nextOf mem ≤ 2 ^ 56
-      → badOptions (get 8 mem 32) (optionsFrom (headOf mem)) ≡ false → not (badMapping (mappingFrom mappingField (headOf mem))) ≡ laid mem
+  pub by-mapping : tableAt ≤ length mem → get 8 mem markAt ≡ mark → tooSmall (length mem) (capacityOf mem) ≡ false → countOf mem < capacityOf mem → firstNumber ≤ nextOf mem → nextOf mem ≤ topNumber
+      → badOptions (get 8 mem knownAt) (optionsFrom (headOf mem)) ≡ false → not (badMapping (mappingFrom mappingField (headOf mem))) ≡ laid mem
   unfolding laid laidBy row get every
   by-mapping a b c d e f g =
-      rw (le-leb 8192 (length mem) a, eq-eqb (get 8 mem 0) mark b, c, lt-ltb (countOf mem) (capacityOf mem) d, le-leb 2 (nextOf mem) e, le-leb (nextOf mem) (2 ^ 56) f, g, and-true)
+      rw (le-leb tableAt (length mem) a, eq-eqb (get 8 mem markAt) mark b, c, lt-ltb (countOf mem) (capacityOf mem) d, le-leb firstNumber (nextOf mem) e, le-leb (nextOf mem) topNumber f, g, and-true)
 
   -- ---- the answer of a call
 

@@ -14,11 +14,11 @@ use Rattle.rules.specs.Bytes.{Bytes}
 use Rattle.rules.specs.Numbers.{storageFor}
 use Rattle.rules.specs.Tree.{Mount}
 use Rattle.rules.specs.Instance.{Slot, Instance, withTree, withSlots}
-use Rattle.tables.specs.Table.{tab}
-use Rattle.tables.specs.Layout.{header, slotTable, markField}
+use Rattle.tables.specs.Table.{putRow, tab}
+use Rattle.tables.specs.Layout.{rootCellField, header, slotTable, markField}
 use Rattle.tables.specs.View.{nodesFrom, view}
-use Rattle.tables.specs.Rule.{laid}
-use Rattle.tables.specs.Write.{fromPlace, putHeader, yesByte, setSlot, mountCells, setRootMount}
+use Rattle.tables.specs.Laid.{laid}
+use Rattle.tables.specs.Write.{fromPlace, putHeader, yesByte, setHeld, setTag, setSlot, mountCells, setRootMount}
 use Rattle.tables.proofs.Indexes.{slots-count}
 use Rattle.tables.proofs.Refine.{view-slot, view-root-mount}
 use Rattle.tables.proofs.Keeps.{laid-long, laid-is, length-header, length-slot, keeps-slot, keeps-root}
@@ -35,7 +35,7 @@ putSlots [] k mem = mem
 putSlots (s ∷ ss) k mem = putSlots ss (k + 1) (setSlot k (s .held) (s .tag) mem)
 
 slot-bytes : (k : ℕ) (s : Slot) (mem : List ℕ) → Bytes mem → Bytes (setSlot k (s .held) (s .tag) mem)
-unfolding setSlot
+unfolding setSlot setTag setHeld putRow
 slot-bytes k s mem h =
     row-bytes slotTable (bytesOf 1 (yesByte (s .held)) ∷ bytesOf 4 (s .tag) ∷ []) mem k h (number-bytes 1 (yesByte (s .held)), (number-bytes 4 (s .tag), omega arith))
 
@@ -56,7 +56,7 @@ slots-there (s ∷ ss) k mem e f h =
     let S = view mem .indexes .slots in
     let low : k < 256 = omega arith in
     let v : view m′ ≡ withSlots (set S k s) (view mem) = view-slot k low (s .held) (s .tag) mem (f .0) (laid-long mem e) in
-    let r = slots-there ss (k + 1) m′ (keeps-slot mem e k (s .held) (s .tag) low (f .0)) (f .1) (omega arith) in
+    let r = slots-there ss (k + 1) m′ (keeps-slot mem e k (s .held) (s .tag)) (f .1) (omega arith) in
     let in′ : k < length S = omega (arith, slots-count mem) in
     let l : take (k + 1) (set S k s) ++ ss ≡ take k S ++ (s ∷ ss) = rw (add-one, take-suc-set S k s, append-assoc) in
     record {
@@ -70,11 +70,11 @@ slots-there (s ∷ ss) k mem e f h =
 
 root-length : (m : Option Mount) (mem : List ℕ) → length (setRootMount m mem) ≡ length mem
 unfolding setRootMount
-root-length m mem = length-header 17 (mountCells m) mem
+root-length m mem = length-header rootCellField (mountCells m) mem
 
 root-bytes : (m : Option Mount) (mem : List ℕ) → Bytes mem → Bytes (setRootMount m mem)
 unfolding setRootMount putHeader
-root-bytes m mem h = row-bytes header (fromPlace 17 (mountCells m)) mem 0 h (from-bytes 17 (mountCells m) (cells m))
+root-bytes m mem h = row-bytes header (fromPlace rootCellField (mountCells m)) mem 0 h (from-bytes rootCellField (mountCells m) (cells m))
   where
     cells : (o : Option Mount) → AllBytes (mountCells o)
     cells none = (number-bytes 8 0, omega arith)
@@ -105,7 +105,7 @@ onto i l =
     let v₄ = view-root-mount m₃ (laid-is m₃ (slotted .keeps)) (i .tree .root) (l .root) in (
       m₄,
       record {
-        long = root-length (i .tree .root) m₃ ∙ (slotted .size ∙ (length-header 0 (spell header (headerOf i)) m₁ ∙ size₁));
+        long = root-length (i .tree .root) m₃ ∙ (slotted .size ∙ (length-header markField (spell header (headerOf i)) m₁ ∙ size₁));
         bytes = root-bytes (i .tree .root) m₃ (slotted .bytes (head-bytes i m₁ (rows-bytes n ns 0 m₀ (l .nodes) (zeros-bytes (storageFor n)))));
         keeps = keeps-root m₃ (slotted .keeps) (i .tree .root);
         stands =

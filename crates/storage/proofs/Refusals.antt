@@ -5,7 +5,7 @@ use Prim.Native.Nat.{ℕ, _+_, _*_, _≤_, _<_}
 use lib.Bits.{bitAnd}
 use lib.Dec.{eqb, leb, ltb}
 use borrow.Author.Tests.{eq-eqb, ne-eqb, lt-ltb, le-ltb}
-use Rattle.rules.specs.Numbers.{DONE, SMALL, BADOPT, BADMAP}
+use Rattle.rules.specs.Numbers.{maxNodes, storageFor, DONE, SMALL, BADOPT, BADMAP}
 use Rattle.rules.specs.Ids.{badMapping}
 use Rattle.rules.specs.Instance.{Options}
 use Rattle.rules.specs.Outcome.{firstOf}
@@ -18,13 +18,13 @@ module _ (bytes n : ℕ) where
   unfolding tooSmall
   none-asked h = rw (lt-ltb n 1 h)
 
-  pub too-many : 1 ≤ n → 1024 < n → tooSmall bytes n ≡ true
+  pub too-many : 1 ≤ n → maxNodes < n → tooSmall bytes n ≡ true
   unfolding tooSmall
-  too-many h g = rw (le-ltb n 1 h, lt-ltb 1024 n g)
+  too-many h g = rw (le-ltb n 1 h, lt-ltb maxNodes n g)
 
-  pub by-bytes : 1 ≤ n → n ≤ 1024 → ltb bytes (512 * n + 8192) ≡ tooSmall bytes n
+  pub by-bytes : 1 ≤ n → n ≤ maxNodes → ltb bytes (storageFor n) ≡ tooSmall bytes n
   unfolding tooSmall
-  by-bytes h g = rw (le-ltb n 1 h, le-ltb 1024 n g)
+  by-bytes h g = rw (le-ltb n 1 h, le-ltb maxNodes n g)
 
 module _ (known : ℕ) (o : Options) where
   pub in-unknown : (bitAnd (o .inOpts) known ≡ o .inOpts → ⊥) → unknown known o ≡ true

@@ -8,9 +8,9 @@ use borrow.Author.Tests.{ne-eqb}
 use Rattle.rules.specs.Numbers.{DONE}
 use Rattle.rules.specs.Calls.{rule}
 use Rattle.rules.specs.Create.{createRule}
-use Rattle.tables.specs.Rule.{laid}
+use Rattle.tables.specs.Laid.{laid}
 use Rattle.tables.specs.Write.{setRemoval}
-use Rattle.tables.specs.Call.{Told, answeredBy}
+use Rattle.call_form.specs.Form.{Told, answeredBy}
 use Rattle.storage.specs.Answers.{removeCall}
 use Rattle.storage.specs.Refused.{EveryRefused}
 use Rattle.storage.proofs.Laid.{told-by}

@@ -1,14 +1,13 @@
 -- What the answers of the calls on the header tell, and their rules.
-use Rattle.id_map.specs.Mapping.{mappingOf}
-use Rattle.rules.specs.Instance.{Options, Instance}
+use Rattle.rules.specs.Instance.{Instance}
 use Rattle.rules.specs.Outcome.{nothing, settings, truth, Outcome}
-use Rattle.rules.specs.Calls.{set-remove-pseudo-root, options, initialized, rule}
-use Rattle.tables.specs.Call.{Told, tells, toldSmall}
+use Rattle.rules.specs.Calls.{set-remove-pseudo-root, ask, options, initialized, rule}
+use Rattle.call_form.specs.Form.{Told, tells, toldSmall}
+use Rattle.vfs_options.specs.Given.{optionsIn}
 use Rattle.storage.specs.declared.Removal.{Removal}
 use Rattle.storage.specs.declared.Removal.the-variants.{Done, Small as RemovalSmall}
 use Rattle.storage.specs.declared.IsInitialized.{IsInitialized}
 use Rattle.storage.specs.declared.IsInitialized.the-variants.{Is, Small as InitializedSmall}
-use Rattle.storage.specs.declared.VfsOptions.{VfsOptions}
 use Rattle.storage.specs.declared.OptionsOf.{OptionsOf}
 use Rattle.storage.specs.declared.OptionsOf.the-variants.{Options as OptionsAre, Small as OptionsSmall}
 
@@ -20,11 +19,11 @@ removeCall i = rule i set-remove-pseudo-root
 
 -- the query of `initialized` (R33)
 abbrev pub initializedCall : Instance → Outcome
-initializedCall i = rule i initialized
+initializedCall i = rule i (ask initialized)
 
 -- the query of the options (R33)
 abbrev pub optionsCall : Instance → Outcome
-optionsCall i = rule i options
+optionsCall i = rule i (ask options)
 
 -- ---- number and values of each answer
 
@@ -37,10 +36,6 @@ removalTold RemovalSmall = toldSmall
 unfoldable pub initializedTold : IsInitialized → Told
 initializedTold (Is b) = tells (truth b)
 initializedTold InitializedSmall = toldSmall
-
--- the options that the struct stands for (R27)
-abbrev pub optionsIn : VfsOptions → Options
-optionsIn o = record { inOpts = o .«in_opts»; outOpts = o .«out_opts»; mapping = mappingOf (o .«id_mapping»); flags = o .flags }
 
 -- of the query of the options (R27, R33, R34)
 unfoldable pub optionsTold : OptionsOf → Told

@@ -9,14 +9,14 @@ use Rattle.le.specs.Mem.{write, bytesOf}
 use Rattle.rules.specs.Numbers.{DONE, SMALL, BADOPT, BADMAP}
 use Rattle.rules.specs.Instance.{heldBy, emptySlot, counterOf}
 use Rattle.rules.specs.Create.{Creation, newInstance, createRule}
-use Rattle.rules.specs.Driven.{Driven}
-use Rattle.tables.specs.Layout.{header, markField}
+use Rattle.rules.specs.claims.Driven.{Driven}
+use Rattle.tables.specs.Layout.{occupancyAt, tagsAt, header, markField}
 use Rattle.tables.specs.View.{view}
-use Rattle.tables.specs.Rule.{laid}
+use Rattle.tables.specs.Laid.{laid}
 use Rattle.tables.specs.Write.{putHeader}
 use Rattle.storage.specs.Header.{spell, headerOf}
-use Rattle.storage.specs.Answers.{optionsIn}
-use Rattle.storage.specs.declared.VfsOptions.{VfsOptions}
+use Rattle.vfs_options.specs.declared.VfsOptions.{VfsOptions}
+use Rattle.vfs_options.specs.Given.{optionsIn}
 use Rattle.storage.specs.declared.Created.{Created}
 use Rattle.storage.specs.declared.Created.the-variants.{Done, Small, BadOpt, BadMap}
 
@@ -38,7 +38,7 @@ tagBytes (t ∷ ts) = bytesOf 4 t ++ tagBytes ts
 
 -- 256 slots, none held, each tag 0 (R31)
 unfoldable pub emptySlots : List ℕ → List ℕ
-emptySlots mem = write (write mem 256 (replicate 256 0)) 512 (replicate 1024 0)
+emptySlots mem = write (write mem occupancyAt (replicate 256 0)) tagsAt (replicate 1024 0)
 
 -- the bytes of a new instance: its slots and its header; all others keep what they held
 unfoldable pub createMem : Creation → List ℕ → List ℕ

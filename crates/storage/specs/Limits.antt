@@ -9,10 +9,10 @@ use Rattle.rules.specs.Ids.{badMapping}
 use Rattle.rules.specs.Tree.{Node}
 use Rattle.rules.specs.Instance.{Slot, Instance}
 use Rattle.rules.specs.Create.{unknown}
-use Rattle.rules.specs.RoundTrip.{OptionsFit}
+use Rattle.rules.specs.claims.RoundTrip.{OptionsFit}
 use Rattle.rules.specs.Numbers.{maxName, firstNumber, maxNodes, topNumber, storageFor}
 use Rattle.tables.specs.View.{view}
-use Rattle.tables.specs.Rule.{laid}
+use Rattle.tables.specs.Laid.{laid}
 use Rattle.tables.specs.Write.{MayFit}
 
 -- ---- each number within its cell
@@ -24,7 +24,7 @@ SlotsFit (s ∷ ss) = (s .tag < 2 ^ 32) × SlotsFit ss
 
 -- of a node (R5, R10)
 abbrev pub NodeFits : Node → Type 0
-NodeFits n = (n .number < topNumber) × (n .above < topNumber) × (length (n .called) ≤ maxName) × Bytes (n .called) × MayFit (n .mount)
+NodeFits n = (n .number < topNumber) × (n .parent < topNumber) × (length (n .name) ≤ maxName) × Bytes (n .name) × MayFit (n .mount)
 
 -- of every node
 abbrev pub NodesFit : List Node → Type 0

@@ -5,9 +5,9 @@ use mathlib.Core.List.{List}
 use mathlib.Core.Path.{_≡_}
 use Rattle.rules.specs.Numbers.{DONE}
 use Rattle.rules.specs.Create.{Creation}
-use Rattle.tables.specs.Rule.{laid}
+use Rattle.tables.specs.Laid.{laid}
 use Rattle.tables.specs.Write.{setRemoval}
-use Rattle.tables.specs.Call.{Told, Does}
+use Rattle.call_form.specs.Form.{Told, Does}
 use Rattle.storage.specs.Creation.{Creates}
 use Rattle.storage.specs.Answers.{removeCall}
 

@@ -20,7 +20,7 @@ use Rattle.rules.specs.Tree.{isChild}
 use Rattle.scan.specs.First.{cellIs, firstPlace}
 use Rattle.scan.proofs.First.{first-passes, first-finds, first-after}
 use Rattle.scan.specs.Key.{maskOf, wordOf}
-use Rattle.tables.specs.Layout.{tableAt, lastAt, firstAt, capacityOf, countOf}
+use Rattle.tables.specs.Layout.{tableAt, lastsAt, lastAt, firstAt, capacityOf, countOf}
 use Rattle.tables.specs.View.{nodeAt, nodesOf}
 use Rattle.tables.specs.Answer.{placeIn}
 use Rattle.tables.proofs.Cells.{number-at, other-length, short-name, long-name, long-same}
@@ -65,14 +65,14 @@ module _ (n : ℕ) (mem : List ℕ) (i : ℕ) (p : List ℕ) (b : Bytes mem) whe
   byte : l < 256
   byte = get-fits 1 mem (lastAt n i) b
 
-  same-long : same (nodeAt n mem i .called) p ≡ true → l ≡ length p
+  same-long : same (nodeAt n mem i .name) p ≡ true → l ≡ length p
   same-long e = go (eqb l (length p)) refl
     where
       go : (t : Bool) → eqb l (length p) ≡ t → l ≡ length p
       go true q = eqb-true l (length p) q
       go false q = absurd (true≢false (sym e ∙ other-length n mem i l p refl byte (eqb-false l (length p) q)))
 
-  last-same : same (nodeAt n mem i .called) p ≡ true → get (min l 7) mem (lastAt n i + 1) ≡ get (min l 7) p (length p - 7)
+  last-same : same (nodeAt n mem i .name) p ≡ true → get (min l 7) mem (lastAt n i + 1) ≡ get (min l 7) p (length p - 7)
   last-same e = go (leb l 7) refl
     where
       go : (t : Bool) → leb l 7 ≡ t → get (min l 7) mem (lastAt n i + 1) ≡ get (min l 7) p (length p - 7)
@@ -91,7 +91,7 @@ module _ (n : ℕ) (mem : List ℕ) (i : ℕ) (p : List ℕ) (b : Bytes mem) whe
           (same-eq (read mem (lastAt n i + 1) 7) (read p (length p - 7) 7)
           (and-both (same (read mem (firstAt n i) (length p - 7)) (read p 0 (length p - 7))) _ (rw h at (sym (long-name n mem i l p refl byte h many) ∙ e)) .1)))
 
-  pub like : same (nodeAt n mem i .called) p ≡ true → cellIs mem (tableAt + 24 * n) (maskOf p) (wordOf p) i ≡ true
+  pub like : same (nodeAt n mem i .name) p ≡ true → cellIs mem (lastsAt n) (maskOf p) (wordOf p) i ≡ true
   unfolding cellIs maskOf wordOf
   like e =
       let h = same-long e in
@@ -102,20 +102,20 @@ module _ (n : ℕ) (mem : List ℕ) (i : ℕ) (p : List ℕ) (b : Bytes mem) whe
       ∙ low-bytes mem (lastAt n i) (min (length p) 7) b (omega arith)
       ∙ rw (few, m) (ap (λ (x : ℕ). l + 256 * x) (last-same e)))
 
-  pub unlike : (here : ℕ) → cellIs mem (tableAt + 24 * n) (maskOf p) (wordOf p) i ≡ false → isChild here p (nodeAt n mem i) ≡ false
+  pub unlike : (here : ℕ) → cellIs mem (lastsAt n) (maskOf p) (wordOf p) i ≡ false → isChild here p (nodeAt n mem i) ≡ false
   unfolding isChild
-  unlike here f = go (same (nodeAt n mem i .called) p) refl
+  unlike here f = go (same (nodeAt n mem i .name) p) refl
     where
-      go : (s : Bool) → same (nodeAt n mem i .called) p ≡ s → (eqb (nodeAt n mem i .above) here && s) ≡ false
+      go : (s : Bool) → same (nodeAt n mem i .name) p ≡ s → (eqb (nodeAt n mem i .parent) here && s) ≡ false
       go true e = absurd (true≢false (sym (like e) ∙ f))
-      go false e = and-false (eqb (nodeAt n mem i .above) here)
+      go false e = and-false (eqb (nodeAt n mem i .parent) here)
 
   -- no row has a name of more than 255 bytes
   pub too-long : (here : ℕ) → 255 < length p → isChild here p (nodeAt n mem i) ≡ false
   unfolding isChild
-  too-long here h = rw (other-length n mem i l p refl byte (λ q. omega (arith, q, byte))) (and-false (eqb (nodeAt n mem i .above) here))
+  too-long here h = rw (other-length n mem i l p refl byte (λ q. omega (arith, q, byte))) (and-false (eqb (nodeAt n mem i .parent) here))
 
-  alike-length : cellIs mem (tableAt + 24 * n) (maskOf p) (wordOf p) i ≡ true → length p ≤ 255 → l ≡ length p
+  alike-length : cellIs mem (lastsAt n) (maskOf p) (wordOf p) i ≡ true → length p ≤ 255 → l ≡ length p
   unfolding cellIs maskOf wordOf
   alike-length e h =
       let q : l + 256 * get (min (length p) 7) mem (lastAt n i + 1) ≡ length p % 256 + 256 * get (min (length p) 7) p (length p - 7) =
@@ -124,7 +124,7 @@ module _ (n : ℕ) (mem : List ℕ) (i : ℕ) (p : List ℕ) (b : Bytes mem) whe
       omega (arith, q, byte)
 
   -- where the cell is that of the name, the bytes before the last seven decide
-  module _ (c : Bytes p) (e : cellIs mem (tableAt + 24 * n) (maskOf p) (wordOf p) i ≡ true) (h : l ≡ length p) where
+  module _ (c : Bytes p) (e : cellIs mem (lastsAt n) (maskOf p) (wordOf p) i ≡ true) (h : l ≡ length p) where
     last-alike : get (min l 7) mem (lastAt n i + 1) ≡ get (min l 7) p (length p - 7)
     unfolding cellIs maskOf wordOf
     last-alike =
@@ -135,11 +135,11 @@ module _ (n : ℕ) (mem : List ℕ) (i : ℕ) (p : List ℕ) (b : Bytes mem) whe
         ∙ (rw (m, few) at (eqb-true (bitAnd (get 8 mem (lastAt n i)) (2 ^ (8 * (min (length p) 7 + 1)) - 1)) (length p % 256 + 256 * get (min (length p) 7) p (length p - 7)) e)) in
         omega (arith, q)
 
-    alike-named : same (nodeAt n mem i .called) p ≡ same (read mem (firstAt n i) (l - 7)) (read p 0 (l - 7))
+    alike-named : same (nodeAt n mem i .name) p ≡ same (read mem (firstAt n i) (l - 7)) (read p 0 (l - 7))
     unfolding read same
     alike-named = go (leb l 7) refl
       where
-        go : (t : Bool) → leb l 7 ≡ t → same (nodeAt n mem i .called) p ≡ same (read mem (firstAt n i) (l - 7)) (read p 0 (l - 7))
+        go : (t : Bool) → leb l 7 ≡ t → same (nodeAt n mem i .name) p ≡ same (read mem (firstAt n i) (l - 7)) (read p 0 (l - 7))
         go true q =
             let few : l ≤ 7 = leb-true l 7 q in
             let m : min l 7 ≡ l = omega arith in
@@ -152,30 +152,30 @@ module _ (n : ℕ) (mem : List ℕ) (i : ℕ) (p : List ℕ) (b : Bytes mem) whe
             let z : length p - 7 ≡ l - 7 = omega arith in
             long-same n mem i l p refl byte h many (same-words 7 mem p (lastAt n i + 1) (l - 7) b c (rw (m, z) at last-alike))
 
-  pub alike-start : Bytes p → cellIs mem (tableAt + 24 * n) (maskOf p) (wordOf p) i ≡ true → length p ≤ 255
-      → same (nodeAt n mem i .called) p ≡ same (read mem (firstAt n i) (length p - 7)) (read p 0 (length p - 7))
+  pub alike-start : Bytes p → cellIs mem (lastsAt n) (maskOf p) (wordOf p) i ≡ true → length p ≤ 255
+      → same (nodeAt n mem i .name) p ≡ same (read mem (firstAt n i) (length p - 7)) (read p 0 (length p - 7))
   alike-start c e h = let q = alike-length e h in rw q at (alike-named c e q)
 
 -- ---- rows passed over
 
 -- rows whose cell is not the one sought are passed over in the search for a child: m and w are the key's numbers
 module _ (mem : List ℕ) (here : ℕ) (p : List ℕ) (c : ℕ) (b : Bytes mem) (k : c ≡ countOf mem) (m w : ℕ) (e : (m ≡ maskOf p) × (w ≡ wordOf p)) (i r : ℕ)
-    (a : r ≡ firstPlace (cellIs mem (tableAt + 24 * capacityOf mem) m w) i (countOf mem - i)) where
+    (a : r ≡ firstPlace (cellIs mem (lastsAt (capacityOf mem)) m w) i (countOf mem - i)) where
   pub skips : Sought mem here p c i → Sought mem here p c r
   skips s =
       rw (a, e .0, e .1, ← k)
-      (first-passes (cellIs mem (tableAt + 24 * capacityOf mem) (maskOf p) (wordOf p)) (Sought mem here p c) i (c - i)
+      (first-passes (cellIs mem (lastsAt (capacityOf mem)) (maskOf p) (wordOf p)) (Sought mem here p c) i (c - i)
       (λ j h f q. child-on mem here p c j q (omega (arith, s .0)) (unlike (capacityOf mem) mem j p b here f)) s)
 
   -- the row that is reached has the cell
-  pub lands : Sought mem here p c i → r < c → cellIs mem (tableAt + 24 * capacityOf mem) (maskOf p) (wordOf p) r ≡ true
+  pub lands : Sought mem here p c i → r < c → cellIs mem (lastsAt (capacityOf mem)) (maskOf p) (wordOf p) r ≡ true
   lands s h =
       rw (← e .0, ← e .1)
-      (rw a (first-finds (cellIs mem (tableAt + 24 * capacityOf mem) m w) i (countOf mem - i) (omega (arith, a, k, s .0, h))))
+      (rw a (first-finds (cellIs mem (lastsAt (capacityOf mem)) m w) i (countOf mem - i) (omega (arith, a, k, s .0, h))))
 
 -- a search from i on does not go back
-pub further : (mem : List ℕ) (m w i r : ℕ) → r ≡ firstPlace (cellIs mem (tableAt + 24 * capacityOf mem) m w) i (countOf mem - i) → i ≤ r
-further mem m w i r a = rw a (first-after (cellIs mem (tableAt + 24 * capacityOf mem) m w) i (countOf mem - i))
+pub further : (mem : List ℕ) (m w i r : ℕ) → r ≡ firstPlace (cellIs mem (lastsAt (capacityOf mem)) m w) i (countOf mem - i) → i ≤ r
+further mem m w i r a = rw a (first-after (cellIs mem (lastsAt (capacityOf mem)) m w) i (countOf mem - i))
 
 -- the cell of a row's number
 module _ (mem : List ℕ) (x i : ℕ) where

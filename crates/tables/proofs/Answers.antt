@@ -37,7 +37,7 @@ point-injective : (m k : MountPoint) → mountOfPoint m ≡ mountOfPoint k → m
 point-injective m k e =
     same (ap (λ (x : Mount). x .index) e) (ap (λ (x : Mount). x .root) e) (ap (λ (x : Mount). x .uid) e) (ap (λ (x : Mount). x .gid) e) (ap (λ (x : Mount). x .mode) e)
   where
-    same : m .«fs_idx» ≡ k .«fs_idx» → m .ino ≡ k .ino → m .uid ≡ k .uid → m .gid ≡ k .gid → m .mode ≡ k .mode → m ≡ k
+    same : m .«fs_idx» ≡ k .«fs_idx» → m .root ≡ k .root → m .uid ≡ k .uid → m .gid ≡ k .gid → m .mode ≡ k .mode → m ≡ k
     same a b c d f = rw (a, b, c, d, f)
 
 pub mountIn-injective : (a b : MountOn) → mountIn a ≡ mountIn b → a ≡ b

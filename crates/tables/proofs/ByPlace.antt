@@ -11,14 +11,13 @@ use lib.Dec.{eqb}
 use Rattle.le.specs.Mem.{put}
 use Rattle.rules.specs.Numbers.{rootNumber}
 use Rattle.rules.specs.Tree.{Mount, Node, isNone, nodeIn, isKnown, parentIn}
-use Rattle.rules.specs.Instance.{mountOf}
+use Rattle.rules.specs.Instance.{mountOfNode}
 use Rattle.tables.specs.Table.{putRow}
-use Rattle.tables.specs.Layout.{capacityOf, countOf}
+use Rattle.tables.specs.Layout.{rootCellAt, capacityOf, countOf, mountCellAt}
 use Rattle.tables.specs.View.{nodeAt, nodesOf, view}
 use Rattle.tables.specs.Write.{putHeader, setRootMount, setRowMount}
 use Rattle.tables.specs.Answer.{placeIn, nodeMountMem, rowFor}
-use Rattle.tables.proofs.Cells.{mountCellAt}
-use Rattle.tables.proofs.Places.{nobody, place-nowhere, nodes-count, nodes-at, node-found}
+use Rattle.tables.proofs.RowOf.{nobody, place-nowhere, nodes-count, nodes-at, node-found}
 
 -- a number that a row has is a node's
 some-node : (ns : List Node) (x j : ℕ) → j < length ns → getD ns j nobody .number ≡ x → isNone (nodeIn ns x) ≡ false
@@ -57,7 +56,7 @@ module _ (mem : List ℕ) (x : ℕ) where
   unfolding isKnown
   known-missing r e = rw (ne-eqb x 1 r, place-nowhere (nodesOf mem) x e .node)
 
-  pub parent-found : (x ≡ rootNumber → ⊥) → (i : ℕ) → placeIn (nodesOf mem) x ≡ some i → parentIn (nodesOf mem) x ≡ nodeAt (capacityOf mem) mem i .above
+  pub parent-found : (x ≡ rootNumber → ⊥) → (i : ℕ) → placeIn (nodesOf mem) x ≡ some i → parentIn (nodesOf mem) x ≡ nodeAt (capacityOf mem) mem i .parent
   unfolding parentIn
   parent-found r i e = rw (ne-eqb x 1 r, node-found mem x i e)
 
@@ -65,16 +64,16 @@ module _ (mem : List ℕ) (x : ℕ) where
   unfolding parentIn
   parent-missing r e = rw (ne-eqb x 1 r, place-nowhere (nodesOf mem) x e .node)
 
-  pub mount-root : x ≡ rootNumber → mountOf (view mem .tree) x ≡ view mem .tree .root
-  unfolding mountOf
+  pub mount-root : x ≡ rootNumber → mountOfNode (view mem .tree) x ≡ view mem .tree .root
+  unfolding mountOfNode
   mount-root r = rw (eq-eqb x 1 r)
 
-  pub mount-found : (x ≡ rootNumber → ⊥) → (i : ℕ) → placeIn (nodesOf mem) x ≡ some i → mountOf (view mem .tree) x ≡ nodeAt (capacityOf mem) mem i .mount
-  unfolding mountOf view
+  pub mount-found : (x ≡ rootNumber → ⊥) → (i : ℕ) → placeIn (nodesOf mem) x ≡ some i → mountOfNode (view mem .tree) x ≡ nodeAt (capacityOf mem) mem i .mount
+  unfolding mountOfNode view
   mount-found r i e = rw (ne-eqb x 1 r, node-found mem x i e)
 
-  pub mount-missing : (x ≡ rootNumber → ⊥) → placeIn (nodesOf mem) x ≡ none → mountOf (view mem .tree) x ≡ none
-  unfolding mountOf view
+  pub mount-missing : (x ≡ rootNumber → ⊥) → placeIn (nodesOf mem) x ≡ none → mountOfNode (view mem .tree) x ≡ none
+  unfolding mountOfNode view
   mount-missing r e = rw (ne-eqb x 1 r, place-nowhere (nodesOf mem) x e .node)
 
   -- ---- what is written for the number, by its place
@@ -102,7 +101,7 @@ module _ (mem : List ℕ) (x : ℕ) where
   row-else r = rw (ne-eqb x 1 r)
 
 -- no mount: the cell alone
-pub clear-root : (mem : List ℕ) → setRootMount none mem ≡ put 8 mem 88 0
+pub clear-root : (mem : List ℕ) → setRootMount none mem ≡ put 8 mem rootCellAt 0
 unfolding setRootMount putHeader putRow put
 clear-root mem = refl
 

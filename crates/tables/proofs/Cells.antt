@@ -11,28 +11,8 @@ use Rattle.le.proofs.Lens.{get-one, take-read}
 use Rattle.rules.proofs.Same.{same-length, same-append}
 use Rattle.rules.proofs.Fields.{length-read, read-add, read-all}
 use Rattle.tables.specs.Table.{row}
-use Rattle.tables.specs.Layout.{tableAt, lastAt, firstAt}
-use Rattle.tables.specs.View.{mountFrom, nameFrom, nodeFrom, nodeAt}
-
--- ---- where the cells of row i are, in a table of N rows
-
-abbrev pub numberAt : ℕ → ℕ → ℕ
-numberAt n i = tableAt + 8 * i
-
-abbrev pub parentAt : ℕ → ℕ → ℕ
-parentAt n i = tableAt + 8 * n + 8 * i
-
-abbrev pub mountCellAt : ℕ → ℕ → ℕ
-mountCellAt n i = tableAt + 16 * n + 8 * i
-
-abbrev pub uidAt : ℕ → ℕ → ℕ
-uidAt n i = tableAt + 32 * n + 4 * i
-
-abbrev pub gidAt : ℕ → ℕ → ℕ
-gidAt n i = tableAt + 36 * n + 4 * i
-
-abbrev pub modeAt : ℕ → ℕ → ℕ
-modeAt n i = tableAt + 40 * n + 4 * i
+use Rattle.tables.specs.Layout.{numberAt, parentAt, mountCellAt, lastAt, uidAt, gidAt, modeAt, firstAt}
+use Rattle.tables.specs.View.{mountFromCells, nameFrom, nodeFrom, nodeAt}
 
 -- ---- the cells of row i
 
@@ -41,38 +21,38 @@ module _ (n : ℕ) (mem : List ℕ) (i : ℕ) where
   unfolding nodeAt nodeFrom row get
   number-at = refl
 
-  pub above-at : nodeAt n mem i .above ≡ get 8 mem (parentAt n i) % 2 ^ 56
+  pub parent-at : nodeAt n mem i .parent ≡ get 8 mem (parentAt n i) % 2 ^ 56
   unfolding nodeAt nodeFrom row get
-  above-at = refl
+  parent-at = refl
 
-  pub mount-at : nodeAt n mem i .mount ≡ mountFrom (get 8 mem (mountCellAt n i)) (get 4 mem (uidAt n i)) (get 4 mem (gidAt n i)) (get 4 mem (modeAt n i))
+  pub mount-at : nodeAt n mem i .mount ≡ mountFromCells (get 8 mem (mountCellAt n i)) (get 4 mem (uidAt n i)) (get 4 mem (gidAt n i)) (get 4 mem (modeAt n i))
   unfolding nodeAt nodeFrom row get
   mount-at = refl
 
   -- the length, and the bytes that it takes of the two cells
-  pub called-at : nodeAt n mem i .called ≡ take (getD mem (lastAt n i) 0 - 7) (read mem (firstAt n i) 248) ++ take (min (getD mem (lastAt n i) 0) 7) (read mem (lastAt n i + 1) 7)
+  pub name-at : nodeAt n mem i .name ≡ take (getD mem (lastAt n i) 0 - 7) (read mem (firstAt n i) 248) ++ take (min (getD mem (lastAt n i) 0) 7) (read mem (lastAt n i + 1) 7)
   unfolding nodeAt nodeFrom row nameFrom read
-  called-at = refl
+  name-at = refl
 
 -- ---- names
 
 -- row i, whose length byte is l, against a name
 module _ (n : ℕ) (mem : List ℕ) (i l : ℕ) (p : List ℕ) (e : l ≡ get 1 mem (lastAt n i)) (fits : l < 256) where
   -- the bytes of the name where they stand
-  pub spelt : nodeAt n mem i .called ≡ read mem (firstAt n i) (l - 7) ++ read mem (lastAt n i + 1) (min l 7)
+  pub spelt : nodeAt n mem i .name ≡ read mem (firstAt n i) (l - 7) ++ read mem (lastAt n i + 1) (min l 7)
   spelt =
       let h : getD mem (lastAt n i) 0 ≡ l = get-one mem (lastAt n i) ∙ sym e in
-      called-at n mem i
+      name-at n mem i
       ∙ rw (h, take-read mem (firstAt n i) 248 (l - 7) (omega arith), take-read mem (lastAt n i + 1) 7 (min l 7) (omega arith))
 
-  pub other-length : (l ≡ length p → ⊥) → same (nodeAt n mem i .called) p ≡ false
+  pub other-length : (l ≡ length p → ⊥) → same (nodeAt n mem i .name) p ≡ false
   other-length h =
-      let long : length (nodeAt n mem i .called) ≡ (l - 7) + min l 7 =
+      let long : length (nodeAt n mem i .name) ≡ (l - 7) + min l 7 =
       ap length spelt ∙ length-append (read mem (firstAt n i) (l - 7)) (read mem (lastAt n i + 1) (min l 7)) ∙ rw (length-read mem (firstAt n i) (l - 7), length-read mem (lastAt n i + 1) (min l 7)) in
-      same-length (nodeAt n mem i .called) p (λ q. h (omega arith))
+      same-length (nodeAt n mem i .name) p (λ q. h (omega arith))
 
   -- the last bytes are all of it
-  pub short-name : l ≡ length p → l ≤ 7 → same (nodeAt n mem i .called) p ≡ same (read mem (lastAt n i + 1) l) (read p 0 l)
+  pub short-name : l ≡ length p → l ≤ 7 → same (nodeAt n mem i .name) p ≡ same (read mem (lastAt n i + 1) l) (read p 0 l)
   unfolding read
   short-name h b =
       let z : l - 7 ≡ 0 = omega arith in
@@ -82,7 +62,7 @@ module _ (n : ℕ) (mem : List ℕ) (i l : ℕ) (p : List ℕ) (e : l ≡ get 1 
 
   -- the last seven bytes, and the bytes before them
   pub long-name : l ≡ length p → 7 < l
-      → same (nodeAt n mem i .called) p ≡ (same (read mem (firstAt n i) (l - 7)) (read p 0 (l - 7)) && same (read mem (lastAt n i + 1) 7) (read p (l - 7) 7))
+      → same (nodeAt n mem i .name) p ≡ (same (read mem (firstAt n i) (l - 7)) (read p 0 (l - 7)) && same (read mem (lastAt n i + 1) 7) (read p (l - 7) 7))
   long-name h b =
       let m : min l 7 ≡ 7 = omega arith in
       let k : length p ≡ (l - 7) + 7 = omega arith in
@@ -91,5 +71,5 @@ module _ (n : ℕ) (mem : List ℕ) (i l : ℕ) (p : List ℕ) (e : l ≡ get 1 
       ∙ same-append (read mem (firstAt n i) (l - 7)) _ (read p 0 (l - 7)) _ (length-read mem (firstAt n i) (l - 7) ∙ sym (length-read p 0 (l - 7)))
 
   pub long-same : l ≡ length p → 7 < l → same (read mem (lastAt n i + 1) 7) (read p (l - 7) 7) ≡ true
-      → same (nodeAt n mem i .called) p ≡ same (read mem (firstAt n i) (l - 7)) (read p 0 (l - 7))
+      → same (nodeAt n mem i .name) p ≡ same (read mem (firstAt n i) (l - 7)) (read p 0 (l - 7))
   long-same h b f = long-name h b ∙ ap (λ (t : Bool). same (read mem (firstAt n i) (l - 7)) (read p 0 (l - 7)) && t) f ∙ and-true (same (read mem (firstAt n i) (l - 7)) (read p 0 (l - 7)))

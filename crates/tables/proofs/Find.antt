@@ -31,13 +31,13 @@ none-looked mem c e = nodes-of mem ∙ rw (sub-zero, e)
 -- ---- the child of a name
 
 module _ (here : ℕ) (p : List ℕ) (n : Node) where
-  pub child-else : (n .above ≡ here → ⊥) → isChild here p n ≡ false
+  pub child-else : (n .parent ≡ here → ⊥) → isChild here p n ≡ false
   unfolding isChild
-  child-else h = rw (ne-eqb (n .above) here h)
+  child-else h = rw (ne-eqb (n .parent) here h)
 
-  pub child-named : n .above ≡ here → isChild here p n ≡ same (n .called) p
+  pub child-named : n .parent ≡ here → isChild here p n ≡ same (n .name) p
   unfolding isChild
-  child-named h = rw (eq-eqb (n .above) here h)
+  child-named h = rw (eq-eqb (n .parent) here h)
 
 -- the first among all is the first among those that are left
 abbrev pub Sought : List ℕ → ℕ → List ℕ → ℕ → ℕ → Type 0

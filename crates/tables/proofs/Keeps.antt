@@ -9,7 +9,7 @@ use lib.ListN.{length}
 use lib.Dec.{eqb}
 use borrow.Author.Tests.{eqb-true, eq-eqb, leb-true, le-leb, ltb-true, lt-ltb, not-true}
 use Rattle.le.specs.Mem.{bytesOf, get}
-use Rattle.rules.specs.Numbers.{rootNumber}
+use Rattle.rules.specs.Numbers.{rootNumber, firstNumber, maxNodes, topNumber, storageFor}
 use Rattle.rules.specs.Ids.{badMapping}
 use Rattle.rules.specs.Tree.{Mount}
 use Rattle.rules.specs.Create.{unknown}
@@ -17,32 +17,32 @@ use Rattle.rules.proofs.Fields.{length-bytesOf}
 use Rattle.rules.proofs.Create.{large-enough, is-large-enough, options-known, known-options}
 use Rattle.rules.proofs.Tests.{pass, passed}
 use Rattle.tables.specs.Table.{row, putRow}
-use Rattle.tables.specs.Layout.{header, slotTable, nodeTable, mark, capacityOf, countOf, nextOf, capacityField, countField, flagsField, knownField, mappingField, markField, nextField}
+use Rattle.tables.specs.Layout.{mark, tableAt, countAt, nextAt, header, occupancyAt, slotTable, nodeTable, capacityOf, countOf, nextOf, capacityField, countField, counterField, flagsField, knownField, mappingField, markField, nextField, removalField, rootCellField}
 use Rattle.tables.specs.View.{field, mappingFrom, optionsFrom, headOf, nodesOf}
-use Rattle.tables.specs.Rule.{laidBy, laid, Bounds}
-use Rattle.tables.specs.Write.{fromPlace, putHeader, setCount, setNext, setCounter, setRemoval, yesByte, setSlot, mountCells, rowMountCells, setRootMount, setRowMount, appendNode, removeRow}
+use Rattle.tables.specs.Laid.{laidBy, laid, Bounds}
+use Rattle.tables.specs.Write.{fromPlace, putHeader, setCount, setNext, setCounter, setRemoval, yesByte, setHeld, setTag, setSlot, mountCells, rowMountCells, setRootMount, setRowMount, appendNode, removeRow}
 use Rattle.tables.specs.Answer.{placeIn, atPlace, nodeMountMem, removeMem}
 use Rattle.tables.proofs.Table.{over, Fit, length-putRow, length-closeUp}
 use Rattle.tables.proofs.Spells.{cell-back, root-fit}
 use Rattle.tables.proofs.Heads.{low-head, put-low, head-put}
 use Rattle.tables.proofs.Refine.{head-append, head-remove, slot-head}
-use Rattle.tables.proofs.Places.{row-below}
+use Rattle.tables.proofs.RowOf.{row-below}
 
 -- ---- the tests of the rule, one by one
 
 -- the mark, and the room for n nodes, which no call changes
 pub record Sized (marker n bytes : ℕ) : Type 0 where
-  pub long : 8192 ≤ bytes
+  pub long : tableAt ≤ bytes
   pub marked : marker ≡ mark
   pub some-node : 1 ≤ n
-  pub few-nodes : n ≤ 1024
-  pub enough : 512 * n + 8192 ≤ bytes
+  pub few-nodes : n ≤ maxNodes
+  pub enough : storageFor n ≤ bytes
 
 pub record Ruled (h : List (List ℕ)) (bytes : ℕ) : Type 0 where
   pub size : Sized (field markField h) (field capacityField h) bytes
   pub live : field countField h < field capacityField h
-  pub low : 2 ≤ field nextField h
-  pub top : field nextField h ≤ 2 ^ 56
+  pub low : firstNumber ≤ field nextField h
+  pub top : field nextField h ≤ topNumber
   pub bits : unknown (field knownField h) (optionsFrom h) ≡ false
   pub flags : field flagsField h < 64
   pub maps : badMapping (mappingFrom mappingField h) ≡ false
@@ -54,10 +54,10 @@ ruled h bytes e =
     let s = large-enough bytes (field capacityField h) (not-true _ (t .1 .1 .0)) in
     let o = options-known (field knownField h) (optionsFrom h) (not-true _ (t .1 .1 .1 .1 .1 .1 .0)) in
     record {
-      size = record { long = leb-true 8192 bytes (t .0); marked = eqb-true (field markField h) mark (t .1 .0); some-node = s .0; few-nodes = s .1; enough = s .2 };
+      size = record { long = leb-true tableAt bytes (t .0); marked = eqb-true (field markField h) mark (t .1 .0); some-node = s .0; few-nodes = s .1; enough = s .2 };
       live = ltb-true (field countField h) (field capacityField h) (t .1 .1 .1 .0);
-      low = leb-true 2 (field nextField h) (t .1 .1 .1 .1 .0);
-      top = leb-true (field nextField h) (2 ^ 56) (t .1 .1 .1 .1 .1 .0);
+      low = leb-true firstNumber (field nextField h) (t .1 .1 .1 .1 .0);
+      top = leb-true (field nextField h) topNumber (t .1 .1 .1 .1 .1 .0);
       bits = o .0;
       flags = o .1;
       maps = not-true _ (t .1 .1 .1 .1 .1 .1 .1 .0);
@@ -69,10 +69,10 @@ is-ruled h bytes r =
     let s = is-large-enough bytes (field capacityField h) (r .size .some-node) (r .size .few-nodes) (r .size .enough) in
     let o = known-options (field knownField h) (optionsFrom h) (r .bits) (r .flags) in
     pass _ (
-      le-leb 8192 bytes (r .size .long),
+      le-leb tableAt bytes (r .size .long),
       (
         eq-eqb (field markField h) mark (r .size .marked),
-        (rw s, (lt-ltb (field countField h) (field capacityField h) (r .live), (le-leb 2 (field nextField h) (r .low), (le-leb (field nextField h) (2 ^ 56) (r .top), (rw o, (rw (r .maps), tt)))))),
+        (rw s, (lt-ltb (field countField h) (field capacityField h) (r .live), (le-leb firstNumber (field nextField h) (r .low), (le-leb (field nextField h) topNumber (r .top), (rw o, (rw (r .maps), tt)))))),
       ),
     )
 
@@ -82,7 +82,7 @@ unfolding laid
 laid-ruled mem e = ruled (headOf mem) (length mem) e
 
 -- they are enough for the header and the slots
-pub laid-long : (mem : List ℕ) → laid mem ≡ true → 8192 ≤ length mem
+pub laid-long : (mem : List ℕ) → laid mem ≡ true → tableAt ≤ length mem
 laid-long mem e = laid-ruled mem e .size .long
 
 -- what places of rows need
@@ -102,43 +102,54 @@ pub length-header : (k : ℕ) (xs : List (List ℕ)) (mem : List ℕ) → length
 unfolding putHeader
 length-header k xs mem = length-putRow header (fromPlace k xs) mem 0
 
-pub length-append : (above : ℕ) (p mem : List ℕ) → length (appendNode above p mem) ≡ length mem
+pub length-append : (parent : ℕ) (p mem : List ℕ) → length (appendNode parent p mem) ≡ length mem
 unfolding appendNode setNext setCount
-length-append above p mem = simp (length-header, length-putRow)
+length-append parent p mem = simp (length-header, length-putRow)
 
 length-remove : (i : ℕ) (mem : List ℕ) → length (removeRow i mem) ≡ length mem
 unfolding removeRow setCount
 length-remove i mem = simp (length-header, length-closeUp)
 
 -- the first fourteen fields are those that the rule tests
-laid-header : (k : ℕ) (xs : List (List ℕ)) (mem : List ℕ) → Fit header (fromPlace k xs) → 256 ≤ length mem → laid (putHeader k xs mem) ≡ laidBy (over header (fromPlace k xs) mem 0) (length mem)
+laid-header : (k : ℕ) (xs : List (List ℕ)) (mem : List ℕ) → Fit header (fromPlace k xs) → occupancyAt ≤ length mem → laid (putHeader k xs mem) ≡ laidBy (over header (fromPlace k xs) mem 0) (length mem)
 unfolding laid
 laid-header k xs mem f l = ap₂ laidBy (head-put k xs mem f l) (length-header k xs mem)
 
-one-byte : (c : ℕ) → Fit header (fromPlace 14 (bytesOf 1 c ∷ []))
+one-byte : (c : ℕ) → Fit header (fromPlace counterField (bytesOf 1 c ∷ []))
 one-byte c = omega (arith, length-bytesOf 1 c)
 
 pub length-slot : (k : ℕ) (held : Bool) (tag : ℕ) (mem : List ℕ) → length (setSlot k held tag mem) ≡ length mem
+unfolding setSlot setTag setHeld
+length-slot k held tag mem = length-putRow slotTable ([] ∷ bytesOf 4 tag ∷ []) _ k ∙ length-putRow slotTable (bytesOf 1 (yesByte held) ∷ []) mem k
+
+slot-kept : (mem : List ℕ) → laid mem ≡ true → (k : ℕ) (xs : List (List ℕ)) → laid (putRow slotTable xs mem k) ≡ true
+slot-kept mem e k xs = same-laid (putRow slotTable xs mem k) mem (slot-head k xs mem) (length-putRow slotTable xs mem k) ∙ e
+
+pub keeps-held : (mem : List ℕ) → laid mem ≡ true → (k : ℕ) (held : Bool) → laid (setHeld k held mem) ≡ true
+unfolding setHeld
+keeps-held mem e k held = slot-kept mem e k (bytesOf 1 (yesByte held) ∷ [])
+
+pub keeps-tag : (mem : List ℕ) → laid mem ≡ true → (k tag : ℕ) → laid (setTag k tag mem) ≡ true
+unfolding setTag
+keeps-tag mem e k tag = slot-kept mem e k ([] ∷ bytesOf 4 tag ∷ [])
+
+pub keeps-slot : (mem : List ℕ) → laid mem ≡ true → (k : ℕ) (held : Bool) (tag : ℕ) → laid (setSlot k held tag mem) ≡ true
 unfolding setSlot
-length-slot k held tag mem = length-putRow slotTable (bytesOf 1 (yesByte held) ∷ bytesOf 4 tag ∷ []) mem k
+keeps-slot mem e k held tag = keeps-tag (setHeld k held mem) (keeps-held mem e k held) k tag
 
 module _ (mem : List ℕ) (e : laid mem ≡ true) where
-  pub keeps-slot : (k : ℕ) (held : Bool) (tag : ℕ) → k < 256 → tag < 2 ^ 32 → laid (setSlot k held tag mem) ≡ true
-  keeps-slot k held tag h t =
-      same-laid (setSlot k held tag mem) mem (slot-head k h held tag mem t (laid-long mem e)) (length-slot k held tag mem) ∙ e
-
   pub keeps-counter : (c : ℕ) → laid (setCounter c mem) ≡ true
   unfolding setCounter over row laidBy laid
-  keeps-counter c = laid-header 14 (bytesOf 1 c ∷ []) mem (one-byte c) (omega (arith, laid-long mem e)) ∙ e
+  keeps-counter c = laid-header counterField (bytesOf 1 c ∷ []) mem (one-byte c) (omega (arith, laid-long mem e)) ∙ e
 
   pub keeps-removal : laid (setRemoval mem) ≡ true
   unfolding setRemoval over row laidBy laid
-  keeps-removal = laid-header 15 (bytesOf 1 1 ∷ []) mem (omega (arith, length-bytesOf 1 1)) (omega (arith, laid-long mem e)) ∙ e
+  keeps-removal = laid-header removalField (bytesOf 1 1 ∷ []) mem (omega (arith, length-bytesOf 1 1)) (omega (arith, laid-long mem e)) ∙ e
 
   pub keeps-root : (m : Option Mount) → laid (setRootMount m mem) ≡ true
   unfolding setRootMount over row laidBy laid
-  keeps-root none = laid-header 17 (mountCells none) mem (root-fit none) (omega (arith, laid-long mem e)) ∙ e
-  keeps-root (some m) = laid-header 17 (mountCells (some m)) mem (root-fit (some m)) (omega (arith, laid-long mem e)) ∙ e
+  keeps-root none = laid-header rootCellField (mountCells none) mem (root-fit none) (omega (arith, laid-long mem e)) ∙ e
+  keeps-root (some m) = laid-header rootCellField (mountCells (some m)) mem (root-fit (some m)) (omega (arith, laid-long mem e)) ∙ e
 
   rows-kept : (n : ℕ) (xs : List (List ℕ)) (i : ℕ) → laid (putRow (nodeTable n) xs mem i) ≡ true
   rows-kept n xs i =
@@ -159,15 +170,15 @@ module _ (mem : List ℕ) (e : laid mem ≡ true) where
   abbrev c : ℕ
   c = countOf mem
 
-  pub keeps-append : (above : ℕ) (p : List ℕ) → c + 1 < capacityOf mem → nextOf mem < 2 ^ 56 → laid (appendNode above p mem) ≡ true
+  pub keeps-append : (parent : ℕ) (p : List ℕ) → c + 1 < capacityOf mem → nextOf mem < 2 ^ 56 → laid (appendNode parent p mem) ≡ true
   unfolding laid over row get
-  keeps-append above p room top =
+  keeps-append parent p room top =
       let x = nextOf mem in
       let d = laid-ruled mem e in
-      let a = cell-back 8 (c + 1) mem 16 (omega (arith, d .size .few-nodes)) in
-      let b = cell-back 8 (x + 1) mem 24 (omega arith) in
-      ap₂ laidBy (head-append mem (laid-is mem e) above p) (length-append above p mem)
-      ∙ is-ruled (over header (fromPlace 2 (bytesOf 8 (c + 1) ∷ bytesOf 8 (x + 1) ∷ [])) mem 0) (length mem) (record {
+      let a = cell-back 8 (c + 1) mem countAt (omega (arith, d .size .few-nodes)) in
+      let b = cell-back 8 (x + 1) mem nextAt (omega arith) in
+      ap₂ laidBy (head-append mem (laid-is mem e) parent p) (length-append parent p mem)
+      ∙ is-ruled (over header (fromPlace countField (bytesOf 8 (c + 1) ∷ bytesOf 8 (x + 1) ∷ [])) mem 0) (length mem) (record {
         size = d .size;
         live = rw a room;
         low = rw b (omega (arith, d .low));
@@ -181,9 +192,9 @@ module _ (mem : List ℕ) (e : laid mem ≡ true) where
   unfolding laid over row get
   removed i h =
       let d = laid-ruled mem e in
-      let a = cell-back 8 (c - 1) mem 16 (omega (arith, d .size .few-nodes, d .live)) in
+      let a = cell-back 8 (c - 1) mem countAt (omega (arith, d .size .few-nodes, d .live)) in
       ap₂ laidBy (head-remove mem (laid-is mem e) i) (length-remove i mem)
-      ∙ is-ruled (over header (fromPlace 2 (bytesOf 8 (c - 1) ∷ [])) mem 0) (length mem) (record {
+      ∙ is-ruled (over header (fromPlace countField (bytesOf 8 (c - 1) ∷ [])) mem 0) (length mem) (record {
         size = d .size;
         live = rw a (omega (arith, d .live));
         low = d .low;

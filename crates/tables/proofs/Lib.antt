@@ -3,6 +3,7 @@ pub mod Tab
 pub mod Table
 pub mod Cells
 pub mod Find
+pub mod Children
 pub mod Numbers
 pub mod ByPlace
 pub mod Alike
@@ -12,5 +13,5 @@ pub mod Indexes
 pub mod Spells
 pub mod Heads
 pub mod Refine
-pub mod Places
+pub mod RowOf
 pub mod Keeps

@@ -14,11 +14,10 @@ use Rattle.le.specs.Mem.{read, value, bytesOf}
 use Rattle.rules.proofs.Fields.{length-bytesOf, value-bytes}
 use Rattle.rules.specs.Tree.{Mount, bare, withMount}
 use Rattle.tables.specs.Table.{row}
-use Rattle.tables.specs.Layout.{header, nodeTable}
-use Rattle.tables.specs.View.{mountFrom, nameFrom, nodeFrom, nodeAt}
+use Rattle.tables.specs.Layout.{header, nodeTable, numberAt, parentAt, mountCellAt, lastAt, uidAt, gidAt, modeAt, firstAt}
+use Rattle.tables.specs.View.{mountFromCells, nameFrom, nodeFrom, nodeAt}
 use Rattle.tables.specs.Write.{fromPlace, yesByte, mountCells, rowMountCells, MountFits, MayFit, nodeCells}
 use Rattle.tables.proofs.Table.{over, Fit}
-use Rattle.tables.proofs.Cells.{numberAt, parentAt, mountCellAt, uidAt, gidAt, modeAt}
 
 -- a number that fills the cell at a place
 pub cell-back : (k v : ℕ) (mem : List ℕ) (at : ℕ) → v < 256 ^ k → value (bytesOf k v ++ read mem (at + length (bytesOf k v)) (k - length (bytesOf k v))) ≡ v
@@ -37,23 +36,23 @@ yes-fits true = omega arith
 yes-fits false = omega arith
 
 -- a cell spells no mount, or the one of its two numbers
-pub from-word : (P : Option Mount → Type 0) (word uid gid mode : ℕ) → P none → P (some (record { index = word / 2 ^ 56; root = word % 2 ^ 56; uid = uid; gid = gid; mode = mode })) → P (mountFrom word uid gid mode)
-unfolding mountFrom
+pub from-word : (P : Option Mount → Type 0) (word uid gid mode : ℕ) → P none → P (some (record { index = word / 2 ^ 56; root = word % 2 ^ 56; uid = uid; gid = gid; mode = mode })) → P (mountFromCells word uid gid mode)
+unfolding mountFromCells
 from-word P word uid gid mode a m = go (eqb (word / 2 ^ 56) 0)
   where
     go : (b : Bool) → P (cond b none (some (record { index = word / 2 ^ 56; root = word % 2 ^ 56; uid = uid; gid = gid; mode = mode })))
     go true = a
     go false = m
 
-pub mount-word : (m : Mount) → MountFits m → mountFrom (m .index * 2 ^ 56 + m .root) (m .uid) (m .gid) (m .mode) ≡ some m
-unfolding mountFrom
+pub mount-word : (m : Mount) → MountFits m → mountFromCells (m .index * 2 ^ 56 + m .root) (m .uid) (m .gid) (m .mode) ≡ some m
+unfolding mountFromCells
 mount-word m f =
     let i : (m .index * 2 ^ 56 + m .root) / 2 ^ 56 ≡ m .index = omega (arith, f .root) in
     let r : (m .index * 2 ^ 56 + m .root) % 2 ^ 56 ≡ m .root = omega (arith, f .root) in
     rw (i, r, ne-eqb (m .index) 0 (λ z. omega (arith, f .index)))
 
 pub mount-written : (m : Option Mount) (n : ℕ) (mem : List ℕ) (i : ℕ) → MayFit m → nodeFrom (over (nodeTable n) (rowMountCells m) mem i) ≡ withMount m (nodeAt n mem i)
-unfolding nodeFrom nodeAt mountFrom over row
+unfolding nodeFrom nodeAt mountFromCells over row
 mount-written none n mem i f =
     let w = cell-back 8 0 mem (mountCellAt n i) (omega arith) in
     rw w (simp add-zero)
@@ -78,27 +77,27 @@ name-back p s t h =
     rw e ((λ i. first i ++ last i) ∙ take-append-drop (L - 7) p)
 
 -- the cells of a new node fit, and spell it
-pub cells-fit : (n x above : ℕ) (p : List ℕ) → length p ≤ 255 → Fit (nodeTable n) (nodeCells x above p)
+pub cells-fit : (n x parent : ℕ) (p : List ℕ) → length p ≤ 255 → Fit (nodeTable n) (nodeCells x parent p)
 unfolding nodeCells
-cells-fit n x above p h =
+cells-fit n x parent p h =
     let e : length (bytesOf 1 (length p) ++ drop (length p - 7) p) ≤ 8 = simp (length-append, length-bytesOf, length-drop) (omega arith) in
     let f : length (take (length p - 7) p) ≤ 248 = simp length-take (omega arith) in
-    (omega (arith, length-bytesOf 8 x), (omega (arith, length-bytesOf 8 above), (omega (arith, length-bytesOf 8 0), (e, (omega arith, (omega arith, (omega arith, (f, omega arith))))))))
+    (omega (arith, length-bytesOf 8 x), (omega (arith, length-bytesOf 8 parent), (omega (arith, length-bytesOf 8 0), (e, (omega arith, (omega arith, (omega arith, (f, omega arith))))))))
 
-pub node-written : (n x above : ℕ) (p : List ℕ) (mem : List ℕ) (i : ℕ) → x < 2 ^ 56 → above < 2 ^ 56 → length p ≤ 255
-    → nodeFrom (over (nodeTable n) (nodeCells x above p) mem i) ≡ bare x above p
-unfolding nodeFrom mountFrom over nodeCells
-node-written n x above p mem i a b h =
+pub node-written : (n x parent : ℕ) (p : List ℕ) (mem : List ℕ) (i : ℕ) → x < 2 ^ 56 → parent < 2 ^ 56 → length p ≤ 255
+    → nodeFrom (over (nodeTable n) (nodeCells x parent p) mem i) ≡ bare x parent p
+unfolding nodeFrom mountFromCells over nodeCells
+node-written n x parent p mem i a b h =
     let u = cell-back 8 x mem (numberAt n i) (omega arith) in
-    let v = cell-back 8 above mem (parentAt n i) (omega arith) in
+    let v = cell-back 8 parent mem (parentAt n i) (omega arith) in
     let w = cell-back 8 0 mem (mountCellAt n i) (omega arith) in
     let last = bytesOf 1 (length p) ++ drop (length p - 7) p in
     let first = take (length p - 7) p in
-    let name : nameFrom (last ++ read mem (8192 + 24 * n + 8 * i + length last) (8 - length last)) (first ++ read mem (8192 + 44 * n + 248 * i + length first) (248 - length first)) ≡ p =
-    name-back p (read mem (8192 + 24 * n + 8 * i + length last) (8 - length last)) (read mem (8192 + 44 * n + 248 * i + length first) (248 - length first)) h in
+    let name : nameFrom (last ++ read mem (lastAt n i + length last) (8 - length last)) (first ++ read mem (firstAt n i + length first) (248 - length first)) ≡ p =
+    name-back p (read mem (lastAt n i + length last) (8 - length last)) (read mem (firstAt n i + length first) (248 - length first)) h in
     let c : x % 2 ^ 56 ≡ x = mod-eq-of-lt a in
-    let d : above % 2 ^ 56 ≡ above = mod-eq-of-lt b in
-    rw (u, v, w, c, d) (λ t. record { number = x; above = above; called = name t; mount = none })
+    let d : parent % 2 ^ 56 ≡ parent = mod-eq-of-lt b in
+    rw (u, v, w, c, d) (λ t. record { number = x; parent = parent; name = name t; mount = none })
 
 -- what a mount writes fits
 pub mount-fit : (m : Option Mount) (n : ℕ) → Fit (nodeTable n) (rowMountCells m)

@@ -7,7 +7,7 @@ use mathlib.Core.Path.{_≡_}
 use lib.Dec.{eqb}
 use Rattle.rules.specs.Numbers.{rootNumber}
 use Rattle.rules.specs.Tree.{Mount, Node, parentIn}
-use Rattle.rules.specs.Instance.{mountOf}
+use Rattle.rules.specs.Instance.{mountOfNode}
 use Rattle.tables.specs.View.{slotAt, nodesOf, view}
 use Rattle.tables.specs.Write.{setRootMount, setRowMount, removeRow}
 use Rattle.tables.specs.declared.rows.Found.{Found}
@@ -33,7 +33,7 @@ rowIn RowNothing = none
 
 -- a mount of the rules (R3, R76)
 abbrev pub mountOfPoint : MountPoint → Mount
-mountOfPoint m = record { index = m .«fs_idx»; root = m .ino; uid = m .uid; gid = m .gid; mode = m .mode }
+mountOfPoint m = record { index = m .«fs_idx»; root = m .root; uid = m .uid; gid = m .gid; mode = m .mode }
 
 -- a mount, or none
 unfoldable pub mountIn : MountOn → Option Mount
@@ -46,8 +46,8 @@ tagIn (Held t) = some t
 tagIn Empty = none
 
 -- whether slot k is held (R56)
-abbrev pub heldAt : List ℕ → ℕ → Bool
-heldAt mem k = slotAt mem k .held
+abbrev pub isHeld : List ℕ → ℕ → Bool
+isHeld mem k = slotAt mem k .held
 
 -- ---- places
 
@@ -71,7 +71,7 @@ RowOf mem x r = rowIn r ≡ rowFor (nodesOf mem) x
 
 -- what one search for node x tells: the mount, the parent, the row (R52, R54)
 pub record WithParent (mem : List ℕ) (x : ℕ) (r : NodeMount) : Type 0 where
-  pub mount : mountIn (r .mount) ≡ mountOf (view mem .tree) x
+  pub mount : mountIn (r .mount) ≡ mountOfNode (view mem .tree) x
   pub parent : r .parent ≡ parentIn (nodesOf mem) x
   pub row : RowOf mem x (r .row)
 

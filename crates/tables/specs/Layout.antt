@@ -73,8 +73,14 @@ mappingField = 7
 abbrev pub externalAt : ℕ
 externalAt = 60
 
+abbrev pub externalField : ℕ
+externalField = 8
+
 abbrev pub rangeAt : ℕ
 rangeAt = 64
+
+abbrev pub rangeField : ℕ
+rangeField = 9
 
 -- the options' own mapping: internal, and behind it external and range (R34)
 abbrev pub ownInternalAt : ℕ
@@ -176,8 +182,8 @@ header =
 
 -- ---- the slots: occupancy and tag (R56)
 
-abbrev pub heldAt : ℕ
-heldAt = 256
+abbrev pub occupancyAt : ℕ
+occupancyAt = 256
 
 abbrev pub heldColumn : ℕ
 heldColumn = 0
@@ -189,74 +195,74 @@ abbrev pub tagColumn : ℕ
 tagColumn = 1
 
 abbrev pub slotTable : List Col
-slotTable = col heldAt 1 ∷ col tagsAt 4 ∷ []
+slotTable = col occupancyAt 1 ∷ col tagsAt 4 ∷ []
 
 -- ---- the nodes, in a table of n rows: where each column begins, and its number among them
 
 -- the number
-abbrev pub numbers : ℕ → ℕ
-numbers n = tableAt
+abbrev pub numbersAt : ℕ → ℕ
+numbersAt n = tableAt
 
 abbrev pub numberColumn : ℕ
 numberColumn = 0
 
 -- the parent
-abbrev pub parents : ℕ → ℕ
-parents n = tableAt + 8 * n
+abbrev pub parentsAt : ℕ → ℕ
+parentsAt n = tableAt + 8 * n
 
 abbrev pub parentColumn : ℕ
 parentColumn = 1
 
 -- the mount's cell
-abbrev pub mounts : ℕ → ℕ
-mounts n = tableAt + 16 * n
+abbrev pub mountsAt : ℕ → ℕ
+mountsAt n = tableAt + 16 * n
 
 abbrev pub mountColumn : ℕ
 mountColumn = 2
 
 -- the name's length and last bytes (R10)
-abbrev pub lasts : ℕ → ℕ
-lasts n = tableAt + 24 * n
+abbrev pub lastsAt : ℕ → ℕ
+lastsAt n = tableAt + 24 * n
 
 abbrev pub lastColumn : ℕ
 lastColumn = 3
 
 -- uid, gid and mode of the mount
-abbrev pub uids : ℕ → ℕ
-uids n = tableAt + 32 * n
+abbrev pub uidsAt : ℕ → ℕ
+uidsAt n = tableAt + 32 * n
 
 abbrev pub uidColumn : ℕ
 uidColumn = 4
 
-abbrev pub gids : ℕ → ℕ
-gids n = tableAt + 36 * n
+abbrev pub gidsAt : ℕ → ℕ
+gidsAt n = tableAt + 36 * n
 
 abbrev pub gidColumn : ℕ
 gidColumn = 5
 
-abbrev pub modes : ℕ → ℕ
-modes n = tableAt + 40 * n
+abbrev pub modesAt : ℕ → ℕ
+modesAt n = tableAt + 40 * n
 
 abbrev pub modeColumn : ℕ
 modeColumn = 6
 
 -- the name's first bytes (R10)
-abbrev pub firsts : ℕ → ℕ
-firsts n = tableAt + 44 * n
+abbrev pub firstsAt : ℕ → ℕ
+firstsAt n = tableAt + 44 * n
 
 abbrev pub firstColumn : ℕ
 firstColumn = 7
 
 abbrev pub nodeTable : ℕ → List Col
 nodeTable n =
-    col (numbers n) 8
-    ∷ col (parents n) 8
-    ∷ col (mounts n) 8
-    ∷ col (lasts n) 8
-    ∷ col (uids n) 4
-    ∷ col (gids n) 4
-    ∷ col (modes n) 4
-    ∷ col (firsts n) 248
+    col (numbersAt n) 8
+    ∷ col (parentsAt n) 8
+    ∷ col (mountsAt n) 8
+    ∷ col (lastsAt n) 8
+    ∷ col (uidsAt n) 4
+    ∷ col (gidsAt n) 4
+    ∷ col (modesAt n) 4
+    ∷ col (firstsAt n) 248
     ∷ []
 
 -- ---- the header's numbers
@@ -277,12 +283,34 @@ nextOf mem = get 8 mem nextAt
 abbrev pub counterByte : List ℕ → ℕ
 counterByte mem = get 1 mem counterAt
 
--- ---- where the name of row i stands, in a table of N rows
+-- ---- where the cells of row i stand, in a table of n rows
 
--- its length and last bytes
+-- the number
+abbrev pub numberAt : ℕ → ℕ → ℕ
+numberAt n i = numbersAt n + 8 * i
+
+-- the parent
+abbrev pub parentAt : ℕ → ℕ → ℕ
+parentAt n i = parentsAt n + 8 * i
+
+-- the mount's cell
+abbrev pub mountCellAt : ℕ → ℕ → ℕ
+mountCellAt n i = mountsAt n + 8 * i
+
+-- the name's length and last bytes
 abbrev pub lastAt : ℕ → ℕ → ℕ
-lastAt n i = lasts n + 8 * i
+lastAt n i = lastsAt n + 8 * i
 
--- the bytes before those
+-- uid, gid and mode of the mount
+abbrev pub uidAt : ℕ → ℕ → ℕ
+uidAt n i = uidsAt n + 4 * i
+
+abbrev pub gidAt : ℕ → ℕ → ℕ
+gidAt n i = gidsAt n + 4 * i
+
+abbrev pub modeAt : ℕ → ℕ → ℕ
+modeAt n i = modesAt n + 4 * i
+
+-- the name's first bytes
 abbrev pub firstAt : ℕ → ℕ → ℕ
-firstAt n i = firsts n + 248 * i
+firstAt n i = firstsAt n + 248 * i

@@ -2,7 +2,6 @@
 pub mod Table
 pub mod Layout
 pub mod View
-pub mod Rule
+pub mod Laid
 pub mod Write
 pub mod Answer
-pub mod Call

@@ -5,8 +5,8 @@ use mathlib.Core.List.{List, [], _∷_, _++_}
 use mathlib.Core.Option.{Option, none, some}
 use lib.ListN.{getD, take}
 use lib.Dec.{eqb}
-use Rattle.le.specs.Mem.{value, get}
-use Rattle.rules.specs.Ids.{Mapping}
+use Rattle.le.specs.Mem.{value}
+use Rattle.rules.specs.Ids.{Mapping, mappingBy}
 use Rattle.rules.specs.Tree.{Mount, Node}
 use Rattle.rules.specs.Instance.{Options, Slot, Instance}
 use Rattle.tables.specs.Table.{row, tab}
@@ -25,8 +25,8 @@ abbrev pub flag : ℕ → List (List ℕ) → Bool
 flag k cells = not (eqb (field k cells) 0)
 
 -- index × 2^56 + root number; index 0 is no mount, whatever the low bits are (R5)
-unfoldable pub mountFrom : ℕ → ℕ → ℕ → ℕ → Option Mount
-mountFrom word uid gid mode =
+unfoldable pub mountFromCells : ℕ → ℕ → ℕ → ℕ → Option Mount
+mountFromCells word uid gid mode =
     cond (eqb (word / 2 ^ 56) 0) none (some (record { index = word / 2 ^ 56; root = word % 2 ^ 56; uid = uid; gid = gid; mode = mode }))
 
 -- a length and the last seven bytes, and the bytes before those (R10)
@@ -38,9 +38,9 @@ nameFrom (l ∷ last) first = take (l - 7) first ++ take (min l 7) last
 unfoldable pub nodeFrom : List (List ℕ) → Node
 nodeFrom r = record {
   number = field numberColumn r % 2 ^ 56;
-  above = field parentColumn r % 2 ^ 56;
-  called = nameFrom (cell lastColumn r) (cell firstColumn r);
-  mount = mountFrom (field mountColumn r) (field uidColumn r) (field gidColumn r) (field modeColumn r);
+  parent = field parentColumn r % 2 ^ 56;
+  name = nameFrom (cell lastColumn r) (cell firstColumn r);
+  mount = mountFromCells (field mountColumn r) (field uidColumn r) (field gidColumn r) (field modeColumn r);
 }
 
 -- a slot (R56)
@@ -49,11 +49,7 @@ slotFrom r = record { held = flag heldColumn r; tag = field tagColumn r }
 
 -- the mapping in three fields from the k-th on (R27)
 abbrev pub mappingFrom : ℕ → List (List ℕ) → Mapping
-mappingFrom k h = record { internal = field k h; external = field (k + 1) h; range = field (k + 2) h }
-
--- the mapping at a place (R27)
-abbrev pub mappingAt : List ℕ → ℕ → Mapping
-mappingAt mem at = record { internal = get 4 mem at; external = get 4 mem (at + 4); range = get 4 mem (at + 8) }
+mappingFrom k h = mappingBy (field k h) (field (k + 1) h) (field (k + 2) h)
 
 -- the options, with their own mapping (R27, R34)
 abbrev pub optionsFrom : List (List ℕ) → Options
@@ -67,7 +63,7 @@ instanceFrom h slots nodes = record {
   initialized = flag initializedField h;
   options = optionsFrom h;
   indexes = record { slots = slots; counter = field counterField h };
-  tree = record { next = field nextField h; root = mountFrom (field rootCellField h) (field rootUidField h) (field rootGidField h) (field rootModeField h); nodes = nodes };
+  tree = record { next = field nextField h; root = mountFromCells (field rootCellField h) (field rootUidField h) (field rootGidField h) (field rootModeField h); nodes = nodes };
 }
 
 -- ---- of the memory

@@ -47,9 +47,17 @@ abbrev pub yesByte : Bool → ℕ
 yesByte true = 1
 yesByte false = 0
 
--- slot k, held or not, with its tag (R56)
+-- slot k is held, or not; its tag stays (R56)
+unfoldable pub setHeld : ℕ → Bool → List ℕ → List ℕ
+setHeld k held mem = putRow slotTable (bytesOf 1 (yesByte held) ∷ []) mem k
+
+-- slot k has the tag; whether it is held stays (R56)
+unfoldable pub setTag : ℕ → ℕ → List ℕ → List ℕ
+setTag k tag mem = putRow slotTable ([] ∷ bytesOf 4 tag ∷ []) mem k
+
+-- both: slot k, held or not, with its tag (R56)
 unfoldable pub setSlot : ℕ → Bool → ℕ → List ℕ → List ℕ
-setSlot k held tag mem = putRow slotTable (bytesOf 1 (yesByte held) ∷ bytesOf 4 tag ∷ []) mem k
+setSlot k held tag mem = setTag k tag (setHeld k held mem)
 
 -- ---- a mount
 
@@ -88,23 +96,18 @@ setRowMount m i mem = putRow (nodeTable (capacityOf mem)) (rowMountCells m) mem 
 
 -- ---- rows
 
+-- the cells of a name: its length and last bytes, and behind the mount's ids the bytes before them (R10)
+abbrev pub nameCells : List ℕ → List (List ℕ)
+nameCells p = (bytesOf 1 (length p) ++ drop (length p - 7) p) ∷ [] ∷ [] ∷ [] ∷ take (length p - 7) p ∷ []
+
 -- the cells of a new node
 unfoldable pub nodeCells : ℕ → ℕ → List ℕ → List (List ℕ)
-nodeCells x above p =
-    bytesOf 8 x
-    ∷ bytesOf 8 above
-    ∷ bytesOf 8 0
-    ∷ (bytesOf 1 (length p) ++ drop (length p - 7) p)
-    ∷ []
-    ∷ []
-    ∷ []
-    ∷ take (length p - 7) p
-    ∷ []
+nodeCells x parent p = bytesOf 8 x ∷ bytesOf 8 parent ∷ bytesOf 8 0 ∷ nameCells p
 
 -- a new node at the end takes the next number (R48, R49)
 unfoldable pub appendNode : ℕ → List ℕ → List ℕ → List ℕ
-appendNode above p mem =
-    setNext (nextOf mem + 1) (setCount (countOf mem + 1) (putRow (nodeTable (capacityOf mem)) (nodeCells (nextOf mem) above p) mem (countOf mem)))
+appendNode parent p mem =
+    setNext (nextOf mem + 1) (setCount (countOf mem + 1) (putRow (nodeTable (capacityOf mem)) (nodeCells (nextOf mem) parent p) mem (countOf mem)))
 
 -- row i goes, and those behind it close up (R25, R44)
 unfoldable pub removeRow : ℕ → List ℕ → List ℕ

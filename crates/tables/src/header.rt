@@ -2,55 +2,19 @@
 ghost use mathlib.Core.Path.{_≡_};
 ghost use Prim.Native.Nat.{_+_, _≤_};
 ghost use lib.ListN.{length};
+ghost use Rattle.rules.specs.Ids.{mappingAt};
 ghost use Rattle.id_map.specs.Mapping.{mappingOf};
-ghost use Rattle.tables.specs.Layout.{capacityOf, countOf, nextOf, counterByte, mappingField, removalField};
-ghost use Rattle.tables.specs.View.{flag, mappingFrom, mappingAt, headOf};
-ghost use Rattle.tables.specs.Rule.{Bounds};
+ghost use Rattle.tables.specs.Layout.{tableAt, capacityOf, countOf, nextOf, counterByte, mappingField, removalField};
+ghost use Rattle.tables.specs.View.{flag, mappingFrom, headOf};
+ghost use Rattle.tables.specs.Laid.{Bounds};
 ghost use Rattle.tables.specs.Write.{setCounter, setRemoval, putMapping};
-
-// Where each number stands (docs/LAYOUT.md).
-pub const MARK_AT: usize = 0;
-
-pub const CAPACITY_AT: usize = 8;
-
-pub const COUNT_AT: usize = 16;
-
-pub const NEXT_AT: usize = 24;
-
-pub const KNOWN_AT: usize = 32;
-
-pub const IN_OPTS_AT: usize = 40;
-
-pub const OUT_OPTS_AT: usize = 48;
-
-pub const FLAGS_AT: usize = 80;
-
-pub const COUNTER_AT: usize = 81;
-
-pub const REMOVAL_AT: usize = 82;
-
-pub const INITIALIZED_AT: usize = 83;
-
-// The mapping in force, and the options' own (R34).
-pub const MAPPING_AT: usize = 56;
-
-pub const OWN_MAPPING_AT: usize = 68;
-
-// The root's mount.
-pub const ROOT_CELL_AT: usize = 88;
-
-pub const ROOT_UID_AT: usize = 96;
-
-pub const ROOT_GID_AT: usize = 100;
-
-pub const ROOT_MODE_AT: usize = 104;
 
 // N (R9).
 pub fn capacity(s: &[u8]) -> usize
     requires { ⌜ Bounds (now s) ⌝ }
     ensures { λ r. ⌜ r ≡ capacityOf (now (s .entry)) ⌝ }
 {
-    le::fields::get_u64(s, CAPACITY_AT) as usize
+    le::fields::get_u64(s, crate::places::CAPACITY_AT) as usize
 }
 
 // How many nodes are live besides the root (R51).
@@ -58,7 +22,7 @@ pub fn count(s: &[u8]) -> usize
     requires { ⌜ Bounds (now s) ⌝ }
     ensures { λ r. ⌜ r ≡ countOf (now (s .entry)) ⌝ }
 {
-    le::fields::get_u64(s, COUNT_AT) as usize
+    le::fields::get_u64(s, crate::places::COUNT_AT) as usize
 }
 
 // The next number (R49).
@@ -66,39 +30,39 @@ pub fn next(s: &[u8]) -> u64
     requires { ⌜ Bounds (now s) ⌝ }
     ensures { λ r. ⌜ r ≡ nextOf (now (s .entry)) ⌝ }
 {
-    le::fields::get_u64(s, NEXT_AT)
+    le::fields::get_u64(s, crate::places::NEXT_AT)
 }
 
 // The counter (R80).
 pub fn counter(s: &[u8]) -> u8
-    requires { ⌜ 8192 ≤ length (now s) ⌝ }
+    requires { ⌜ tableAt ≤ length (now s) ⌝ }
     ensures { λ r. ⌜ r ≡ counterByte (now (s .entry)) ⌝ }
 {
-    le::fields::get_u8(s, COUNTER_AT)
+    le::fields::get_u8(s, crate::places::COUNTER_AT)
 }
 
 // The counter is set (R83).
 pub fn set_counter(s: &mut [u8], c: u8)
-    requires { ⌜ 8192 ≤ length (now s) ⌝ }
+    requires { ⌜ tableAt ≤ length (now s) ⌝ }
     ensures { λ _. ⌜ now (s .exit) ≡ setCounter c (now (s .entry)) ⌝ }
 {
-    le::fields::put_u8(s, COUNTER_AT, c);
+    le::fields::put_u8(s, crate::places::COUNTER_AT, c);
 }
 
 // Whether an unmount takes its node out of the tree (R32).
 pub fn removes(s: &[u8]) -> bool
-    requires { ⌜ 8192 ≤ length (now s) ⌝ }
+    requires { ⌜ tableAt ≤ length (now s) ⌝ }
     ensures { λ r. ⌜ r ≡ flag removalField (headOf (now (s .entry))) ⌝ }
 {
-    le::fields::get_u8(s, REMOVAL_AT) != 0
+    le::fields::get_u8(s, crate::places::REMOVAL_AT) != 0
 }
 
 // `remove_pseudo_root` is set (R32).
 pub fn set_removes(s: &mut [u8])
-    requires { ⌜ 8192 ≤ length (now s) ⌝ }
+    requires { ⌜ tableAt ≤ length (now s) ⌝ }
     ensures { λ _. ⌜ now (s .exit) ≡ setRemoval (now (s .entry)) ⌝ }
 {
-    le::fields::put_u8(s, REMOVAL_AT, 1);
+    le::fields::put_u8(s, crate::places::REMOVAL_AT, 1);
 }
 
 // The mapping at a place: internal, external, range (R27).
@@ -125,8 +89,8 @@ pub fn put_mapping(s: &mut [u8], at: usize, m: id_map::IdMapping)
 
 // The mapping in force (R34).
 pub fn mapping(s: &[u8]) -> id_map::IdMapping
-    requires { ⌜ 8192 ≤ length (now s) ⌝ }
+    requires { ⌜ tableAt ≤ length (now s) ⌝ }
     ensures { λ r. ⌜ mappingOf r ≡ mappingFrom mappingField (headOf (now (s .entry))) ⌝ }
 {
-    mapping_at(s, MAPPING_AT)
+    mapping_at(s, crate::places::MAPPING_AT)
 }

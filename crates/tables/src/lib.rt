@@ -2,5 +2,6 @@
 // has as its condition a place within the slice, the layout rule, a row below the count, or what its caller has just found or tested.
 pub mod header;
 pub mod mounts;
+pub mod places;
 pub mod rows;
 pub mod slots;

@@ -2,10 +2,10 @@
 ghost use mathlib.Core.Path.{_≡_};
 ghost use mathlib.Core.Option.{none, some};
 ghost use Prim.Native.Nat.{_<_, _^_};
-ghost use Rattle.rules.specs.Instance.{mountOf as mountOfTree};
+ghost use Rattle.rules.specs.Instance.{mountOfNode};
 ghost use Rattle.tables.specs.Layout.{capacityOf, countOf};
-ghost use Rattle.tables.specs.View.{mountFrom, nodeAt, nodesOf, view};
-ghost use Rattle.tables.specs.Rule.{Bounds};
+ghost use Rattle.tables.specs.View.{mountFromCells, nodeAt, nodesOf, view};
+ghost use Rattle.tables.specs.Laid.{Bounds};
 ghost use Rattle.tables.specs.Write.{setRootMount, setRowMount};
 ghost use Rattle.tables.specs.Answer.{mountOfPoint, mountIn, RowOf, WithParent, nodeMountMem};
 use crate::rows::Row;
@@ -13,7 +13,7 @@ use crate::rows::Row;
 // A mount on a node: its index, the backend's root number, and the root's ids and mode as the request brought them (R3, R76).
 pub struct MountPoint {
     pub fs_idx: u8,
-    pub ino: u64,
+    pub root: u64,
     pub uid: u32,
     pub gid: u32,
     pub mode: u32,
@@ -27,7 +27,7 @@ pub enum MountOn {
 
 // The mount that a cell and its ids spell: the cell is the index times 2^56, and the root number; index 0 is none (R5).
 fn spelt(word: u64, uid: u32, gid: u32, mode: u32) -> MountOn
-    ensures { λ r. ⌜ mountIn r ≡ mountFrom word uid gid mode ⌝ }
+    ensures { λ r. ⌜ mountIn r ≡ mountFromCells word uid gid mode ⌝ }
 {
     let index = word / rules::NUMBERS;
     if index == 0 {
@@ -35,7 +35,7 @@ fn spelt(word: u64, uid: u32, gid: u32, mode: u32) -> MountOn
     }
     MountOn::Point(MountPoint {
         fs_idx: index as u8,
-        ino: word % rules::NUMBERS,
+        root: word % rules::NUMBERS,
         uid,
         gid,
         mode,
@@ -48,10 +48,10 @@ pub fn of_root(s: &[u8]) -> MountOn
     ensures { λ r. ⌜ mountIn r ≡ view (now (s .entry)) .tree .root ⌝ }
 {
     spelt(
-        le::fields::get_u64(s, crate::header::ROOT_CELL_AT),
-        le::fields::get_u32(s, crate::header::ROOT_UID_AT),
-        le::fields::get_u32(s, crate::header::ROOT_GID_AT),
-        le::fields::get_u32(s, crate::header::ROOT_MODE_AT),
+        le::fields::get_u64(s, crate::places::ROOT_CELL_AT),
+        le::fields::get_u32(s, crate::places::ROOT_UID_AT),
+        le::fields::get_u32(s, crate::places::ROOT_GID_AT),
+        le::fields::get_u32(s, crate::places::ROOT_MODE_AT),
     )
 }
 
@@ -63,17 +63,17 @@ fn of_row(s: &[u8], i: usize) -> MountOn
 {
     let n = crate::header::capacity(s);
     spelt(
-        le::fields::get_u64(s, crate::rows::TABLE + 16 * n + 8 * i),
-        le::fields::get_u32(s, crate::rows::TABLE + 32 * n + 4 * i),
-        le::fields::get_u32(s, crate::rows::TABLE + 36 * n + 4 * i),
-        le::fields::get_u32(s, crate::rows::TABLE + 40 * n + 4 * i),
+        le::fields::get_u64(s, crate::places::mount_at(n, i)),
+        le::fields::get_u32(s, crate::places::uid_at(n, i)),
+        le::fields::get_u32(s, crate::places::gid_at(n, i)),
+        le::fields::get_u32(s, crate::places::mode_at(n, i)),
     )
 }
 
 // The mount on the node of that number; 1 is the root before any row is asked (R52).
 pub fn of_node(s: &[u8], x: u64) -> MountOn
     requires { ⌜ Bounds (now s) ⌝ }
-    ensures { λ r. ⌜ mountIn r ≡ mountOfTree (view (now (s .entry)) .tree) x ⌝ }
+    ensures { λ r. ⌜ mountIn r ≡ mountOfNode (view (now (s .entry)) .tree) x ⌝ }
 {
     if x == rules::ROOT_ID {
         return of_root(s);
@@ -120,36 +120,36 @@ pub fn with_parent(s: &[u8], x: u64) -> NodeMount
 // The root has that mount.
 fn put_root(s: &mut [u8], m: MountPoint)
     requires { ⌜ Bounds (now s) ⌝ }
-    requires { ⌜ m .ino < 2 ^ 56 ⌝ }
+    requires { ⌜ m .root < 2 ^ 56 ⌝ }
     ensures { λ _. ⌜ now (s .exit) ≡ setRootMount (some (mountOfPoint m)) (now (s .entry)) ⌝ }
 {
-    let word = (m.fs_idx as u64) * rules::NUMBERS + m.ino;
-    le::fields::put_u64(s, crate::header::ROOT_CELL_AT, word);
-    le::fields::put_u32(s, crate::header::ROOT_UID_AT, m.uid);
-    le::fields::put_u32(s, crate::header::ROOT_GID_AT, m.gid);
-    le::fields::put_u32(s, crate::header::ROOT_MODE_AT, m.mode);
+    let word = (m.fs_idx as u64) * rules::NUMBERS + m.root;
+    le::fields::put_u64(s, crate::places::ROOT_CELL_AT, word);
+    le::fields::put_u32(s, crate::places::ROOT_UID_AT, m.uid);
+    le::fields::put_u32(s, crate::places::ROOT_GID_AT, m.gid);
+    le::fields::put_u32(s, crate::places::ROOT_MODE_AT, m.mode);
 }
 
 // Row i has that mount.
 fn put_row(s: &mut [u8], i: usize, m: MountPoint)
     requires { ⌜ Bounds (now s) ⌝ }
     requires { ⌜ i < countOf (now s) ⌝ }
-    requires { ⌜ m .ino < 2 ^ 56 ⌝ }
+    requires { ⌜ m .root < 2 ^ 56 ⌝ }
     ensures { λ _. ⌜ now (s .exit) ≡ setRowMount (some (mountOfPoint m)) i (now (s .entry)) ⌝ }
 {
     let n = crate::header::capacity(s);
-    let word = (m.fs_idx as u64) * rules::NUMBERS + m.ino;
-    le::fields::put_u64(s, crate::rows::TABLE + 16 * n + 8 * i, word);
-    le::fields::put_u32(s, crate::rows::TABLE + 32 * n + 4 * i, m.uid);
-    le::fields::put_u32(s, crate::rows::TABLE + 36 * n + 4 * i, m.gid);
-    le::fields::put_u32(s, crate::rows::TABLE + 40 * n + 4 * i, m.mode);
+    let word = (m.fs_idx as u64) * rules::NUMBERS + m.root;
+    le::fields::put_u64(s, crate::places::mount_at(n, i), word);
+    le::fields::put_u32(s, crate::places::uid_at(n, i), m.uid);
+    le::fields::put_u32(s, crate::places::gid_at(n, i), m.gid);
+    le::fields::put_u32(s, crate::places::mode_at(n, i), m.mode);
 }
 
 // The node of that number, in that row, has that mount (R76).
 pub fn set(s: &mut [u8], x: u64, row: Row, m: MountPoint)
     requires { ⌜ Bounds (now s) ⌝ }
     requires { ⌜ RowOf (now s) x row ⌝ }
-    requires { ⌜ m .ino < 2 ^ 56 ⌝ }
+    requires { ⌜ m .root < 2 ^ 56 ⌝ }
     ensures { λ _. ⌜ now (s .exit) ≡ nodeMountMem (nodesOf (now (s .entry))) (some (mountOfPoint m)) x (now (s .entry)) ⌝ }
 {
     if x == rules::ROOT_ID {
@@ -169,12 +169,12 @@ pub fn clear(s: &mut [u8], x: u64, row: Row)
     ensures { λ _. ⌜ now (s .exit) ≡ nodeMountMem (nodesOf (now (s .entry))) none x (now (s .entry)) ⌝ }
 {
     if x == rules::ROOT_ID {
-        le::fields::put_u64(s, crate::header::ROOT_CELL_AT, 0);
+        le::fields::put_u64(s, crate::places::ROOT_CELL_AT, 0);
         return;
     }
     let n = crate::header::capacity(s);
     match row {
-        Row::At(i) => le::fields::put_u64(s, crate::rows::TABLE + 16 * n + 8 * i, 0),
+        Row::At(i) => le::fields::put_u64(s, crate::places::mount_at(n, i), 0),
         Row::Nothing => {}
     }
 }

@@ -1,20 +1,13 @@
-// The 256 index slots: which is held, with which tag, and the search for a free one.
+// The 256 index slots: which is held, and with which tag.
 ghost use mathlib.Core.Path.{_≡_};
 ghost use mathlib.Core.Bool.{true, false};
 ghost use Prim.Native.Nat.{_≤_};
 ghost use lib.ListN.{length};
 ghost use Rattle.rules.specs.Instance.{tagInSlot};
-ghost use Rattle.rules.specs.Round.{allocate};
-ghost use Rattle.index.specs.Search.{readOf, told};
-ghost use Rattle.tables.specs.Layout.{counterByte};
+ghost use Rattle.tables.specs.Layout.{tableAt};
 ghost use Rattle.tables.specs.View.{slotAt};
-ghost use Rattle.tables.specs.Write.{setSlot};
-ghost use Rattle.tables.specs.Answer.{tagIn, heldAt};
-
-// Where the column of held or not stands, and that of the tags (docs/LAYOUT.md).
-pub const HELD_AT: usize = 256;
-
-pub const TAGS_AT: usize = 512;
+ghost use Rattle.tables.specs.Write.{setHeld, setTag, setSlot};
+ghost use Rattle.tables.specs.Answer.{tagIn};
 
 // What a slot holds (R56).
 pub enum Tag {
@@ -24,41 +17,52 @@ pub enum Tag {
 
 // What slot k holds (R56).
 pub fn tag_of(s: &[u8], k: u8) -> Tag
-    requires { ⌜ 8192 ≤ length (now s) ⌝ }
+    requires { ⌜ tableAt ≤ length (now s) ⌝ }
     ensures { λ r. ⌜ tagIn r ≡ tagInSlot (slotAt (now (s .entry)) k) ⌝ }
 {
     let at = k as usize;
-    if le::fields::get_u8(s, HELD_AT + at) == index::EMPTY {
+    if le::fields::get_u8(s, crate::places::held_at(at)) == index::EMPTY {
         return Tag::Empty;
     }
-    Tag::Held(le::fields::get_u32(s, TAGS_AT + 4 * at))
+    Tag::Held(le::fields::get_u32(s, crate::places::tag_at(at)))
+}
+
+// Slot k is held, or not; its tag stays (R56).
+pub fn set_held(s: &mut [u8], k: u8, held: bool)
+    requires { ⌜ tableAt ≤ length (now s) ⌝ }
+    ensures { λ _. ⌜ now (s .exit) ≡ setHeld k held (now (s .entry)) ⌝ }
+{
+    let at = crate::places::held_at(k as usize);
+    if held {
+        le::fields::put_u8(s, at, index::HELD);
+        return;
+    }
+    le::fields::put_u8(s, at, index::EMPTY);
+}
+
+// Slot k has the tag; whether it is held stays (R56).
+pub fn set_tag(s: &mut [u8], k: u8, tag: u32)
+    requires { ⌜ tableAt ≤ length (now s) ⌝ }
+    ensures { λ _. ⌜ now (s .exit) ≡ setTag k tag (now (s .entry)) ⌝ }
+{
+    let at = crate::places::tag_at(k as usize);
+    le::fields::put_u32(s, at, tag);
 }
 
 // Slot k holds the tag (R76).
 pub fn hold(s: &mut [u8], k: u8, tag: u32)
-    requires { ⌜ 8192 ≤ length (now s) ⌝ }
+    requires { ⌜ tableAt ≤ length (now s) ⌝ }
     ensures { λ _. ⌜ now (s .exit) ≡ setSlot k true tag (now (s .entry)) ⌝ }
 {
-    let at = k as usize;
-    le::fields::put_u8(s, HELD_AT + at, index::HELD);
-    le::fields::put_u32(s, TAGS_AT + 4 * at, tag);
+    set_held(s, k, true);
+    set_tag(s, k, tag);
 }
 
 // Slot k is empty, without a tag (R56).
 pub fn free(s: &mut [u8], k: u8)
-    requires { ⌜ 8192 ≤ length (now s) ⌝ }
+    requires { ⌜ tableAt ≤ length (now s) ⌝ }
     ensures { λ _. ⌜ now (s .exit) ≡ setSlot k false 0 (now (s .entry)) ⌝ }
 {
-    let at = k as usize;
-    le::fields::put_u8(s, HELD_AT + at, index::EMPTY);
-    le::fields::put_u32(s, TAGS_AT + 4 * at, index::NO_TAG);
-}
-
-// The first free index going round from the counter on (R80 to R84).
-pub fn search(s: &[u8]) -> index::Allocated
-    requires { ⌜ 8192 ≤ length (now s) ⌝ }
-    ensures { λ r. ⌜ readOf r ≡ told (allocate (heldAt (now (s .entry))) (counterByte (now (s .entry)))) ⌝ }
-{
-    let c = crate::header::counter(s);
-    index::allocate_fs_idx(&s[HELD_AT..TAGS_AT], c)
+    set_held(s, k, false);
+    set_tag(s, k, index::NO_TAG);
 }

@@ -10,8 +10,8 @@ use Rattle.rules.specs.Path.{rooted, tooLong}
 use Rattle.rules.specs.Instance.{Instance}
 use Rattle.rules.specs.Outcome.{Outcome, Row, refused, firstOf, _⟹_}
 use Rattle.tables.specs.View.{view}
-use Rattle.tables.specs.Rule.{laid as laidIn}
-use Rattle.tables.specs.Call.{Told, refuses, toldSmall, Does}
+use Rattle.tables.specs.Laid.{laid as laidIn}
+use Rattle.call_form.specs.Form.{Told, refuses, toldSmall, Does}
 use Rattle.storage.proofs.Calls.{does-small, does-nothing}
 
 -- a call with these rows first, which leaves every byte where one of them applies; what it then tells

@@ -10,14 +10,14 @@ use Rattle.rules.specs.Numbers.{maxIno, INODE}
 use Rattle.rules.specs.Path.{rooted}
 use Rattle.rules.specs.Instance.{Instance}
 use Rattle.rules.specs.Outcome.{Outcome, nothing, refused, firstOf}
-use Rattle.rules.specs.Mount.{Request, allocation, stepped, allocated, mountAs, mountRule}
+use Rattle.rules.specs.Mount.{Request, allocation, stepped, allocated, mountByIndex, mountRule}
 use Rattle.tables.specs.View.{view}
-use Rattle.tables.specs.Call.{Does}
-use Rattle.vfs.specs.Follows.{Follows}
-use Rattle.vfs.specs.Mounting.{requestOf, mountedTold, allocMem, rootedMem, unrootedRule, rootedRule, early, mountMem, byFound}
-use Rattle.vfs.specs.declared.backend.Backend.{Backend}
-use Rattle.vfs.specs.declared.mounting.Mounted.{Mounted}
-use Rattle.vfs.specs.declared.mounting.Mounted.the-variants.{TooLong, Inval, Inode, Small}
+use Rattle.call_form.specs.Form.{Does}
+use Rattle.mount_parts.specs.Follows.{Follows}
+use Rattle.mount_parts.specs.Mounting.{requestOf, mountedTold, allocMem, rootedMem, unrootedRule, rootedRule, early, mountMem, byFound}
+use Rattle.mount_parts.specs.declared.backend.Backend.{Backend}
+use Rattle.mount_parts.specs.declared.mounting.Mounted.{Mounted}
+use Rattle.mount_parts.specs.declared.mounting.Mounted.the-variants.{TooLong, Inval, Inode, Small}
 use Rattle.storage.proofs.Calls.{does-nothing, does}
 use Rattle.vfs.proofs.FirstRows.{Begins, Passed}
 
@@ -36,22 +36,22 @@ module _ (mem path : List ℕ) (b : Backend) where
   mount-begins = record { rest = _; last = _; stop = early R; other = _; rule = refl; bytes = refl; stops-long = λ z. rw z; stops-bad = λ y z. rw (y, z); is-small = refl; is-long = refl; is-bad = refl }
 
   module _ (p : Passed mem path) where
-    pub large : maxIno < b .max → Gives (Inode 0) mem
+    pub large : maxIno < b .largest → Gives (Inode 0) mem
     unfolding mountedTold mountRule mountMem firstOf early
     large h =
-        let z : ltb maxIno (b .max) ≡ true = lt-ltb maxIno (b .max) h in
+        let z : ltb maxIno (b .largest) ≡ true = lt-ltb maxIno (b .largest) h in
         does-nothing mem F (mountedTold (Inode 0)) (mountMem R mem) (refused INODE (view mem)) (p .laid) (rw (p .fits, p .formed, z)) refl refl (rw (p .laid, p .fits, p .formed, z))
 
-    module _ (low : b .max ≤ maxIno) (r : Bool) (re : r ≡ rooted path) where
-      top : ltb maxIno (b .max) ≡ false
-      top = le-ltb maxIno (b .max) low
+    module _ (low : b .largest ≤ maxIno) (r : Bool) (re : r ≡ rooted path) where
+      top : ltb maxIno (b .largest) ≡ false
+      top = le-ltb maxIno (b .largest) low
 
       not-early : early R ≡ false
       unfolding early
       not-early = rw (p .fits, p .formed, top)
 
       pub no-slash-ends : not r ≡ true → (v : Mounted) (after : List ℕ) → Follows (unrootedRule (view mem)) (allocMem mem) (mountedTold v) after → Gives v after
-      unfolding mountRule mountMem firstOf mountAs
+      unfolding mountRule mountMem firstOf mountByIndex
       no-slash-ends e v after w =
           does mem F (mountedTold v) after (mountMem R mem) (unrootedRule (view mem)) (p .laid) (rw (p .fits, p .formed, top, off) (rows (allocation (view mem) .found))) (w .told)
           (w .bytes ∙ sym (rw (p .laid, not-early, off))) (w .stands) (w .keeps)
@@ -59,7 +59,7 @@ module _ (mem path : List ℕ) (b : Backend) where
           off : rooted path ≡ false
           off = sym re ∙ not-true r e
 
-          rows : (f : Option ℕ) → mountAs (view mem) R f ≡ allocated (view mem) (byFound f) nothing (stepped (view mem))
+          rows : (f : Option ℕ) → mountByIndex (view mem) R f ≡ allocated (view mem) (byFound f) nothing (stepped (view mem))
           rows none = refl
           rows (some k) = rw off
 

@@ -13,19 +13,20 @@ use Rattle.rules.specs.Numbers.{maxIno, INODE}
 use Rattle.rules.specs.Path.{rooted}
 use Rattle.rules.specs.Tree.{Mount}
 use Rattle.rules.specs.Outcome.{Outcome}
-use Rattle.rules.specs.Mount.{Request, noRoom, allocation, mountAs, mountRule, restoreAs, restoreMountRule}
-use Rattle.rules.specs.Unmount.{badPath, reached, mountUnder, unmounts, unmountAt, unmountRule}
+use Rattle.rules.specs.Mount.{Request, noRoom, allocation, mountByIndex, mountRule, restoreMountByIndex, restoreMountRule}
+use Rattle.rules.specs.Reached.{badPath, reached, reachedMount}
+use Rattle.rules.specs.Unmount.{unmounts, unmountAt, unmountRule}
 use Rattle.rules.proofs.Tests.{known, and-both, and-rest}
 use Rattle.rules.proofs.Rows.{first-of}
 use Rattle.rules.proofs.Turn.{seen-moved, visits-some}
 use Rattle.tables.specs.View.{view}
-use Rattle.tables.specs.Rule.{laid}
+use Rattle.tables.specs.Laid.{laid}
 use Rattle.tables.specs.Write.{setCounter}
-use Rattle.tables.specs.Call.{Told, toldBy, answeredBy}
-use Rattle.vfs.specs.Mounting.{allocMem, endMem, walkMem, plannedMem, foundMem, rootedMem, early, mountMem}
-use Rattle.vfs.specs.Restoring.{restoredMem, stopped, restoreMountMem}
+use Rattle.call_form.specs.Form.{Told, toldBy, answeredBy}
+use Rattle.mount_parts.specs.Mounting.{allocMem, endMem, walkMem, plannedMem, foundMem, rootedMem, early, mountMem}
+use Rattle.mount_parts.specs.RestoredMounting.{restoreMountRestMem, restoreMountStopped, restoreMountMem}
 use Rattle.vfs.specs.Unmounting.{offMem, unmountMem}
-use Rattle.vfs.specs.Refused.{movedMem, MountLeaves, RestoredLeaves, EveryRefusedCall}
+use Rattle.vfs.specs.Refused.{movedMem, MountLeaves, RestoredMountLeaves, EveryRefusedCall}
 
 -- what is told and what is left, by one test
 split : (Q : Told → List ℕ → Type 0) (b : Bool) {t u : Told} {m n : List ℕ} → (b ≡ true → Q t m) → (b ≡ false → Q u n) → Q (cond b t u) (cond b m n)
@@ -81,8 +82,8 @@ module _ (r : Request) (mem : List ℕ) where
   full-mem f n =
       ⊎-elim (λ (a : rooted (r .path) ≡ true). roomy a (and-rest _ _ n a) ∙ ap (λ (o : Option ℕ). foundMem o r mem) f) unrooted (known (rooted (r .path)))
 
-  rows : (o : Option ℕ) → allocation (view mem) .found ≡ o → (rooted (r .path) && noRoom (view mem) (r .path)) ≡ false → MountLeaves r mem (toldBy (mountAs (view mem) r o)) later
-  unfolding mountAs
+  rows : (o : Option ℕ) → allocation (view mem) .found ≡ o → (rooted (r .path) && noRoom (view mem) (r .path)) ≡ false → MountLeaves r mem (toldBy (mountByIndex (view mem) r o)) later
+  unfolding mountByIndex
   rows none f n = moved _ later refl (λ e. omega arith) (full-mem f n)
   rows (some k) f n =
       first-of (λ (o : Outcome). MountLeaves r mem (toldBy o) later) _ _ (
@@ -117,25 +118,25 @@ module _ (r : Request) (mem : List ℕ) where
 
 module _ (k : ℕ) (r : Request) (mem : List ℕ) where
   module _ (t : Told) (after : List ℕ) where
-    restored-kept : (t .code ≡ INODE → ⊥) → after ≡ mem → RestoredLeaves r mem t after
+    restored-kept : (t .code ≡ INODE → ⊥) → after ≡ mem → RestoredMountLeaves r mem t after
     restored-kept n e = record { most = λ f g. e; row3 = λ i l. e; row7 = λ i l. absurd (n i) }
 
-    restored-row3 : maxIno < r .largest → after ≡ mem → RestoredLeaves r mem t after
+    restored-row3 : maxIno < r .largest → after ≡ mem → RestoredMountLeaves r mem t after
     restored-row3 l e = record { most = λ f g. e; row3 = λ i h. e; row7 = λ i h. absurd (omega arith) }
 
-    restored-row7 : r .largest ≤ maxIno → t .code ≡ INODE → after ≡ walkMem (r .path) mem → RestoredLeaves r mem t after
+    restored-row7 : r .largest ≤ maxIno → t .code ≡ INODE → after ≡ walkMem (r .path) mem → RestoredMountLeaves r mem t after
     restored-row7 l i e = record { most = λ f g. absurd (g i); row3 = λ j h. absurd (omega arith); row7 = λ j h. e }
 
-    restored-done : t .code ≡ 0 → RestoredLeaves r mem t after
+    restored-done : t .code ≡ 0 → RestoredMountLeaves r mem t after
     restored-done z = record { most = λ f g. absurd (f z); row3 = λ i l. absurd (omega arith); row7 = λ i l. absurd (omega arith) }
 
   abbrev left : List ℕ
-  left = cond (stopped k r) mem (restoredMem k r mem)
+  left = cond (restoreMountStopped k r) mem (restoreMountRestMem k r mem)
 
-  restored-tests : RestoredLeaves r mem (toldBy (restoreMountRule (view mem) k r)) left
-  unfolding restoreMountRule restoreAs stopped restoredMem plannedMem endMem
+  restored-tests : RestoredMountLeaves r mem (toldBy (restoreMountRule (view mem) k r)) left
+  unfolding restoreMountRule restoreMountByIndex restoreMountStopped restoreMountRestMem plannedMem endMem
   restored-tests =
-      first-of (λ (o : Outcome). RestoredLeaves r mem (toldBy o) left) _ _ (
+      first-of (λ (o : Outcome). RestoredMountLeaves r mem (toldBy o) left) _ _ (
         λ a. restored-kept _ _ (λ e. omega arith) (rw a),
         λ a. (
           λ b. restored-kept _ _ (λ e. omega arith) (rw (a, b)),
@@ -145,22 +146,22 @@ module _ (k : ℕ) (r : Request) (mem : List ℕ) where
               λ d. restored-row3 _ _ (ltb-true maxIno (r .largest) d) (rw (a, b, z, d)),
               λ d. (
                 λ n. let w = and-both (rooted (r .path)) (noRoom (view mem) (r .path)) n in restored-kept _ _ (λ e. omega arith) (rw (a, b, z, d, w .0, w .1)),
-                λ n.
-                    first-of (λ (o : Outcome). RestoredLeaves r mem (toldBy o) left) _ _ (
-                      λ s. restored-kept _ _ (λ e. omega arith) (rw (a, b, z, d, s)),
-                      λ s.
-                          let m = and-rest (rooted (r .path)) (noRoom (view mem) (r .path)) n (not-false _ s) in
-                          (λ c. restored-row7 _ _ (ltb-false maxIno (r .largest) d) refl (rw (a, b, z, d, s, m, c)), λ c. restored-done _ _ refl),
-                    ),
+                λ n. (
+                  λ s. restored-kept _ _ (λ e. omega arith) (rw (a, b, z, d, s)),
+                  λ s.
+                      let m = and-rest (rooted (r .path)) (noRoom (view mem) (r .path)) n (not-false _ s) in
+                      first-of (λ (o : Outcome). RestoredMountLeaves r mem (toldBy o) left) _ _
+                      (λ c. restored-row7 _ _ (ltb-false maxIno (r .largest) d) refl (rw (a, b, z, d, s, m, c)), λ c. restored-done _ _ refl),
+                ),
               ),
             ),
           ),
         ),
       )
 
-  restored-leaves : RestoredLeaves r mem (answeredBy mem (λ i. restoreMountRule i k r)) (restoreMountMem k r mem)
+  restored-leaves : RestoredMountLeaves r mem (answeredBy mem (λ i. restoreMountRule i k r)) (restoreMountMem k r mem)
   unfolding answeredBy restoreMountMem
-  restored-leaves = split (RestoredLeaves r mem) (laid mem) (λ l. restored-tests) (λ l. restored-kept _ _ (λ e. omega arith) refl)
+  restored-leaves = split (RestoredMountLeaves r mem) (laid mem) (λ l. restored-tests) (λ l. restored-kept _ _ (λ e. omega arith) refl)
 
 -- ---- unmount
 
@@ -174,11 +175,11 @@ module _ (path mem : List ℕ) where
   off (some x) none f = refl
   off (some x) (some m) f = absurd (f refl)
 
-  unmount-tests : Keeps (toldBy (unmountRule (view mem) path)) (cond (badPath path) mem (offMem (reached (view mem) path) (mountUnder (view mem) (reached (view mem) path)) mem))
+  unmount-tests : Keeps (toldBy (unmountRule (view mem) path)) (cond (badPath path) mem (offMem (reached (view mem) path) (reachedMount (view mem) (reached (view mem) path)) mem))
   unfolding unmountRule
   unmount-tests =
-      first-of (λ (o : Outcome). Keeps (toldBy o) (cond (badPath path) mem (offMem (reached (view mem) path) (mountUnder (view mem) (reached (view mem) path)) mem))) _ _
-      (λ a f. rw a, λ a. rw a (off (reached (view mem) path) (mountUnder (view mem) (reached (view mem) path))))
+      first-of (λ (o : Outcome). Keeps (toldBy o) (cond (badPath path) mem (offMem (reached (view mem) path) (reachedMount (view mem) (reached (view mem) path)) mem))) _ _
+      (λ a f. rw a, λ a. rw a (off (reached (view mem) path) (reachedMount (view mem) (reached (view mem) path))))
 
   unmount-leaves : Keeps (answeredBy mem (λ i. unmountRule i path)) (unmountMem path mem)
   unfolding answeredBy unmountMem

@@ -11,22 +11,22 @@ use Rattle.rules.specs.Instance.{Instance}
 use Rattle.rules.specs.Outcome.{mounted, toBackend, Outcome, count, refused, says}
 use Rattle.rules.specs.Mount.{Request, mountRule, restoreMountRule}
 use Rattle.rules.specs.Unmount.{unmountRule}
-use Rattle.rules.specs.Restore.{restoreRule}
-use Rattle.rules.specs.Calls.{Call, mount, restore-mount, umount, route, restore, rule}
-use Rattle.rules.specs.Driven.{call as by-call}
-use Rattle.rules.specs.Laps.{total, lastFound, LapsBy, Laps}
-use Rattle.rules.specs.Trace.{Unrestored, afterAll, stepsOf}
-use Rattle.rules.specs.Kept.{Ungiven, Standing, LeadsTo, MountedAt}
+use Rattle.rules.specs.StateRestore.{restoreStateRule}
+use Rattle.rules.specs.Calls.{Call, mount, restore-mount, umount, ask, route, restore-from-bytes, rule}
+use Rattle.rules.specs.claims.Driven.{call as by-call}
+use Rattle.rules.specs.claims.Laps.{total, lastFound, LapsBy, Laps}
+use Rattle.rules.specs.claims.Trace.{WithoutStateRestore, afterAll, stepsOf}
+use Rattle.rules.specs.claims.Kept.{Ungiven, Standing, LeadsTo, MountedAt}
 use Rattle.rules.proofs.Turn.{mounts-allocate}
 use Rattle.rules.proofs.Trace.{laps}
 use Rattle.rules.proofs.Kept.{least-index, every-new, every-standing, every-gone, every-kept}
 use Rattle.tables.specs.View.{view}
-use Rattle.tables.specs.Rule.{laid}
-use Rattle.tables.specs.Call.{Told, toldBy, tells, answeredBy, Does}
+use Rattle.tables.specs.Laid.{laid}
+use Rattle.call_form.specs.Form.{Told, toldBy, tells, answeredBy, Does}
 use Rattle.tables.proofs.Indexes.{slots-count}
 use Rattle.storage.proofs.Laid.{told-by}
 use Rattle.vfs.specs.Runs.{Step, Allowed, Run, callsOf, counts, EveryLapOfBytes, EveryMountOfBytes, lastOf, EveryKeptOfBytes, EveryStandingOfBytes, EveryGoneOfBytes, StaysDriven, EveryAllowed}
-use Rattle.vfs.proofs.MountWays.{counter-in}
+use Rattle.mount_parts.proofs.MountWays.{counter-in}
 
 -- the counts that are told are those of the rules
 same-total : (ss : List Step) (mem : List ℕ) → laid mem ≡ true → Run mem ss → counts ss ≡ total (stepsOf (view mem) (callsOf ss))
@@ -46,7 +46,7 @@ pub laps-of-bytes : EveryLapOfBytes
 laps-of-bytes s a l bytes k f ss r u last =
     let e : view (s .after) ≡ rule (view (s .before)) (s .call) .after = a .stands l in
     let z : Laps (stepsOf (rule (view (s .before)) (s .call) .after) (callsOf ss)) =
-    laps (view (s .before)) (counter-in (s .before) bytes) (s .call) k f (callsOf ss) (subst (λ i. Unrestored i (callsOf ss)) e u) (subst (λ i. lastFound none (stepsOf i (callsOf ss)) ≡ some k) e last) in
+    laps (view (s .before)) (counter-in (s .before) bytes) (s .call) k f (callsOf ss) (subst (λ i. WithoutStateRestore i (callsOf ss)) e u) (subst (λ i. lastFound none (stepsOf i (callsOf ss)) ≡ some k) e last) in
     let y : Laps (stepsOf (view (s .after)) (callsOf ss)) = subst (λ i. Laps (stepsOf i (callsOf ss))) (sym e) z in
     subst (λ n. LapsBy n (stepsOf (view (s .after)) (callsOf ss))) (sym (same-total ss (s .after) (a .keeps l) r)) y
 
@@ -104,7 +104,7 @@ module _ (s : Step) (a : Allowed s) (l : laid (s .before) ≡ true) (k : Call) (
   same-counts : counts ss ≡ total (stepsOf first (callsOf ss))
   same-counts = same-total ss (s .after) (a .keeps l) run ∙ ap (λ (j : Instance). total (stepsOf j (callsOf ss))) stands-first
 
-  told-last : (q : Step) → Allowed q → q .before ≡ lastOf (s .after) ss → (x : ℕ) → q .call ≡ route x → q .told ≡ toldBy (rule last (route x))
+  told-last : (q : Step) → Allowed q → q .before ≡ lastOf (s .after) ss → (x : ℕ) → q .call ≡ ask (route x) → q .told ≡ toldBy (rule last (ask (route x)))
   told-last q b at x c =
       let w = run-leaves ss (s .after) (a .keeps l) run in
       let end : view (q .before) ≡ last = ap view at ∙ (w .1 ∙ ap (λ (j : Instance). afterAll j (callsOf ss)) stands-first) in
@@ -121,9 +121,9 @@ kept-of-bytes s a l bytes r e z k t m ss run u n few q b at x c ix =
     let j = last s a l (mount r) e ss run in
     let leads : LeadsTo j x (r .tag) =
     every-kept (view (s .before)) r k (mounted-at s a l bytes r e z k t m) (callsOf ss)
-    (subst (λ (y : Instance). Unrestored y (callsOf ss)) (stands-first s a l (mount r) e ss run) u) n (subst (λ (y : ℕ). y < 256) (same-counts s a l (mount r) e ss run) few) x ix in
-    ⊎-elim (λ (y : rule j (route x) ≡ refused NOENT j). inl (told ∙ ap toldBy y))
-    (λ (y : rule j (route x) ≡ says (toBackend (r .tag) (indexOf x) (numberOf x)) j). inr (told ∙ (ap toldBy y ∙ at-index (r .tag) k x ix)))
+    (subst (λ (y : Instance). WithoutStateRestore y (callsOf ss)) (stands-first s a l (mount r) e ss run) u) n (subst (λ (y : ℕ). y < 256) (same-counts s a l (mount r) e ss run) few) x ix in
+    ⊎-elim (λ (y : rule j (ask (route x)) ≡ refused NOENT j). inl (told ∙ ap toldBy y))
+    (λ (y : rule j (ask (route x)) ≡ says (toBackend (r .tag) (indexOf x) (numberOf x)) j). inr (told ∙ (ap toldBy y ∙ at-index (r .tag) k x ix)))
     leads
 
 -- the theorem: as long as the mount stands
@@ -132,7 +132,7 @@ standing-of-bytes s a l bytes r e z k t m ss run stand q b at x c ix =
     let i = view (s .before) in
     let d = mounted-at s a l bytes r e z k t m in
     let f = first s a l (mount r) e ss run in
-    let new : rule f (route x) ≡ says (toBackend (r .tag) (indexOf x) (numberOf x)) f = every-new i r k d x ix in
+    let new : rule f (ask (route x)) ≡ says (toBackend (r .tag) (indexOf x) (numberOf x)) f = every-new i r k d x ix in
     let on : Standing (indexOf x) f (callsOf ss) = subst (λ (j : ℕ). Standing j f (callsOf ss)) (sym ix) (subst (λ (y : Instance). Standing k y (callsOf ss)) (stands-first s a l (mount r) e ss run) stand) in
     told-last s a l (mount r) e ss run q b at x c
     ∙ (ap toldBy (every-standing f x (r .tag) (rw ix (least-index i r k d)) (λ j. new j .answer) (callsOf ss) on) ∙ at-index (r .tag) k x ix)
@@ -168,9 +168,9 @@ module _ (mem : List ℕ) (t : Told) (after exact : List ℕ) where
   unfolding rule
   umount-allowed path d = allowed (umount path) d
 
-  pub restore-allowed : (b : List ℕ) → Does mem (λ (i : Instance). restoreRule i b) t after exact → Allowed (record { before = mem; call = restore b; told = t; after = after })
+  pub restore-allowed : (b : List ℕ) → Does mem (λ (i : Instance). restoreStateRule i b) t after exact → Allowed (record { before = mem; call = restore-from-bytes b; told = t; after = after })
   unfolding rule
-  restore-allowed b d = allowed (restore b) d
+  restore-allowed b d = allowed (restore-from-bytes b) d
 
 -- a call that only reads: its rule leaves the instance
 pub read-allowed : (mem : List ℕ) (t : Told) (c : Call) → ((i : Instance) → rule i c .after ≡ i) → t ≡ answeredBy mem (λ (i : Instance). rule i c) → Allowed (record { before = mem; call = c; told = t; after = mem })

@@ -8,9 +8,9 @@ use Rattle.rules.specs.Mount.{Request, mountRule, restoreMountRule}
 use Rattle.rules.specs.Unmount.{unmountRule}
 use Rattle.tables.specs.View.{view}
 use Rattle.tables.specs.Write.{setCounter}
-use Rattle.tables.specs.Call.{Told, answeredBy}
-use Rattle.vfs.specs.Mounting.{walkMem, mountMem}
-use Rattle.vfs.specs.Restoring.{restoreMountMem}
+use Rattle.call_form.specs.Form.{Told, answeredBy}
+use Rattle.mount_parts.specs.Mounting.{walkMem, mountMem}
+use Rattle.mount_parts.specs.RestoredMounting.{restoreMountMem}
 use Rattle.vfs.specs.Unmounting.{unmountMem}
 
 -- the counter has moved by a count (R83)
@@ -24,7 +24,7 @@ pub record MountLeaves (r : Request) (mem : List ℕ) (t : Told) (after : List �
   pub row7 : t .code ≡ INODE → 0 < t .count → after ≡ walkMem (r .path) (movedMem (t .count) mem)
 
 -- a restored mount: every byte, but by row 7 the nodes made; INODE is row 3 where the largest number is too large, else row 7 (R91, R92)
-pub record RestoredLeaves (r : Request) (mem : List ℕ) (t : Told) (after : List ℕ) : Type 0 where
+pub record RestoredMountLeaves (r : Request) (mem : List ℕ) (t : Told) (after : List ℕ) : Type 0 where
   pub most : (t .code ≡ 0 → ⊥) → (t .code ≡ INODE → ⊥) → after ≡ mem
   pub row3 : t .code ≡ INODE → maxIno < r .largest → after ≡ mem
   pub row7 : t .code ≡ INODE → r .largest ≤ maxIno → after ≡ walkMem (r .path) mem
@@ -32,5 +32,5 @@ pub record RestoredLeaves (r : Request) (mem : List ℕ) (t : Told) (after : Lis
 -- of every request on any bytes, an unmount too: refused, it leaves every byte (R15, R96)
 pub record EveryRefusedCall : Type 0 where
   pub mounts : (r : Request) (mem : List ℕ) → MountLeaves r mem (answeredBy mem (λ i. mountRule i r)) (mountMem r mem)
-  pub restores : (k : ℕ) (r : Request) (mem : List ℕ) → RestoredLeaves r mem (answeredBy mem (λ i. restoreMountRule i k r)) (restoreMountMem k r mem)
+  pub restores : (k : ℕ) (r : Request) (mem : List ℕ) → RestoredMountLeaves r mem (answeredBy mem (λ i. restoreMountRule i k r)) (restoreMountMem k r mem)
   pub unmounts : (path mem : List ℕ) → (answeredBy mem (λ i. unmountRule i path) .code ≡ 0 → ⊥) → unmountMem path mem ≡ mem

@@ -11,15 +11,15 @@ use Rattle.rules.specs.Outcome.{mounted, toBackend}
 use Rattle.rules.specs.Instance.{Instance}
 use Rattle.rules.specs.Mount.{Request, mountRule, restoreMountRule}
 use Rattle.rules.specs.Unmount.{unmountRule}
-use Rattle.rules.specs.Restore.{restoreRule}
-use Rattle.rules.specs.Calls.{Call, mount, restore-mount, umount, route, restore, rule}
-use Rattle.rules.specs.Driven.{Typed, Driven}
-use Rattle.rules.specs.Laps.{lastFound, Has, LapsBy}
-use Rattle.rules.specs.Trace.{Unrestored, stepsOf}
-use Rattle.rules.specs.Kept.{namedIn, Ungiven, oldMount, indexIn, Standing}
+use Rattle.rules.specs.StateRestore.{restoreStateRule}
+use Rattle.rules.specs.Calls.{Call, mount, restore-mount, umount, ask, route, restore-from-bytes, rule}
+use Rattle.rules.specs.claims.Driven.{Typed, Driven}
+use Rattle.rules.specs.claims.Laps.{lastFound, Has, LapsBy}
+use Rattle.rules.specs.claims.Trace.{WithoutStateRestore, stepsOf}
+use Rattle.rules.specs.claims.Kept.{namedIn, Ungiven, oldMount, indexIn, Standing}
 use Rattle.tables.specs.View.{view}
-use Rattle.tables.specs.Rule.{laid}
-use Rattle.tables.specs.Call.{Told, tells, refuses, answeredBy, Does}
+use Rattle.tables.specs.Laid.{laid}
+use Rattle.call_form.specs.Form.{Told, tells, refuses, answeredBy, Does}
 
 -- a call on lent bytes: the bytes before, the call, what its answer tells, and the bytes after
 pub record Step : Type 0 where
@@ -52,7 +52,7 @@ counts (s ∷ ss) = s .told .count + counts ss
 -- from any bytes that keep the layout rule: a step handed k out, and the last of the steps after it hands k out again (R87, R88)
 abbrev pub EveryLapOfBytes : Type 0
 EveryLapOfBytes = (s : Step) → Allowed s → laid (s .before) ≡ true → Bytes (s .before) → (k : ℕ) → rule (view (s .before)) (s .call) .found ≡ some k
-    → (ss : List Step) → Run (s .after) ss → Unrestored (view (s .after)) (callsOf ss) → lastFound none (stepsOf (view (s .after)) (callsOf ss)) ≡ some k
+    → (ss : List Step) → Run (s .after) ss → WithoutStateRestore (view (s .after)) (callsOf ss) → lastFound none (stepsOf (view (s .after)) (callsOf ss)) ≡ some k
     → LapsBy (counts ss) (stepsOf (view (s .after)) (callsOf ss))
 
 -- the index that a done mount tells is the one handed out (R75, R85)
@@ -70,8 +70,8 @@ lastOf mem (s ∷ ss) = lastOf (s .after) ss
 abbrev pub EveryKeptOfBytes : Type 0
 EveryKeptOfBytes = (s : Step) → Allowed s → laid (s .before) ≡ true → Bytes (s .before) → (r : Request) → s .call ≡ mount r → s .told .code ≡ 0
     → (k : ℕ) (t : Option ℕ) → s .told .answer ≡ mounted k t
-    → (ss : List Step) → Run (s .after) ss → Unrestored (view (s .after)) (callsOf ss) → (Has k (namedIn (callsOf ss)) → ⊥) → counts ss < 256
-    → (q : Step) → Allowed q → q .before ≡ lastOf (s .after) ss → (x : ℕ) → q .call ≡ route x → indexOf x ≡ k
+    → (ss : List Step) → Run (s .after) ss → WithoutStateRestore (view (s .after)) (callsOf ss) → (Has k (namedIn (callsOf ss)) → ⊥) → counts ss < 256
+    → (q : Step) → Allowed q → q .before ≡ lastOf (s .after) ss → (x : ℕ) → q .call ≡ ask (route x) → indexOf x ≡ k
     → (q .told ≡ refuses NOENT) ⊎ (q .told ≡ tells (toBackend (r .tag) k (numberOf x)))
 
 -- such a mount, and steps of which none ends it, however many: a number of its index is routed to its tag (R76, R93, R98, R106)
@@ -79,7 +79,7 @@ abbrev pub EveryStandingOfBytes : Type 0
 EveryStandingOfBytes = (s : Step) → Allowed s → laid (s .before) ≡ true → Bytes (s .before) → (r : Request) → s .call ≡ mount r → s .told .code ≡ 0
     → (k : ℕ) (t : Option ℕ) → s .told .answer ≡ mounted k t
     → (ss : List Step) → Run (s .after) ss → Standing k (view (s .after)) (callsOf ss)
-    → (q : Step) → Allowed q → q .before ≡ lastOf (s .after) ss → (x : ℕ) → q .call ≡ route x → indexOf x ≡ k
+    → (q : Step) → Allowed q → q .before ≡ lastOf (s .after) ss → (x : ℕ) → q .call ≡ ask (route x) → indexOf x ≡ k
     → q .told ≡ tells (toBackend (r .tag) k (numberOf x))
 
 -- a step tells that it is done, and takes a mount of the index k off; no step, that one included, gives k away; then a number of that index is refused NOENT
@@ -87,7 +87,7 @@ EveryStandingOfBytes = (s : Step) → Allowed s → laid (s .before) ≡ true �
 abbrev pub EveryGoneOfBytes : Type 0
 EveryGoneOfBytes = (s : Step) → Allowed s → laid (s .before) ≡ true → s .told .code ≡ 0 → (k : ℕ) → 0 < k → indexIn (oldMount (view (s .before)) (s .call)) ≡ some k
     → (ss : List Step) → Run (s .after) ss → Ungiven k (view (s .before)) (s .call ∷ callsOf ss)
-    → (q : Step) → Allowed q → q .before ≡ lastOf (s .after) ss → (x : ℕ) → q .call ≡ route x → indexOf x ≡ k
+    → (q : Step) → Allowed q → q .before ≡ lastOf (s .after) ss → (x : ℕ) → q .call ≡ ask (route x) → indexOf x ≡ k
     → q .told ≡ refuses NOENT
 
 -- a step that a contract allows, from bytes that keep the layout rule and are driven, leaves driven bytes
@@ -106,5 +106,5 @@ pub record EveryAllowed : Type 0 where
   pub mounts : (mem : List ℕ) (t : Told) (after exact : List ℕ) (r : Request) → Does mem (λ (i : Instance). mountRule i r) t after exact → Allowed (stepOn mem (mount r) t after)
   pub restores-mount : (mem : List ℕ) (t : Told) (after exact : List ℕ) (k : ℕ) (r : Request) → Does mem (λ (i : Instance). restoreMountRule i k r) t after exact → Allowed (stepOn mem (restore-mount k r) t after)
   pub unmounts : (mem : List ℕ) (t : Told) (after exact path : List ℕ) → Does mem (λ (i : Instance). unmountRule i path) t after exact → Allowed (stepOn mem (umount path) t after)
-  pub restores : (mem : List ℕ) (t : Told) (after exact b : List ℕ) → Does mem (λ (i : Instance). restoreRule i b) t after exact → Allowed (stepOn mem (restore b) t after)
+  pub restores : (mem : List ℕ) (t : Told) (after exact b : List ℕ) → Does mem (λ (i : Instance). restoreStateRule i b) t after exact → Allowed (stepOn mem (restore-from-bytes b) t after)
   pub reads : (mem : List ℕ) (t : Told) (c : Call) → ((i : Instance) → rule i c .after ≡ i) → t ≡ answeredBy mem (λ (i : Instance). rule i c) → Allowed (stepOn mem c t mem)

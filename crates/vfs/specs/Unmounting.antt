@@ -5,15 +5,16 @@ use mathlib.Core.List.{List}
 use mathlib.Core.Option.{Option, none, some}
 use Rattle.rules.specs.Numbers.{NOTFOUND, INVAL}
 use Rattle.rules.specs.Tree.{Mount}
-use Rattle.rules.specs.Instance.{mountOf}
+use Rattle.rules.specs.Instance.{mountOfNode}
 use Rattle.rules.specs.Outcome.{unmounted}
-use Rattle.rules.specs.Unmount.{badPath, reached, mountUnder, unmountAt}
+use Rattle.rules.specs.Reached.{badPath, reached, reachedMount}
+use Rattle.rules.specs.Unmount.{unmountAt}
 use Rattle.tables.specs.View.{view}
-use Rattle.tables.specs.Rule.{laid}
+use Rattle.tables.specs.Laid.{laid}
 use Rattle.tables.specs.Answer.{tagIn}
-use Rattle.tables.specs.Call.{Told, tells, refuses, toldSmall}
+use Rattle.call_form.specs.Form.{Told, tells, refuses, toldSmall}
 use Rattle.placing.specs.Place.{takeOffMem}
-use Rattle.vfs.specs.Follows.{Follows}
+use Rattle.mount_parts.specs.Follows.{Follows}
 use Rattle.vfs.specs.declared.unmounting.Unmounted.{Unmounted}
 use Rattle.vfs.specs.declared.unmounting.Unmounted.the-variants.{Done, NotFound, Inval, Small}
 
@@ -33,9 +34,9 @@ offMem (some x) (some m) mem = takeOffMem m x mem
 -- the bytes after an unmount: a refusal leaves every one
 unfoldable pub unmountMem : List ℕ → List ℕ → List ℕ
 unmountMem path mem =
-    cond (laid mem) (cond (badPath path) mem (offMem (reached (view mem) path) (mountUnder (view mem) (reached (view mem) path)) mem)) mem
+    cond (laid mem) (cond (badPath path) mem (offMem (reached (view mem) path) (reachedMount (view mem) (reached (view mem) path)) mem)) mem
 
 -- the unmount of the node x, as it is told, and the bytes after (R96 to R100)
 abbrev pub Unmounts : List ℕ → ℕ → Unmounted → List ℕ → Type 0
 Unmounts mem x r after =
-    Follows (unmountAt (view mem) (some x) (mountOf (view mem .tree) x)) (offMem (some x) (mountOf (view mem .tree) x) mem) (unmountedTold r) after
+    Follows (unmountAt (view mem) (some x) (mountOfNode (view mem .tree) x)) (offMem (some x) (mountOfNode (view mem .tree) x) mem) (unmountedTold r) after

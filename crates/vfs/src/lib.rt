@@ -1,6 +1,4 @@
 // The mount tables: mount, restored mount and unmount, on an instance in lent bytes.
-pub mod backend;
-mod inner;
 pub mod mounting;
-pub mod restoring;
+pub mod restored_mounting;
 pub mod unmounting;

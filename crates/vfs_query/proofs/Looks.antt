@@ -8,12 +8,12 @@ use native.Mathlib.Omega.{arith}
 use borrow.Author.Tests.{le-ltb}
 use Rattle.rules.specs.Numbers.{maxIno, orZero, convert}
 use Rattle.rules.specs.Tree.{Mount}
-use Rattle.rules.specs.Instance.{Instance, mountOf}
+use Rattle.rules.specs.Instance.{Instance, mountOfNode}
 use Rattle.rules.specs.Outcome.{Answer, Outcome, says}
 use Rattle.rules.specs.Lookup.{entryOf, lookupRule, outward}
 use Rattle.tables.specs.View.{nodesOf, view}
-use Rattle.tables.specs.Rule.{laid}
-use Rattle.tables.specs.Call.{toldBy, tells, answeredBy}
+use Rattle.tables.specs.Laid.{laid}
+use Rattle.call_form.specs.Form.{toldBy, tells, answeredBy}
 use Rattle.tables.specs.Answer.{mountOfPoint}
 use Rattle.tables.specs.declared.mounts.MountPoint.{MountPoint}
 use Rattle.inode.specs.declared.VfsInode.{VfsInode}
@@ -32,7 +32,7 @@ use Rattle.vfs_query.proofs.Mounted.{mount-low}
 -- ---- the root entry
 
 -- as the code makes it
-pub root-made : (i : Instance) (m : MountPoint) (v : VfsInode) (u₁ g₁ u₂ g₂ : ℕ) → v .0 ≡ orZero (convert (m .«fs_idx») (m .ino))
+pub root-made : (i : Instance) (m : MountPoint) (v : VfsInode) (u₁ g₁ u₂ g₂ : ℕ) → v .0 ≡ orZero (convert (m .«fs_idx») (m .root))
     → u₁ ≡ outward i (m .uid) → g₁ ≡ outward i (m .gid) → u₂ ≡ outward i u₁ → g₂ ≡ outward i g₁
     → entryAnswer (record { inode = v; mode = m .mode; uid = u₂; gid = g₂; blksize = 0 }) ≡ rootAnswer i (mountOfPoint m)
 unfolding entryAnswer rootAnswer
@@ -49,9 +49,9 @@ module _ (mem : List ℕ) (x : ℕ) (p : List ℕ) (e : laid mem ≡ true) (r : 
   abbrev crossing : Instance → Outcome
   crossing i = lookupRule i x p
 
-  by-find : answeredBy mem crossing ≡ toldBy (outcomeOf (mountOf (view mem .tree)) (view mem) r)
+  by-find : answeredBy mem crossing ≡ toldBy (outcomeOf (mountOfNode (view mem .tree)) (view mem) r)
   unfolding lookupRule view
-  by-find = told-by mem crossing e ∙ ap (λ (o : Outcome). toldBy o) (sym (f (mountOf (view mem .tree)) (view mem) refl))
+  by-find = told-by mem crossing e ∙ ap (λ (o : Outcome). toldBy o) (sym (f (mountOfNode (view mem .tree)) (view mem) refl))
 
   pub cross-noent : r ≡ NoEnt → lookedTold LookedNoEnt ≡ answeredBy mem crossing
   unfolding lookedTold outcomeOf
@@ -62,12 +62,12 @@ module _ (mem : List ℕ) (x : ℕ) (p : List ℕ) (e : laid mem ≡ true) (r : 
   cross-inval q = sym (by-find ∙ rw q)
 
   module _ (y : ℕ) (q : r ≡ FindingNode y) (n : Entry) where
-    pub cross-mounted : (m : Mount) → some m ≡ mountOf (view mem .tree) y → entryAnswer n ≡ rootAnswer (view mem) m → lookedTold (LookedEntry n) ≡ answeredBy mem crossing
+    pub cross-mounted : (m : Mount) → some m ≡ mountOfNode (view mem .tree) y → entryAnswer n ≡ rootAnswer (view mem) m → lookedTold (LookedEntry n) ≡ answeredBy mem crossing
     unfolding lookedTold outcomeOf
     cross-mounted m g a =
         ap (λ (v : Answer). tells v) a ∙ (ap (λ (o : Outcome). toldBy o) (root-is (view mem) y m (mount-low mem y m g)) ∙ sym (by-find ∙ rw (q, sym g)))
 
-    pub cross-bare : none ≡ mountOf (view mem .tree) y → entryAnswer n ≡ pseudoAnswer (view mem) y → lookedTold (LookedEntry n) ≡ answeredBy mem crossing
+    pub cross-bare : none ≡ mountOfNode (view mem .tree) y → entryAnswer n ≡ pseudoAnswer (view mem) y → lookedTold (LookedEntry n) ≡ answeredBy mem crossing
     unfolding lookedTold outcomeOf
     cross-bare g a =
         let h : y < 2 ^ 56 = found-low mem x p y (rw q at f) in

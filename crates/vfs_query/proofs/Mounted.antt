@@ -9,10 +9,10 @@ use lib.Dec.{eqb}
 use borrow.Author.Tests.{eqb-true, eqb-false}
 use Rattle.rules.specs.Numbers.{rootNumber}
 use Rattle.rules.specs.Tree.{Mount}
-use Rattle.rules.specs.Instance.{mountOf}
+use Rattle.rules.specs.Instance.{mountOfNode}
 use Rattle.tables.specs.Table.{row}
 use Rattle.tables.specs.Layout.{nodeTable, capacityOf, gidColumn, modeColumn, mountColumn, rootCellField, rootGidField, rootModeField, rootUidField, uidColumn}
-use Rattle.tables.specs.View.{field, mountFrom, nodeFrom, headOf, nodeAt, nodesOf, view}
+use Rattle.tables.specs.View.{field, mountFromCells, nodeFrom, headOf, nodeAt, nodesOf, view}
 use Rattle.tables.specs.Answer.{placeIn}
 use Rattle.tables.proofs.Spells.{from-word}
 use Rattle.tables.proofs.ByPlace.{mount-root, mount-found, mount-missing}
@@ -21,7 +21,7 @@ abbrev LowRoot : Option Mount → Type 0
 LowRoot none = Unit {0}
 LowRoot (some m) = m .root < 2 ^ 56
 
-from-low : (word uid gid mode : ℕ) → LowRoot (mountFrom word uid gid mode)
+from-low : (word uid gid mode : ℕ) → LowRoot (mountFromCells word uid gid mode)
 from-low word uid gid mode = from-word LowRoot word uid gid mode tt (omega arith)
 
 module _ (mem : List ℕ) where
@@ -37,13 +37,13 @@ module _ (mem : List ℕ) where
       let r = row (nodeTable (capacityOf mem)) mem i in
       from-low (field mountColumn r) (field uidColumn r) (field gidColumn r) (field modeColumn r)
 
-  node-low : (x : ℕ) → LowRoot (mountOf (view mem .tree) x)
+  node-low : (x : ℕ) → LowRoot (mountOfNode (view mem .tree) x)
   node-low x = go (eqb x rootNumber) refl (placeIn (nodesOf mem) x) refl
     where
-      go : (b : Bool) → eqb x rootNumber ≡ b → (o : Option ℕ) → placeIn (nodesOf mem) x ≡ o → LowRoot (mountOf (view mem .tree) x)
+      go : (b : Bool) → eqb x rootNumber ≡ b → (o : Option ℕ) → placeIn (nodesOf mem) x ≡ o → LowRoot (mountOfNode (view mem .tree) x)
       go true t o q = subst LowRoot (sym (mount-root mem x (eqb-true x rootNumber t))) root-low
       go false t none q = subst LowRoot (sym (mount-missing mem x (eqb-false x rootNumber t) q)) tt
       go false t (some i) q = subst LowRoot (sym (mount-found mem x (eqb-false x rootNumber t) i q)) (row-low i)
 
-  pub mount-low : (x : ℕ) (m : Mount) → some m ≡ mountOf (view mem .tree) x → m .root < 2 ^ 56
+  pub mount-low : (x : ℕ) (m : Mount) → some m ≡ mountOfNode (view mem .tree) x → m .root < 2 ^ 56
   mount-low x m e = subst LowRoot (sym e) (node-low x)

@@ -9,18 +9,19 @@ use borrow.Author.Tests.{eq-eqb, ne-eqb, not-true, not-false}
 use Rattle.rules.specs.Numbers.{rootNumber, indexOf, numberOf, INVAL}
 use Rattle.rules.specs.Ids.{Mapping, badMapping, wrapped, unwrapped, mapped, unmapped}
 use Rattle.rules.specs.Tree.{Mount}
-use Rattle.rules.specs.Instance.{Instance, tagInSlot, tagOf, mountOf}
+use Rattle.rules.specs.Instance.{Instance, tagInSlot, tagOf, mountOfNode}
 use Rattle.rules.specs.Outcome.{toTree, rootfs, refused, says, firstOf}
 use Rattle.rules.specs.Lookup.{routeTag, routeTree, routeRule, remapped}
-use Rattle.rules.specs.Unmount.{badPath, reached, mountUnder, rootHeld, rootAt, rootRule}
+use Rattle.rules.specs.Reached.{badPath, reached, reachedMount}
+use Rattle.rules.specs.Rootfs.{rootHeld, rootAt, rootRule}
 use Rattle.rules.proofs.Ids.{wrapped-is-whole}
 use Rattle.tables.specs.Layout.{mappingField}
 use Rattle.tables.specs.View.{mappingFrom, headOf, slotAt, view}
-use Rattle.tables.specs.Rule.{laid}
+use Rattle.tables.specs.Laid.{laid}
 use Rattle.tables.specs.Answer.{tagIn}
 use Rattle.tables.specs.declared.slots.Tag.{Tag}
 use Rattle.tables.specs.declared.slots.Tag.the-variants.{Held, Empty}
-use Rattle.placing.proofs.Stands.{tag-of-is}
+use Rattle.tables.proofs.Indexes.{tag-of-is}
 use Rattle.pseudo_fs.proofs.Calls.{good-mapping}
 
 -- ---- the tag of an index
@@ -69,7 +70,7 @@ module _ (i : Instance) (p : List ℕ) where
   root-bad b = rw b
 
   module _ (g : badPath p ≡ false) where
-    root-reached : (o : Option ℕ) → reached i p ≡ o → rootRule i p ≡ rootAt i (mountUnder i o)
+    root-reached : (o : Option ℕ) → reached i p ≡ o → rootRule i p ≡ rootAt i (reachedMount i o)
     unfolding rootRule firstOf
     root-reached o e = rw (g, e)
 
@@ -77,11 +78,11 @@ module _ (i : Instance) (p : List ℕ) where
     unfolding rootAt
     root-nowhere e = root-reached none e
 
-    pub root-bare : (x : ℕ) → reached i p ≡ some x → none ≡ mountOf (i .tree) x → rootRule i p ≡ says (rootfs none) i
+    pub root-bare : (x : ℕ) → reached i p ≡ some x → none ≡ mountOfNode (i .tree) x → rootRule i p ≡ says (rootfs none) i
     unfolding rootAt
     root-bare x e m = root-reached (some x) e ∙ rw (sym m)
 
-    pub root-mounted : (x : ℕ) → reached i p ≡ some x → (m : Mount) → some m ≡ mountOf (i .tree) x
+    pub root-mounted : (x : ℕ) → reached i p ≡ some x → (m : Mount) → some m ≡ mountOfNode (i .tree) x
         → rootRule i p ≡ rootHeld i (m .index) (tagOf i (m .index))
     unfolding rootAt
     root-mounted x e m f = root-reached (some x) e ∙ rw (sym f)

@@ -5,7 +5,7 @@ use Rattle.rules.specs.Tree.{Mount}
 use Rattle.rules.specs.Instance.{Instance}
 use Rattle.rules.specs.Lookup.{twice}
 use Rattle.rules.specs.Outcome.{Answer, rootfs, toTree, toBackend, entry, ids}
-use Rattle.tables.specs.Call.{Told, tells, refuses, toldSmall}
+use Rattle.call_form.specs.Form.{Told, tells, refuses, toldSmall}
 use Rattle.pseudo_fs.specs.Told.{entryAnswer}
 use Rattle.vfs_query.specs.declared.Looked.{Looked}
 use Rattle.vfs_query.specs.declared.Looked.the-variants.{Entry as LookedEntry, NoEnt as LookedNoEnt, Inval as LookedInval, Small as LookedSmall}

@@ -18,10 +18,10 @@ ghost use mathlib.Core.Path.{_≡_};
 ghost use mathlib.Core.Bool.{true};
 ghost use Rattle.rules.specs.Instance.{Instance, tagOf};
 ghost use Rattle.rules.specs.Lookup.{routeTag, routeRule, lookupRule, remapped, remapRule};
-ghost use Rattle.rules.specs.Unmount.{rootHeld, rootRule};
+ghost use Rattle.rules.specs.Rootfs.{rootHeld, rootRule};
 ghost use Rattle.tables.specs.View.{view};
-ghost use Rattle.tables.specs.Rule.{laid};
-ghost use Rattle.tables.specs.Call.{toldBy, answeredBy};
+ghost use Rattle.tables.specs.Laid.{laid};
+ghost use Rattle.call_form.specs.Form.{toldBy, answeredBy};
 ghost use Rattle.tables.specs.Answer.{mountOfPoint};
 ghost use Rattle.pseudo_fs.specs.Told.{entryAnswer};
 ghost use Rattle.vfs_query.specs.Told.{routedTold, rootfsTold, remappedTold, lookedTold, rootAnswer};
@@ -91,7 +91,7 @@ pub fn route(s: &[u8], x: VfsInode) -> Routed
         return Routed::Tree(NodeNumber(ino));
     }
     match of_root(s) {
-        MountOn::Point(m) => route_tag(s, m.fs_idx, m.ino),
+        MountOn::Point(m) => route_tag(s, m.fs_idx, m.root),
         MountOn::Nothing => Routed::Tree(NodeNumber(ino)),
     }
 }
@@ -152,7 +152,7 @@ fn root_entry(s: &[u8], m: MountPoint) -> Entry
     requires { ⌜ laid (now s) ≡ true ⌝ }
     ensures { λ r. ⌜ entryAnswer r ≡ rootAnswer (view (now (s .entry))) (mountOfPoint m) ⌝ }
 {
-    let full = inode::or_zero(inode::convert_inode(m.fs_idx, BackendNumber(m.ino)));
+    let full = inode::or_zero(inode::convert_inode(m.fs_idx, BackendNumber(m.root)));
     let uid = remap(s, m.uid, true);
     let gid = remap(s, m.gid, true);
     Entry {

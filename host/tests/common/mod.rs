@@ -9,7 +9,7 @@ pub fn fresh(nodes: usize) -> Vfs {
 
 /// A backend by its tag, as a session mounts it.
 pub fn backend(tag: u32) -> Backend {
-    Backend { max: 1000, ..Backend::new(Tag(tag)) }
+    Backend { largest: 1000, ..Backend::new(Tag(tag)) }
 }
 
 /// An instance of 1,024 nodes in which every index is held, by mounts on `/0` to `/254`. The counter is at 0.

@@ -216,7 +216,7 @@ impl<'a> Table<'a> {
             let start = spent();
             for _ in 0..calls {
                 let p = opaque(bytes.as_ptr());
-                let m = unsafe { galdovar_mount(at, len, p, bytes.len(), b.tag, b.root, b.max, b.uid, b.gid, b.mode) };
+                let m = unsafe { galdovar_mount(at, len, p, bytes.len(), b.tag, b.root, b.largest, b.uid, b.gid, b.mode) };
                 let u = unsafe { galdovar_umount(at, len, p, bytes.len()) };
                 assert_eq!(m.code | u.code, 0);
             }

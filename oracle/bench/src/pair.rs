@@ -13,7 +13,7 @@ use crate::side::{Answer, Backend, Call, Creation, Side};
 
 /// What is mounted: a tag with a root of number 1.
 pub fn backend(tag: u32) -> Backend {
-    Backend { tag, root: 1, max: 1000, uid: 0, gid: 0, mode: 0o40755 }
+    Backend { tag, root: 1, largest: 1000, uid: 0, gid: 0, mode: 0o40755 }
 }
 
 /// A backend of the Rust that does nothing but bring the numbers of its root.

@@ -207,7 +207,7 @@ impl Chance {
                 4 | 5 => self.random.below(1 << 56),
                 _ => 1,
             },
-            max: match self.random.below(20) {
+            largest: match self.random.below(20) {
                 0 => MAX_INO,
                 1 => MAX_INO + 1,
                 2 => u64::MAX,

@@ -2,12 +2,13 @@
 
 use crate::chance::Chance;
 use crate::directed::{self, node};
+use crate::expected;
 use crate::house::State;
 use crate::port_side::PortSide;
 use crate::random::Random;
 use crate::record::{changes, learn, make};
 use crate::rust_side::RustSide;
-use crate::side::{Answer, Call, Creation, Options, Side, Tables, BADSAVE};
+use crate::side::{Answer, Call, Creation, Options, Side, Tables};
 use crate::text::{call_text, line};
 
 pub struct Compare<P> {
@@ -197,8 +198,7 @@ impl<P: Side> Compare<P> {
         }
     }
 
-    /// Every change of one byte of some saved states, restored. Where one of R129 (g) to (k) holds and the port says
-    /// BADSAVE, the Rust may accept, or may refuse the options first: that is explained. In all else the two must agree.
+    /// Every change of one byte of some saved states, restored. Where no expected difference explains it, the two must agree.
     pub fn changed_states(&mut self) {
         let options = Options { in_opts: 5, out_opts: 9, mapping: (1, 2, 3), flags: 9 };
         let states = [
@@ -227,12 +227,11 @@ impl<P: Side> Compare<P> {
     }
 
     fn restore(&mut self, state: Vec<u8>) {
-        let faulty = State::from_house(&state).map_or(false, |s| s.is_faulty());
         let call = &Call::Restore(state);
         self.follow(call);
         let rust = self.rust.perform(call);
         let port = self.port.perform(call);
-        if faulty && port.code() == BADSAVE && rust.code() != BADSAVE {
+        if expected::explains(call, &rust, &port) {
             self.explained += 1;
         } else if rust != port {
             self.differs("answer", line(call, &rust), line(call, &port));

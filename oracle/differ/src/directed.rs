@@ -9,7 +9,7 @@ pub fn new(capacity: u64, mapping: (u32, u32, u32)) -> Call {
 }
 
 fn backend(tag: u32) -> Backend {
-    Backend { tag, root: 1, max: 1000, uid: 0, gid: 0, mode: DIR_MODE }
+    Backend { tag, root: 1, largest: 1000, uid: 0, gid: 0, mode: DIR_MODE }
 }
 
 pub fn mount(path: &[u8], tag: u32) -> Call {
@@ -88,13 +88,13 @@ fn indexes() -> Vec<Call> {
 
 /// Rows 2, 3, 6 and 7 of both mounts, and the numbers at their limits.
 fn rows() -> Vec<Call> {
-    let with = |root: u64, max: u64| Backend { root, max, ..backend(5) };
+    let with = |root: u64, largest: u64| Backend { root, largest, ..backend(5) };
     let mut calls = vec![new(64, (0, 0, 0))];
     for path in [&b"/a"[..], b"", b"a", b".", b"/", b"/b/../c", b"/\xff", b"\xc3"].iter() {
         for root in [0, 1, MAX_INO, MAX_INO + 1, u64::MAX].iter() {
-            for max in [0, MAX_INO, MAX_INO + 1].iter() {
-                calls.push(Call::Mount(path.to_vec(), with(*root, *max)));
-                calls.push(Call::RestoreMount(200, path.to_vec(), with(*root, *max)));
+            for largest in [0, MAX_INO, MAX_INO + 1].iter() {
+                calls.push(Call::Mount(path.to_vec(), with(*root, *largest)));
+                calls.push(Call::RestoreMount(200, path.to_vec(), with(*root, *largest)));
             }
         }
         calls.push(Call::Save);

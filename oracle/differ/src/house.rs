@@ -1,7 +1,7 @@
 //! Saved state in the layout of R119 to R123 of docs/RULES.md, and in the layout of the shims `versionize` and
 //! `dbs-snapshot`, which the Rust writes here.
 
-use crate::side::{Node, Options, MAX_INO};
+use crate::side::{Node, Options};
 
 /// The bytes of the trailer, and those of the options and the trailer together (R121, R123).
 const TRAILER: usize = 24;
@@ -93,29 +93,6 @@ impl State {
             return None;
         }
         Some(State { nodes, options, next, counter })
-    }
-
-    /// Whether one of R129 (g) to (k) holds, which the Rust does not ask: numbers, next number, parents, names, twins.
-    pub fn is_faulty(&self) -> bool {
-        let numbers = |k: usize| self.nodes[k].number;
-        let rising = (1..self.nodes.len()).all(|k| numbers(k - 1) < numbers(k));
-        let from_two = self.nodes.first().map_or(true, |n| n.number >= 2);
-        let above = self.nodes.iter().all(|n| n.number < self.next);
-        let next = above && self.next >= 2 && self.next <= MAX_INO + 1;
-        let parents = self
-            .nodes
-            .iter()
-            .enumerate()
-            .all(|(k, n)| n.parent == 1 || self.nodes[..k].iter().any(|earlier| earlier.number == n.parent));
-        let names = self.nodes.iter().all(|n| {
-            let name = &n.name[..];
-            !name.is_empty() && name.len() <= 255 && !name.contains(&b'/') && name != b"." && name != b".."
-        });
-        let twins =
-            self.nodes.iter().enumerate().any(|(k, n)| {
-                self.nodes[..k].iter().any(|earlier| earlier.parent == n.parent && earlier.name == n.name)
-            });
-        !rising || !from_two || !next || !parents || !names || twins
     }
 
     /// The bytes that the Rust takes, by way of the shims.

@@ -12,6 +12,7 @@ mod chance;
 #[cfg(port)]
 mod compare;
 mod directed;
+mod expected;
 mod house;
 #[cfg(port)]
 mod port_side;
@@ -22,7 +23,6 @@ mod side;
 #[cfg(port)]
 mod slips;
 mod text;
-mod witness;
 
 use std::fs::File;
 use std::io::BufWriter;
@@ -80,7 +80,7 @@ fn main() {
             let lines = record::record(seed, calls as usize, &mut out).expect("the file cannot be written");
             println!("seed {}: {} calls recorded in {}", seed, lines, file);
         }
-        (Some("differences"), None, None, None) => witness::show(),
+        (Some("differences"), None, None, None) => expected::show(),
         (Some(what @ ("compare" | "random" | "slips")), Some(seed), Some(calls), None) => {
             std::process::exit(if run(what, seed, calls) { 0 } else { 1 });
         }

@@ -178,7 +178,7 @@ impl Side for PortSide {
     fn mount(&mut self, path: &[u8], b: Backend) -> Answer {
         let (at, len) = self.lent();
         let a = unsafe {
-            exports::galdovar_mount(at, len, path.as_ptr(), path.len(), b.tag, b.root, b.max, b.uid, b.gid, b.mode)
+            exports::galdovar_mount(at, len, path.as_ptr(), path.len(), b.tag, b.root, b.largest, b.uid, b.gid, b.mode)
         };
         Answer::of(&[a.code as u64, a.fs_idx as u64, a.count as u64, a.has_replaced as u64, a.replaced as u64])
     }
@@ -194,7 +194,7 @@ impl Side for PortSide {
                 path.len(),
                 b.tag,
                 b.root,
-                b.max,
+                b.largest,
                 b.uid,
                 b.gid,
                 b.mode,

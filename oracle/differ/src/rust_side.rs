@@ -50,7 +50,7 @@ pub fn root_entry(b: &Backend) -> (Entry, u64) {
     entry.attr.st_uid = b.uid;
     entry.attr.st_gid = b.gid;
     entry.attr.st_mode = b.mode;
-    (entry, b.max)
+    (entry, b.largest)
 }
 
 impl BackendFileSystem for Tagged {
@@ -409,7 +409,7 @@ impl Side for RustSide {
     }
 
     fn set_slots(&mut self, slots: &[Option<u32>], counter: u8) {
-        let request = |tag| Backend { tag, root: 1, max: 1, uid: 0, gid: 0, mode: 0 };
+        let request = |tag| Backend { tag, root: 1, largest: 1, uid: 0, gid: 0, mode: 0 };
         let slots = slots.iter().map(|tag| tag.map(|tag| Arc::new(self.backend(request(tag))))).collect();
         self.vfs.probe_set_slots(slots);
         self.vfs.probe_set_counter(counter);

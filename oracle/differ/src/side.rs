@@ -35,7 +35,7 @@ pub struct Creation {
 pub struct Backend {
     pub tag: u32,
     pub root: u64,
-    pub max: u64,
+    pub largest: u64,
     pub uid: u32,
     pub gid: u32,
     pub mode: u32,

@@ -13,7 +13,7 @@ fn hex(bytes: &[u8]) -> String {
 }
 
 fn backend(b: &Backend) -> String {
-    format!("{} {} {} {} {} {}", b.tag, b.root, b.max, b.uid, b.gid, b.mode)
+    format!("{} {} {} {} {} {}", b.tag, b.root, b.largest, b.uid, b.gid, b.mode)
 }
 
 pub fn call_text(call: &Call) -> String {

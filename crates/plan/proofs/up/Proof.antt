@@ -2,7 +2,7 @@
 use mathlib.Core.Path.{sym, ap, _∙_}
 use native.Mathlib.Omega.{arith}
 use Rattle.tables.specs.Answer.{rowIn}
-use Rattle.tables.proofs.Places.{row-below}
+use Rattle.tables.proofs.RowOf.{row-below}
 use Rattle.tables.proofs.ByPlace.{parent-root}
 use Rattle.plan.proofs.Columns.{up-live, up-before, up-planned, up-behind}
 use borrow.Author.Needs.{needs}

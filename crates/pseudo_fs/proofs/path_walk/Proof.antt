@@ -2,8 +2,8 @@
 use mathlib.Core.Path.{_≡_, refl}
 use mathlib.Core.Bool.{true, false}
 use denote.Ref.{now}
-use Rattle.rules.specs.Unmount.{badPath}
-use Rattle.tables.specs.Rule.{laid}
+use Rattle.rules.specs.Reached.{badPath}
+use Rattle.tables.specs.Laid.{laid}
 use Rattle.tables.proofs.Keeps.{laid-is}
 use Rattle.storage.proofs.Laid.{tells-by, tells-small, laid-by}
 use Rattle.pseudo_fs.specs.Told.{pathWalkTold}

@@ -5,17 +5,14 @@ use Rattle.row_name.proofs.name_len.Statement.{statement}
 use Rattle.row_name.proofs.name_len.Tie as tie
 
 returns : tie.Need-returns
-returns c = rw (← c .before .capacity .ensures) (name-size _ _ _ _ (c .get-u8 .ensures) (search needs))
+returns c = rw (← c .before .before .capacity .ensures) (name-size _ _ _ _ (rw (c .before .last-at .ensures) at (c .get-u8 .ensures)) (search needs))
 
 pub name-len-spec : {M : Type 1} → statement M
 name-len-spec =
     tie.close
     (tie.spec
     (λ c κs. search needs)
-    (λ c. search needs)
-    (λ c. search needs)
-    (λ c. search needs)
-    (λ c. search needs)
+    (λ c κs. search needs)
     (λ c κs. search needs)
     (λ c. search needs)
     returns)

@@ -6,14 +6,14 @@ use Prim.Native.Nat.{_-_, _≤_}
 use native.Mathlib.Omega.{arith}
 use borrow.Author.Tests.{not-true, not-false}
 use denote.Ref.{now}
-use Rattle.rules.specs.Saved.{nodesAt}
+use Rattle.rules.specs.Saved.{savedNodesAt}
 use Rattle.saved.specs.Scan.{startOf, earlier, allPlaced}
 use Rattle.saved.proofs.Walk.{start-next, within, all-bad, all-on, all-done, all-start}
 use Rattle.saved.proofs.are_placed_by_columns.Statement.{statement}
 use Rattle.saved.proofs.are_placed_by_columns.Tie as tie
 
 abbrev Inv-loop : tie.InvT-loop
-Inv-loop b count k starts numbers keys at₀ i₀ at i = (i ≤ count) × (at ≡ startOf b i) × (allPlaced (earlier b i) (nodesAt b (count - i) at) ≡ allPlaced [] (nodesAt b count 0))
+Inv-loop b count k starts numbers keys at₀ i₀ at i = (i ≤ count) × (at ≡ startOf b i) × (allPlaced (earlier b i) (savedNodesAt b (count - i) at) ≡ allPlaced [] (savedNodesAt b count 0))
 
 abbrev μ-loop : tie.MeasureT-loop
 μ-loop b count k starts numbers keys at₀ i₀ at i = count - i

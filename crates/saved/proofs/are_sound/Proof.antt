@@ -6,6 +6,7 @@ use native.Mathlib.Omega.{arith}
 use native.Mathlib.Nat.{sub-zero}
 use borrow.Author.Tests.{not-true, not-false}
 use denote.Ref.{now}
+use Rattle.rules.specs.Saved.{nameStart}
 use Rattle.saved.specs.Scan.{soundTo}
 use Rattle.saved.proofs.Naming.{rest-short, rest-bad, rest-on, rest-done}
 use Rattle.saved.proofs.are_sound.Statement.{statement}
@@ -42,7 +43,7 @@ loop-again c =
     let l = c .before .before .before .before .before .before .before .loop in (
       omega arith,
       omega arith,
-      sym (rest-on _ _ _ _ (l .at) (l .i) (l .last) (c .before .before .before .before .before .before .loop-test .taken) (sym (c .before .before .is-sound .ensures) ∙ not-false _ (c .before .if3 .left)) _ _ (ap (λ (k : ℕ). l .at + 18 + k) (c .before .before .before .before .name-len .ensures)) (c .number-at .ensures)) ∙ l .inv .2,
+      sym (rest-on _ _ _ _ (l .at) (l .i) (l .last) (c .before .before .before .before .before .before .loop-test .taken) (sym (c .before .before .is-sound .ensures) ∙ not-false _ (c .before .if3 .left)) _ _ (ap (λ (k : ℕ). nameStart (l .at) + k) (c .before .before .before .before .name-len .ensures)) (c .number-at .ensures)) ∙ l .inv .2,
     )
 
 returns-4 : tie.Need-returns-4 Inv-loop μ-loop

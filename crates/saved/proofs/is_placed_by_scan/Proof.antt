@@ -8,14 +8,14 @@ use Prim.Native.Nat.{ℕ, _-_, _≤_}
 use native.Mathlib.Omega.{arith}
 use lib.Dec.{eqb}
 use denote.Ref.{now}
-use Rattle.rules.specs.Saved.{nodeAt, present, used}
+use Rattle.rules.specs.Saved.{savedNodeAt, present, used}
 use Rattle.saved.specs.Scan.{startOf, earlier}
 use Rattle.saved.proofs.Walk.{start-next, within, present-here, present-on, used-on, used-among, is-used, scanned}
 use Rattle.saved.proofs.is_placed_by_scan.Statement.{statement}
 use Rattle.saved.proofs.is_placed_by_scan.Tie as tie
 
 abbrev Inv-loop : tie.InvT-loop
-Inv-loop b at i parent found₀ p₀ j₀ found p j = (j ≤ i) × (p ≡ startOf b j) × (found ≡ present (nodeAt b at .above) (earlier b j)) × (used (nodeAt b at .above) (nodeAt b at .called) (earlier b j) ≡ false)
+Inv-loop b at i parent found₀ p₀ j₀ found p j = (j ≤ i) × (p ≡ startOf b j) × (found ≡ present (savedNodeAt b at .parent) (earlier b j)) × (used (savedNodeAt b at .parent) (savedNodeAt b at .name) (earlier b j) ≡ false)
 
 abbrev μ-loop : tie.MeasureT-loop
 μ-loop b at i parent found₀ p₀ j₀ found p j = i - j
@@ -56,9 +56,9 @@ loop-again c =
     let q = c .before .before .before .before .before .before .before .parent-at .ensures in (
       omega arith,
       c .record-end .ensures ∙ start-next (now (a .b)) (l .j) (l .p) (l .inv .1),
-      ⊎-elim (λ w. w .1 ∙ sym (present-here (now (a .b)) (nodeAt (now (a .b)) (a .at)) (l .j) (l .p) (l .inv .1) (sym n ∙ w .0 .taken ∙ q)))
-          (λ w. w .1 ∙ l .inv .2 ∙ sym (present-on (now (a .b)) (nodeAt (now (a .b)) (a .at)) (l .j) (l .p) (l .inv .1) (λ e. w .0 .left (n ∙ e ∙ sym q)))) (c .before .if2 .came),
-      used-on (now (a .b)) (nodeAt (now (a .b)) (a .at)) (l .j) (l .p) (l .inv .1) (sym (c .before .before .before .before .is-twin .ensures) ∙ c .before .before .before .if1 .left) ∙ l .inv .3,
+      ⊎-elim (λ w. w .1 ∙ sym (present-here (now (a .b)) (savedNodeAt (now (a .b)) (a .at)) (l .j) (l .p) (l .inv .1) (sym n ∙ w .0 .taken ∙ q)))
+          (λ w. w .1 ∙ l .inv .2 ∙ sym (present-on (now (a .b)) (savedNodeAt (now (a .b)) (a .at)) (l .j) (l .p) (l .inv .1) (λ e. w .0 .left (n ∙ e ∙ sym q)))) (c .before .if2 .came),
+      used-on (now (a .b)) (savedNodeAt (now (a .b)) (a .at)) (l .j) (l .p) (l .inv .1) (sym (c .before .before .before .before .is-twin .ensures) ∙ c .before .before .before .if1 .left) ∙ l .inv .3,
     )
 
 returns-2 : tie.Need-returns-2 Inv-loop μ-loop

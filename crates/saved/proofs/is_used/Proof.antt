@@ -4,7 +4,7 @@ use mathlib.Core.Path.{_≡_, refl, sym, _∙_}
 use Prim.Native.Nat.{_-_, _≤_}
 use native.Mathlib.Omega.{arith}
 use denote.Ref.{now}
-use Rattle.rules.specs.Saved.{nodeAt, used}
+use Rattle.rules.specs.Saved.{savedNodeAt, used}
 use Rattle.saved.specs.Scan.{earlier}
 use Rattle.saved.proofs.Walk.{within, used-among, used-down, used-none}
 use Rattle.saved.proofs.Twins.{other-key}
@@ -12,7 +12,7 @@ use Rattle.saved.proofs.is_used.Statement.{statement}
 use Rattle.saved.proofs.is_used.Tie as tie
 
 abbrev Inv-loop : tie.InvT-loop
-Inv-loop b at i starts keys key j₀ j = (j ≤ i) × (used (nodeAt b at .above) (nodeAt b at .called) (earlier b j) ≡ used (nodeAt b at .above) (nodeAt b at .called) (earlier b i))
+Inv-loop b at i starts keys key j₀ j = (j ≤ i) × (used (savedNodeAt b at .parent) (savedNodeAt b at .name) (earlier b j) ≡ used (savedNodeAt b at .parent) (savedNodeAt b at .name) (earlier b i))
 
 abbrev μ-loop : tie.MeasureT-loop
 μ-loop b at i starts keys key j₀ j = j
@@ -53,7 +53,7 @@ returns-2 : tie.Need-returns-2 Inv-loop μ-loop
 returns-2 c =
     let l = c .before .loop in
     let a = c .before .before .before .before .args in
-    sym (used-none (now (a .b)) (nodeAt (now (a .b)) (a .at)) (l .j) (omega arith)) ∙ l .inv .1
+    sym (used-none (now (a .b)) (savedNodeAt (now (a .b)) (a .at)) (l .j) (omega arith)) ∙ l .inv .1
 
 pub is-used-spec : {M : Type 1} → statement M
 is-used-spec =

@@ -17,7 +17,7 @@ loop-holds : tie.Need-loop-holds Inv-loop μ-loop
 loop-holds c = (search needs, (refl, refl))
 
 loop-again : tie.Need-loop-again Inv-loop μ-loop
-loop-again c = tags-next _ _ _ _ _ (c .before .before .before .before .before .before .loop .inv) (search needs) (c .before .before .put-u32 .ensures)
+loop-again c = tags-next _ _ _ _ _ (c .before .before .before .before .before .before .before .loop .inv) (search needs) (cc)
 
 returns : tie.Need-returns Inv-loop μ-loop
 returns c = tags-all _ _ _ _ (c .before .loop .inv) (search needs)
@@ -29,8 +29,7 @@ put-tags-spec =
     Inv-loop
     μ-loop
     loop-holds
-    (λ c. search needs)
-    (λ c. search needs)
+    (λ c κs. search needs)
     (λ c. search needs)
     (λ c. search needs)
     (λ c κs. search needs)

@@ -3,7 +3,7 @@ use mathlib.Core.Path.{_≡_, refl}
 use mathlib.Core.Bool.{true}
 use denote.Ref.{now}
 use Rattle.rules.specs.Lookup.{remapRule}
-use Rattle.tables.specs.Rule.{laid}
+use Rattle.tables.specs.Laid.{laid}
 use Rattle.vfs_query.specs.Told.{remappedTold}
 use Rattle.storage.proofs.Laid.{tells-by, tells-small, laid-by}
 use borrow.Author.Needs.{needs}

@@ -1,6 +1,6 @@
 -- The tag of the index, or none.
 use native.Mathlib.Omega.{arith}
-use Rattle.rules.specs.Unmount.{rootHeld}
+use Rattle.rules.specs.Rootfs.{rootHeld}
 use Rattle.tables.proofs.Keeps.{laid-long}
 use Rattle.vfs_query.specs.Told.{rootfsTold}
 use Rattle.vfs_query.proofs.Rules.{tag-held, tag-empty}

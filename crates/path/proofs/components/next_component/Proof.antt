@@ -5,7 +5,7 @@ use Prim.Native.Nat.{_-_}
 use native.Mathlib.Omega.{arith}
 use lib.ListN.{length}
 use denote.Ref.{now}
-use Rattle.path.specs.Steps.{nextAt}
+use Rattle.path.specs.Steps.{nextComponent}
 use Rattle.rules.specs.Path.{slash}
 use Rattle.path.proofs.Words.{end-behind}
 use Rattle.path.proofs.Steps.{next-slash, next-dropped, next-kept, next-end}
@@ -13,7 +13,7 @@ use Rattle.path.proofs.components.next_component.Statement.{statement}
 use Rattle.path.proofs.components.next_component.Tie as tie
 
 abbrev Inv-loop : tie.InvT-loop
-Inv-loop path at i₀ i = nextAt path i ≡ nextAt path at
+Inv-loop path at i₀ i = nextComponent path i ≡ nextComponent path at
 
 abbrev μ-loop : tie.MeasureT-loop
 μ-loop path at i₀ i = length path - i

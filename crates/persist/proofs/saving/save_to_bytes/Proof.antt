@@ -4,7 +4,7 @@ use mathlib.Core.Bool.{true}
 use native.Mathlib.Omega.{arith}
 use denote.Ref.{now}
 use borrow.Author.Tests.{not-true, not-false}
-use Rattle.tables.specs.Rule.{laid}
+use Rattle.tables.specs.Laid.{laid}
 use Rattle.tables.proofs.Keeps.{laid-is}
 use Rattle.persist.proofs.SaveWays.{saves-small, saves-no-room, saves-whole}
 use borrow.Author.Needs.{needs}

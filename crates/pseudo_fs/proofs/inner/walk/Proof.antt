@@ -7,8 +7,8 @@ use Prim.Native.Nat.{ℕ, _+_, _-_, _*_, _<_}
 use native.Mathlib.Omega.{arith}
 use lib.ListN.{length}
 use denote.Ref.{now}
-use Rattle.rules.specs.Path.{name, parent}
-use Rattle.path.specs.Steps.{part, between, Goes}
+use Rattle.rules.specs.Path.{Normal, ParentDir}
+use Rattle.path.specs.Steps.{part, between, StepsOver}
 use Rattle.path.proofs.Steps.{step-of}
 use Rattle.le.specs.Mem.{Bytes}
 use Rattle.scan.specs.First.{cellIs}
@@ -34,7 +34,7 @@ abbrev μ-outer : tie.MeasureT-outer
 μ-outer s path n node₀ at₀ node at = length path - at
 
 -- the step to a parent, and the step to a name, as `next_component` tells it
-parent-step : (c : tie.After-next Inv-loop μ-loop Inv-outer μ-outer) → Goes (now (c .before .before .before .before .before .before .before .args .path)) (c .before .before .before .outer .at) (parent (c .next .given .0 .0)) (c .next .given .0 .0) 2 (c .next .given .0 .1 .0)
+parent-step : (c : tie.After-next Inv-loop μ-loop Inv-outer μ-outer) → StepsOver (now (c .before .before .before .before .before .before .before .args .path)) (c .before .before .before .outer .at) (ParentDir (c .next .given .0 .0)) (c .next .given .0 .0) 2 (c .next .given .0 .1 .0)
 parent-step c = step-of (now (c .before .before .before .before .before .before .before .args .path)) (c .before .before .before .outer .at) (c .before .before .next-component .ensures) (c .next .given .1)
 
 module _ (c : tie.After-known-told2 Inv-loop μ-loop Inv-outer μ-outer) where
@@ -53,7 +53,7 @@ module _ (c : tie.After-known-told2 Inv-loop μ-loop Inv-outer μ-outer) where
   abbrev next : ℕ
   next = c .before .start .given .0 .1 .1 .0
 
-  name-step : Goes path at (name start (part path start len)) start len next
+  name-step : StepsOver path at (Normal start (part path start len)) start len next
   name-step = step-of path at (c .before .before .before .next-component .ensures) (c .before .start .given .1)
 
 outer-holds : tie.Need-outer-holds Inv-loop μ-loop Inv-outer μ-outer

@@ -3,7 +3,7 @@ use mathlib.Core.Path.{sym, ap, _∙_}
 use Prim.Native.Nat.{_<_}
 use Rattle.tables.specs.Layout.{countOf}
 use Rattle.tables.specs.Answer.{rowIn}
-use Rattle.tables.proofs.Places.{row-below}
+use Rattle.tables.proofs.RowOf.{row-below}
 use Rattle.tables.proofs.ByPlace.{row-else, set-root, set-found, set-missing, clear-root, clear-row}
 use borrow.Author.Needs.{needs}
 use Rattle.tables.proofs.mounts.clear.Statement.{statement}
@@ -17,21 +17,21 @@ low : (c : tie.After-put-u64-arg2) → c .before .before .row .given .0 .0 < cou
 unfolding rowIn
 low c = row-below _ _ _ (sym (c .before .before .before .before .before .before .before .before .pre .1 ∙ row-else _ _ (c .before .before .before .before .before .before .if1 .left)) ∙ ap rowIn (c .before .before .row .given .1))
 
-mul-put-u64-2 : tie.Need-mul-put-u64-2
-mul-put-u64-2 c = let h = low c in search needs
-
-add-put-u64-2 : tie.Need-add-put-u64-2
-add-put-u64-2 c = let h = low c in search needs
+mount-at-requires : tie.Need-mount-at-requires
+mount-at-requires c κs = let h = low c in search needs
 
 put-u64-requires-2 : tie.Need-put-u64-requires-2
-put-u64-requires-2 c κs = let h = low c in search needs
+put-u64-requires-2 c κs = let h = low (c .before) in search needs
 
 returns-2 : tie.Need-returns-2
 unfolding rowIn
 returns-2 c =
-    let n = c .before .before .before .before .before .before .before .before .before .if1 .left in
-    c .before .before .put-u642 .ensures
-    ∙ sym (set-found _ _ _ n _ (sym (c .before .before .before .before .before .before .before .before .before .before .before .pre .1 ∙ row-else _ _ n) ∙ ap rowIn (c .before .before .before .before .before .row .given .1)) ∙ clear-row _ _ _ (c .before .before .before .before .before .before .before .capacity .ensures))
+    let w = c .before .before in
+    let r = w .before .before .before .before in
+    let k = r .before .before in
+    let n = k .before .before .if1 .left in
+    w .put-u642 .ensures
+    ∙ rw (w .before .mount-at .ensures) (sym (set-found _ _ _ n _ (sym (k .before .before .before .before .pre .1 ∙ row-else _ _ n) ∙ ap rowIn (r .row .given .1)) ∙ clear-row _ _ _ (k .capacity .ensures)))
 
 returns-3 : tie.Need-returns-3
 unfolding rowIn
@@ -48,10 +48,7 @@ clear-spec =
     returns
     (λ c κs. search needs)
     (λ c. search needs)
-    (λ c. search needs)
-    (λ c. search needs)
-    mul-put-u64-2
-    add-put-u64-2
+    mount-at-requires
     put-u64-requires-2
     (λ c. search needs)
     (λ c. search needs)

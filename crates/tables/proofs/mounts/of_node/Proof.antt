@@ -1,7 +1,7 @@
 -- The root's mount, or that of the row that has the number.
 use mathlib.Core.Path.{sym, ap, _∙_}
 use Rattle.tables.specs.Answer.{rowIn, mountIn}
-use Rattle.tables.proofs.Places.{row-below}
+use Rattle.tables.proofs.RowOf.{row-below}
 use Rattle.tables.proofs.ByPlace.{mount-root, mount-found, mount-missing}
 use borrow.Author.Needs.{needs}
 use Rattle.tables.proofs.mounts.of_node.Statement.{statement}

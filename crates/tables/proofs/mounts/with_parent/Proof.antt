@@ -1,7 +1,7 @@
 -- The root's mount and the root, or mount and parent of the row that has the number, and that row.
 use mathlib.Core.Path.{sym, ap, _∙_}
 use Rattle.tables.specs.Answer.{rowIn, mountIn}
-use Rattle.tables.proofs.Places.{row-below}
+use Rattle.tables.proofs.RowOf.{row-below}
 use Rattle.tables.proofs.ByPlace.{row-root, row-else, mount-root, mount-found, mount-missing, parent-root, parent-found, parent-missing}
 use borrow.Author.Needs.{needs}
 use Rattle.tables.proofs.mounts.with_parent.Statement.{statement}

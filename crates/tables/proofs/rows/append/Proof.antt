@@ -15,7 +15,7 @@ returns c =
     let n = k .before .before in
     let a = n .before .before .before .before .args in
     w .put-u642 .ensures
-    ∙ rw (v .put-u64 .ensures, r .put-node .ensures, x .next .ensures, k .count .ensures, n .capacity .ensures) (appended (a .s .now) (a .above) (a .name .now))
+    ∙ rw (v .put-u64 .ensures, r .put-node .ensures, x .next .ensures, k .count .ensures, n .capacity .ensures) (appended (a .s .now) (a .parent) (a .name .now))
 
 pub append-spec : {M : Type 1} → statement M
 append-spec =

@@ -17,10 +17,14 @@ returns-2 c = sym (child-else _ _ _ (λ e. c .if2 .taken (c .before .parent .ens
 
 returns-3 : tie.Need-returns-3
 returns-3 c =
-    let mem = now (c .before .before .before .before .before .before .before .args .s) in
-    (rw (c .before .capacity .ensures) at (c .same-start .ensures))
-    ∙ sym (child-named (c .before .before .before .before .before .before .before .args .here) (now (c .before .before .before .before .before .before .before .args .name)) (nodeAt (capacityOf mem) mem (c .before .before .before .before .before .before .before .args .i)) (sym (c .before .before .before .parent .ensures) ∙ c .before .before .if2 .left)
-    ∙ alike-start _ _ _ _ (λ j. c .before .before .before .before .before .before .shared-slice-known .given j .fits) (λ j. c .before .before .before .before .before .shared-slice-known2 .given j .fits) (search needs) (search needs))
+    let n = c .before .before in
+    let p = n .before .before in
+    let k = p .before .before in
+    let a = k .before .before .args in
+    let mem = now (a .s) in
+    (rw (c .before .first-at .ensures, n .capacity .ensures) at (c .same-start .ensures))
+    ∙ sym (child-named (a .here) (now (a .name)) (nodeAt (capacityOf mem) mem (a .i)) (sym (p .parent .ensures) ∙ n .before .if2 .left)
+    ∙ alike-start _ _ _ _ (λ j. k .before .shared-slice-known .given j .fits) (λ j. k .shared-slice-known2 .given j .fits) (search needs) (search needs))
 
 pub child-alike-spec : {M : Type 1} → statement M
 child-alike-spec =
@@ -30,9 +34,6 @@ child-alike-spec =
     (λ c κs. search needs)
     returns-2
     (λ c κs. search needs)
-    (λ c. search needs)
-    (λ c. search needs)
-    (λ c. search needs)
-    (λ c. search needs)
+    (λ c κs. search needs)
     (λ c κs. search needs)
     returns-3)

@@ -4,7 +4,14 @@ use Rattle.tables.proofs.rows.next_alike.Statement.{statement}
 use Rattle.tables.proofs.rows.next_alike.Tie as tie
 
 returns : tie.Need-returns
-returns c = rw (← c .before .before .capacity .ensures, ← c .before .count .ensures) (c .find-cell .ensures)
+returns c = rw (← c .before .before .before .capacity .ensures, ← c .before .before .count .ensures, ← c .before .lasts-at .ensures) (c .find-cell .ensures)
 
 pub next-alike-spec : {M : Type 1} → statement M
-next-alike-spec = tie.close (tie.spec (λ c κs. search needs) (λ c κs. search needs) (λ c. search needs) (λ c. search needs) (λ c κs. search needs) returns)
+next-alike-spec =
+    tie.close
+    (tie.spec
+    (λ c κs. search needs)
+    (λ c κs. search needs)
+    (λ c κs. search needs)
+    (λ c κs. search needs)
+    returns)

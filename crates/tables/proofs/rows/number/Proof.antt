@@ -7,7 +7,12 @@ use Rattle.tables.proofs.rows.number.Statement.{statement}
 use Rattle.tables.proofs.rows.number.Tie as tie
 
 returns : tie.Need-returns
-returns c = ap (λ (v : ℕ). v % 2 ^ 56) (c .get-u64 .ensures) ∙ sym (number-at _ _ _)
+returns c = rw (c .get-u64 .ensures, c .before .number-at .ensures) (sym (number-at _ _ _))
 
 pub number-spec : {M : Type 1} → statement M
-number-spec = tie.close (tie.spec (λ c. search needs) (λ c. search needs) (λ c κs. search needs) returns)
+number-spec =
+    tie.close
+    (tie.spec
+    (λ c κs. search needs)
+    (λ c κs. search needs)
+    returns)

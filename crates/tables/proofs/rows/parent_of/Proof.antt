@@ -1,7 +1,7 @@
 -- The parent of the row that has the number, else the root.
 use mathlib.Core.Path.{sym, ap, _∙_}
 use Rattle.tables.specs.Answer.{rowIn}
-use Rattle.tables.proofs.Places.{row-below}
+use Rattle.tables.proofs.RowOf.{row-below}
 use Rattle.tables.proofs.ByPlace.{parent-root, parent-found, parent-missing}
 use borrow.Author.Needs.{needs}
 use Rattle.tables.proofs.rows.parent_of.Statement.{statement}

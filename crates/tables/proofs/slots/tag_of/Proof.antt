@@ -8,16 +8,17 @@ returns : tie.Need-returns
 returns c = tag-empty _ _ (cc)
 
 returns-2 : tie.Need-returns-2
-returns-2 c = let a = c .before .before .before .before .args in rw (c .get-u32 .ensures) (tag-held (a .s .now) (a .k) (λ e. c .before .if1 .left (cc)))
+returns-2 c =
+    let a = c .before .before .before .before .before .before .args in
+    rw (c .get-u32 .ensures, c .before .tag-at .ensures) (tag-held (a .s .now) (a .k) (λ e. c .before .before .if1 .left (cc)))
 
 pub tag-of-spec : {M : Type 1} → statement M
 tag-of-spec =
     tie.close
     (tie.spec
-    (λ c. search needs)
+    (λ c κs. search needs)
     (λ c κs. search needs)
     returns
-    (λ c. search needs)
-    (λ c. search needs)
+    (λ c κs. search needs)
     (λ c κs. search needs)
     returns-2)

@@ -1,0 +1,2 @@
+-- What the contracts of calls have in common.
+pub mod Form

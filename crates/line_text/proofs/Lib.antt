@@ -1,2 +1,0 @@
--- What is proved of the texts.
-pub mod Writes

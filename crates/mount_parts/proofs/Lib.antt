@@ -1,0 +1,2 @@
+-- What is proved of the parts of a mount.
+pub mod MountWays

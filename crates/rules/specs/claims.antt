@@ -1,0 +1,25 @@
+-- What is claimed of the rules: statements, each proved in proofs/. No definition of a rule names one.
+pub mod Sequences
+pub mod Ids
+pub mod Worked
+pub mod Shown
+pub mod Stored
+pub mod Needed
+pub mod Joined
+pub mod Allocation
+pub mod Laps
+pub mod Trace
+pub mod Leaves
+pub mod Exactly
+pub mod RoundTrip
+pub mod Driven
+pub mod Names
+pub mod Walk
+pub mod Proper
+pub mod SaveThenRestore
+pub mod Restart
+pub mod Stays
+pub mod Kept
+pub mod Wait
+pub mod Found
+pub mod PutBack

@@ -1,2 +1,0 @@
--- What is proved of the parts of a save.
-pub mod SaveRecords

@@ -1,2 +1,0 @@
--- What the parts of a save answer.
-pub mod Parts

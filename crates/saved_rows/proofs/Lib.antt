@@ -1,0 +1,2 @@
+-- What is proved of the records that a save puts.
+pub mod SaveRecords

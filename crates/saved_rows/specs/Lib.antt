@@ -1,0 +1,2 @@
+-- What the size of the records answers.
+pub mod Parts

@@ -1,0 +1,3 @@
+-- Laws of the text that is laid down, and of the plain numbers that a line shows.
+pub mod Writes
+pub mod Numbers

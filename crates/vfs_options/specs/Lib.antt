@@ -1,0 +1,2 @@
+-- The options that the code's struct stands for.
+pub mod Given
