@@ -1,5 +1,5 @@
 -- Laws of the search over the indexes met from a counter on. Assumes nothing.
-use mathlib.Core.Path.{◌≡◌, refl, sym, ap, ◌∙◌}
+use mathlib.Core.Path.{◌≡◌, refl, sym, subst, ap, ◌∙◌}
 use mathlib.Core.Bool.{Bool, true, false, cond}
 use mathlib.Core.Logic.{◌⊎◌, inl, inr, ⊎_elim}
 use mathlib.Core.List.{List, [], ◌∷◌, ◌++◌}
@@ -52,7 +52,8 @@ module _ (free : ℕ → Bool) where
       (λ (f : free c ≡ false).
       let on : (c + suc d) % 256 ≡ (after c + d) % 256 = omega arith in
       let rest = meets n (after c) d (omega arith) (omega (arith, rw f at l)) in
-      rw (on, f) (inr rest.0, rest.1)) (known (free c))
+      let P : ℕ → Type 0 = λ x. Has x (visited free (going_round (suc n) c)) × ((free x ≡ false) ⊎ (first_free free (going_round (suc n) c) ≡ some x)) in
+      subst P (sym on) (rw f (inr rest.0, rest.1))) (known (free c))
 
   -- none is free: none is found
   pub finds_none : (n c : ℕ) → c < 256 → ((j : ℕ) → j < 256 → free j ≡ false) → first_free free (going_round n c) ≡ none

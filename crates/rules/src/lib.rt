@@ -1,4 +1,6 @@
 // The numbers of the trade, for the code of the crates above; the rules themselves stand in specs/.
+#![tactic(auto)]
+
 pub mod codes;
 
 // The largest node number and the largest backend number (R5).

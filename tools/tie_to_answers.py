@@ -1,0 +1,370 @@
+#!/usr/bin/env python3
+"""Turns proofs/F/Proof.antt of the older form (`tie.spec`) to Invariants.antt and Answers.antt.
+
+usage: python3 tools/tie_to_answers.py CRATE NAMES.json [FUNCTION ..]
+
+NAMES.json is what `rt check --generated DIR --old-names` writes in the crate. A goal that the old proof left to the search has no answer
+any more. What the script cannot follow it marks by a word `«?NAME»`, which no check accepts. The old file goes.
+"""
+import json
+import os
+import re
+import sys
+
+NAME = r'[^\s(){}.;,@"«»:]+'
+
+
+def norm(name):
+    return re.sub(r'[-_]', '', name)
+
+
+class Walk:
+    def __init__(self, e):
+        self.places = {p[0]: (p[1], p[2]) for p in e['places']}
+        self.order = [p[0] for p in e['places']]
+        self.arms = dict(zip(self.order, e.get('arms') or []))
+        self.typed = dict(zip(self.order, e.get('typed') or []))
+        self.needs = e['needs']
+        self.at = [a[0] for a in e['asked_at']]
+        self.loops = e['loops']
+        self.changed = e['changed']
+
+    def above(self, place):
+        out = []
+        while place is not None:
+            out.append(place)
+            place = self.places[place][0] if place in self.places else None
+        return out
+
+
+class Lost(Exception):
+    pass
+
+
+def path(walk, place, n, parts):
+    """The path of today for n steps up and then the parts."""
+    if not parts:
+        return 'c'
+    chain = walk.above(place)
+    head, rest = parts[0], parts[1:]
+    if head in ('args', 'requires', 'ranges', 'lifetimes', 'utf8', 'pre'):
+        return 'c.' + '.'.join([head if head != 'pre' else 'requires'] + rest)
+    hit = None
+    if n < len(chain) and norm(walk.places[chain[n]][1][0]) == norm(head):
+        hit = chain[n]
+    if hit is None:
+        near = [p for p in chain if norm(walk.places[p][1][0]) == norm(head)]
+        if not near:
+            near = [p for p in chain if re.sub(r'\d+$', '', norm(walk.places[p][1][0])) == re.sub(r'\d+$', '', norm(head))]
+        if not near:
+            raise Lost(head)
+        hit = min(near, key=lambda p: abs(chain.index(p) - n))
+    new = walk.places[hit][1][1]
+    if rest and rest[0] == 'given':
+        for var, step in walk.typed.get(place) or []:
+            if norm(step) == norm(walk.places[hit][1][0]):
+                return 'c.' + '.'.join(['type_inv', var] + rest[1:])
+        if rest[1:2] in (['1'], ['0']) and walk.arms.get(hit):
+            return 'c.' + '.'.join([new, 'is'] + rest[2:])
+    return 'c.' + '.'.join([new] + rest)
+
+
+def turned(expr, walk, place):
+    """The expression with today's paths."""
+    alias = {'c': 0}
+    lost = []
+
+    def strip(m):
+        alias[m.group(1)] = alias[m.group(2)] + m.group(3).count('.before')
+        return ''
+
+    while True:
+        pat = re.compile(r'let (\w+) = (' + '|'.join(map(re.escape, alias)) + r')((?:\.before)+) in\s+')
+        new = pat.sub(strip, expr, count=1)
+        if new == expr:
+            break
+        expr = new
+
+    def one(m):
+        n, parts = alias[m.group(1)], m.group(2)[1:].split('.')
+        while parts and parts[0] == 'before':
+            n += 1
+            parts = parts[1:]
+        try:
+            return path(walk, place, n, parts)
+        except Lost as e:
+            lost.append(str(e))
+            return 'c.«?' + str(e) + '»' + ''.join('.' + p for p in parts[1:])
+
+    expr = re.sub(r"(?<![\w.'])(" + '|'.join(map(re.escape, alias)) + r")((?:\.[^\s.(){},;]+)+)", one, expr)
+    return expr, lost
+
+
+def blocks(text):
+    """The head comment, the use lines and the declarations of a file."""
+    lines = text.split('\n')
+    k = 0
+    head = []
+    while k < len(lines) and lines[k].startswith('--'):
+        head.append(lines[k])
+        k += 1
+    uses = []
+    while k < len(lines) and (lines[k].startswith('use ') or not lines[k].strip()):
+        if lines[k].strip():
+            uses.append(lines[k])
+        k += 1
+    rest = '\n'.join(lines[k:])
+    parts = [b for b in re.split(r'\n{2,}(?=\S)', rest.strip('\n')) if b.strip()]
+    return head, uses, parts
+
+
+def arguments(text):
+    """The arguments of a call, as written."""
+    out, depth, word = [], 0, ''
+    for ch in text:
+        if ch in '([{':
+            depth += 1
+        if ch in ')]}':
+            depth -= 1
+        if ch.isspace() and depth == 0:
+            if word:
+                out.append(word)
+            word = ''
+        else:
+            word += ch
+    if word:
+        out.append(word)
+    return out
+
+
+def spec_arguments(block):
+    k = block.index('tie.spec') + len('tie.spec')
+    depth, end = 0, k
+    while end < len(block):
+        if block[end] == '(':
+            depth += 1
+        if block[end] == ')':
+            if depth == 0:
+                break
+            depth -= 1
+        end += 1
+    return arguments(block[k:end])
+
+
+def signature(block):
+    """name, type, comments before, whether abbrev, the lines after the signature"""
+    lines = block.split('\n')
+    k = 0
+    while k < len(lines) and lines[k].lstrip().startswith('--'):
+        k += 1
+    m = re.match(rf'((?:pub |abbrev |unfoldable )*)({NAME}) : (.*)', lines[k]) if k < len(lines) else None
+    if not m:
+        return None
+    return m.group(2), m.group(3), lines[:k], m.group(1), lines[k + 1:]
+
+
+def imports(uses, body, own, drop):
+    """The use lines that the body wants."""
+    words = set(re.findall(r'[^\s(){}.;,@"«»]+', body))
+    out = []
+    for u in uses:
+        m = re.match(r'use (\S+?)\.\{(.*)\}$', u)
+        if not m:
+            if u.split(' as ')[-1] in words:
+                out.append(u)
+            continue
+        if any(m.group(1).endswith(d) for d in drop):
+            continue
+        keep = []
+        for it in m.group(2).split(','):
+            it = it.strip()
+            w = it.split(' as ')[-1]
+            bare = w.replace('◌', '')
+            if w in words or ('◌' in w and all(p in words or p in body for p in w.split('◌') if p)):
+                keep.append(it)
+        if keep:
+            out.append(f'use {m.group(1)}.{{{", ".join(keep)}}}')
+    return out
+
+
+def convert(folder, module, e, stem):
+    p = os.path.join(folder, 'Proof.antt')
+    text = open(p, encoding='utf-8').read()
+    head, uses, parts = blocks(text)
+    walk = Walk(e)
+    invs, answers, locals_, spec = [], {}, [], None
+    for b in parts:
+        if 'tie.spec' in b and re.search(r'tie\.close', b):
+            spec = b
+            continue
+        s = signature(b)
+        if s and re.match(r'tie\.(invariant|decreases|ghost|InvT|MeasureT)', s[1]):
+            invs.append(s)
+        elif s and s[1].startswith('tie.'):
+            answers[s[0]] = s
+        else:
+            locals_.append((s[0] if s else None, b))
+    if spec is None:
+        raise Lost('no tie.spec')
+    args = spec_arguments(spec)
+    count = 2 * len(walk.loops) if invs else 0
+    lead = 0
+    names = {s[0] for s in invs}
+    while lead < len(args) and args[lead] in names:
+        lead += 1
+    goals = args[lead:]
+    notes = []
+    if len(goals) != len(walk.needs):
+        notes.append(f'{module}: {len(goals)} goals then, {len(walk.needs)} now')
+    out_inv, out_ans = [], []
+    # invariants, by the loop's number
+    order = args[:lead]
+    which = {}
+    seen_i, seen_d = 0, 0
+    for a in order:
+        s = next(x for x in invs if x[0] == a)
+        if 'invariant' in s[1] or 'InvT' in s[1]:
+            which[a] = ('invariant', seen_i)
+            seen_i += 1
+        else:
+            which[a] = ('decreases', seen_d)
+            seen_d += 1
+    rename = {}
+    for s in invs:
+        if s[0] not in which:
+            locals_.append((s[0], '\n'.join(s[2] + [f'{s[3]}{s[0]} : {s[1]}'] + s[4])))
+            continue
+        kind, k = which[s[0]]
+        (oldloop, newloop), variables = walk.loops[k]
+        changed = walk.changed[k]
+        params = [(v, 'l.initial.' + v if ch else 'l.' + v) for v, ch in zip(variables, changed)]
+        params += [(v, 'l.' + v) for v, ch in zip(variables, changed) if ch]
+        body = '\n'.join(s[4])
+        m = re.match(rf'((?:unfolding .*\n)?){re.escape(s[0])}((?: [^=\s]+)*) =(.*)', body, re.S)
+        new = f'{kind}-{newloop}'
+        rename[s[0]] = new
+        if not m:
+            notes.append(f'{module}: {s[0]} not read')
+            continue
+        mine = m.group(2).split()
+        if len(mine) != len(params):
+            notes.append(f'{module}: {s[0]} has {len(mine)} arguments, now {len(params)}: {params}')
+        table = {a: q for a, (v, q) in zip(mine, params) if a != '_'}
+        expr = re.sub(r"(?<![\w.'«])([^\s(){}.;,@\"«»:\d][^\s(){}.;,@\"«»:]*)", lambda w: table.get(w.group(1), w.group(1)), m.group(3))
+        out_inv.append('\n'.join(s[2] + [f'abbrev pub {new} : goal.{new}'] + ([m.group(1).rstrip()] if m.group(1) else []) + [f'{new} l ={expr}']))
+    for k, a in enumerate(goals):
+        if k >= len(walk.needs):
+            notes.append(f'{module}: goal {k} left: {a[:80]}')
+            continue
+        old, new = walk.needs[k]
+        place = walk.at[k]
+        if a in answers:
+            s = answers[a]
+            body = '\n'.join(s[4])
+            m = re.match(rf'((?:unfolding .*\n)*){re.escape(s[0])}((?: [^=\s]+)*) =(.*)', body, re.S)
+            if not m:
+                notes.append(f'{module}: {a} not read')
+                continue
+            var = m.group(2).split()
+            expr = m.group(3)
+            if var and var[0] != 'c':
+                expr = re.sub(rf"(?<![\w.']){re.escape(var[0])}(?![\w'])", 'c', expr)
+            unf = m.group(1)
+            said = s[2]
+        else:
+            m = re.match(r'\(λ ([^.]*)\. (.*)\)$', a, re.S)
+            if not m:
+                if a not in (x[0] for x in locals_ if x[0]):
+                    notes.append(f'{module}: goal {new} answered by {a[:60]}')
+                expr, unf, said = ' ' + a + ' c', '', []
+            else:
+                expr, unf, said = ' ' + m.group(2), '', []
+                if re.fullmatch(r'\s*search rules\s*', expr) or re.fullmatch(r'\s*search needs\s*', expr):
+                    continue
+        if not unf and re.fullmatch(r'\s*search rules\s*', expr):
+            continue
+        expr, lost = turned(expr, walk, place)
+        if lost:
+            notes.append(f'{module}: {new}: lost {", ".join(lost)}')
+        out_ans.append('\n'.join(said + [f'pub {new} : goal.{new}'] + ([unf.rstrip()] if unf else []) + [f'{new} c ={expr}']))
+    # what is local goes where it is used
+    inv_text = '\n\n'.join(out_inv)
+    ans_text = '\n\n'.join(out_ans)
+
+    def uses_of(t):
+        return set(re.findall(r'[^\s(){}.;,@"«»]+', t))
+
+    in_inv = []
+    want = uses_of(inv_text)
+    for name, b in reversed(locals_):
+        if name and name in want:
+            in_inv.insert(0, (name, b))
+            want |= uses_of(b)
+    rest = [(n, b) for n, b in locals_ if (n, b) not in in_inv]
+    drop = ('.Tie', '.Statement')
+    base = f'use Rattle.{stem}.proofs.{module}'
+    made = []
+    if out_inv:
+        body = '\n\n'.join([b for _, b in in_inv] + out_inv)
+        lines = imports([u for u in uses if not u.endswith('.Tie as tie') and '.Statement.{' not in u], body, stem, drop)
+        pubbed = body
+        for n, b in in_inv:
+            pubbed = re.sub(rf'(?m)^(abbrev |unfoldable )?{re.escape(n)} :', lambda m: (m.group(1) or '') + 'pub ' + n + ' :', pubbed)
+        t = '\n'.join(head + lines + [f'{base}.Given as goal']) + '\n\n' + pubbed + '\n'
+        made.append(('Invariants.antt', t))
+    if out_ans or rest:
+        body = '\n\n'.join([b for _, b in rest] + out_ans)
+        lines = imports([u for u in uses if not u.endswith('.Tie as tie') and '.Statement.{' not in u], body, stem, drop)
+        names = [n for n, _ in in_inv if n in uses_of(body)]
+        if names:
+            lines.append(f'{base}.Invariants.{{{", ".join(names)}}}')
+        goal = [f'{base}.Goals as goal'] if out_ans else []
+        t = '\n'.join((head if not out_inv else head) + lines + goal) + '\n\n' + body + '\n'
+        if out_ans:
+            made.append(('Answers.antt', t))
+        else:
+            notes.append(f'{module}: local lemmas without use: {[n for n, _ in rest]}')
+    return made, notes
+
+
+def main(argv):
+    crate, names = argv[0], argv[1]
+    only = set(argv[2:])
+    stem = os.path.basename(os.path.abspath(crate))
+    d = json.load(open(names, encoding='utf-8'))
+    root = os.path.join(crate, 'proofs')
+    for folder, dirs, fs in os.walk(root):
+        if 'Proof.antt' not in fs:
+            continue
+        module = os.path.relpath(folder, root).replace(os.sep, '.')
+        if only and module not in only:
+            continue
+        p = os.path.join(folder, 'Proof.antt')
+        if 'Tie as tie' not in open(p, encoding='utf-8').read():
+            print(f'by hand: {module}: no tie')
+            continue
+        key = f'Rattle-{stem}-proofs.{module}.Lts'
+        if key not in d:
+            print(f'by hand: {module}: not in {names}')
+            continue
+        try:
+            made, notes = convert(folder, module, d[key], stem)
+        except Lost as e:
+            print(f'by hand: {module}: {e}')
+            continue
+        for n in notes:
+            print('look: ' + n)
+        os.remove(p)
+        for name, t in made:
+            with open(os.path.join(folder, name), 'w', encoding='utf-8') as f:
+                f.write(t)
+        if not made:
+            print(f'nothing is left to say: {module}')
+            try:
+                os.removedirs(folder)
+            except OSError:
+                pass
+
+
+if __name__ == '__main__':
+    main(sys.argv[1:])
