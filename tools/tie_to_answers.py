@@ -18,8 +18,58 @@ def norm(name):
     return re.sub(r'[-_]', '', name)
 
 
+def clause_names(root):
+    """The names of the clauses of each function that has two or more of a kind: {'c::m::f': {'ensures': [..], 'requires': [..]}}."""
+    out = {}
+    for folder, _, fs in os.walk(os.path.join(root, 'crates')):
+        if os.path.basename(folder) != 'src':
+            continue
+        crate = os.path.basename(os.path.dirname(folder))
+        for f in fs:
+            if not f.endswith('.rt'):
+                continue
+            mod = '' if f in ('lib.rt', 'main.rt') else f[:-3] + '::'
+            text = open(os.path.join(folder, f), encoding='utf-8').read()
+            for m in re.finditer(r'\bfn (\w+)', text):
+                end = text.find('\n{', m.start())
+                head = text[m.start():end if end > 0 else m.start()]
+                nxt = re.search(r'\bfn ', head[3:])
+                if nxt:
+                    head = head[:nxt.start() + 3]
+                out[f'{crate}::{mod}{m.group(1)}'] = {k: re.findall(rf'(?m)^\s*{k} (\w+) ', head) for k in ('ensures', 'requires')}
+    return out
+
+
+CLAUSES = {}
+
+
+def named(text, names):
+    """A tuple as a record of the clauses' names."""
+    t = text.strip()
+    if not (t.startswith('(') and t.endswith(')')):
+        return text
+    depth, parts, word = 0, [], ''
+    for k, ch in enumerate(t[1:-1]):
+        depth += ch in '([{'
+        depth -= ch in ')]}'
+        if depth < 0:
+            return text
+        if ch == ',' and depth == 0:
+            parts.append(word)
+            word = ''
+        else:
+            word += ch
+    parts.append(word)
+    if len(parts) != len(names):
+        return text
+    return ' record { ' + '; '.join(f'{n} = {p.strip()}' for n, p in zip(names, parts)) + ' }'
+
+
 class Walk:
     def __init__(self, e):
+        self.callee = {p[0]: p[3] for p in e['places']}
+        self.pre = (e.get('pre') or {}).get('fields') or []
+        self.asked = e.get('asked') or {}
         self.places = {p[0]: (p[1], p[2]) for p in e['places']}
         self.order = [p[0] for p in e['places']]
         self.arms = dict(zip(self.order, e.get('arms') or []))
@@ -48,7 +98,16 @@ def path(walk, place, n, parts):
     chain = walk.above(place)
     head, rest = parts[0], parts[1:]
     if head in ('args', 'requires', 'ranges', 'lifetimes', 'utf8', 'pre'):
-        return 'c.' + '.'.join([head if head != 'pre' else 'requires'] + rest)
+        if head in ('requires', 'pre'):
+            head = 'requires'
+            if rest and rest[0].isdigit() and int(rest[0]) < len(walk.pre):
+                rest = [walk.pre[int(rest[0])]] + rest[1:]
+        return 'c.' + '.'.join([head] + rest)
+    for q in chain:
+        arm = walk.arms.get(q)
+        for field, step, old in (arm[2] if arm else []):
+            if norm(step) == norm(head) and old and rest[:len(old)] == old:
+                return 'c.' + '.'.join([arm[0], field] + rest[len(old):])
     hit = None
     if n < len(chain) and norm(walk.places[chain[n]][1][0]) == norm(head):
         hit = chain[n]
@@ -60,6 +119,13 @@ def path(walk, place, n, parts):
             raise Lost(head)
         hit = min(near, key=lambda p: abs(chain.index(p) - n))
     new = walk.places[hit][1][1]
+    if rest and rest[0] == 'ensures':
+        callee = walk.callee.get(hit) or ''
+        names = CLAUSES.get(callee, {}).get('ensures') or []
+        if rest[1:2] and rest[1].isdigit() and int(rest[1]) < len(names):
+            rest = ['ensures', names[int(rest[1])]] + rest[2:]
+        if rest == ['ensures'] and norm(head).startswith('wrapping'):
+            rest = ['ensures', 'value']
     if rest and rest[0] == 'given':
         for var, step in walk.typed.get(place) or []:
             if norm(step) == norm(walk.places[hit][1][0]):
@@ -284,6 +350,12 @@ def convert(folder, module, e, stem):
         if not unf and re.fullmatch(r'\s*search rules\s*', expr):
             continue
         expr, lost = turned(expr, walk, place)
+        if new in walk.asked:
+            expr = named(expr, walk.asked[new])
+        if new.startswith('returns'):
+            mine = CLAUSES.get(stem + '::' + module.replace('.', '::'), {}).get('ensures') or []
+            if len(mine) > 1:
+                expr = named(expr, mine)
         if lost:
             notes.append(f'{module}: {new}: lost {", ".join(lost)}')
         out_ans.append('\n'.join(said + [f'pub {new} : goal.{new}'] + ([unf.rstrip()] if unf else []) + [f'{new} c ={expr}']))
@@ -332,6 +404,7 @@ def main(argv):
     only = set(argv[2:])
     stem = os.path.basename(os.path.abspath(crate))
     d = json.load(open(names, encoding='utf-8'))
+    CLAUSES.update(clause_names(os.path.dirname(os.path.dirname(os.path.abspath(crate)))))
     root = os.path.join(crate, 'proofs')
     for folder, dirs, fs in os.walk(root):
         if 'Proof.antt' not in fs:

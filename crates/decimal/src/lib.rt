@@ -1,4 +1,6 @@
 // Numbers as decimal text: read with a limit, and written into a lent slice from a place on.
+#![tactic(auto)]
+
 ghost use Rattle.std.specs.Prelude.{◌≡◌};
 ghost use Rattle.decimal.specs.Read.{value_in, number_to, more};
 

@@ -1,4 +1,6 @@
 // The record writer of listings: a record is laid whole at the start of the lent bytes, or not at all.
+#![tactic(auto)]
+
 ghost use Rattle.std.specs.Prelude.{[], ◌∷◌, length};
 ghost use Rattle.rules.specs.Listing.{dirent};
 ghost use Rattle.dirent.specs.Lays.{Lays};

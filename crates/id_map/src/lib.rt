@@ -1,4 +1,6 @@
 // Ids: one range mapped out and back, by a difference that wraps in 32 bits on purpose.
+#![tactic(auto)]
+
 ghost use Rattle.std.specs.Prelude.{◌≡◌};
 ghost use Rattle.rules.specs.Ids.{bad_mapping, wrapped, unwrapped};
 ghost use Rattle.id_map.specs.Mapping.{mapping_of};

@@ -1,4 +1,6 @@
 // The indexes: 256 slots and the counter from which the search for a free one starts.
+#![tactic(auto)]
+
 ghost use Rattle.std.specs.Prelude.{◌≡◌};
 ghost use Rattle.rules.specs.Round.{free_of, allocate};
 ghost use Rattle.index.specs.Slots.{held_in_column, New};

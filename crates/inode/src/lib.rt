@@ -1,4 +1,6 @@
 // Full inode numbers, and the numbers of nodes and of backends, each a type of its own: neither stands for a full number without the conversion (R8).
+#![tactic(auto)]
+
 ghost use Rattle.std.specs.Prelude.{◌≡◌, eqb};
 ghost use Rattle.rules.specs.Numbers.{or_zero, index_of, number_of};
 ghost use Rattle.inode.specs.Converted.{full_of, Converts};

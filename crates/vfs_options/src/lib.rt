@@ -1,4 +1,5 @@
 // The options of an instance: what creation takes, the header holds, a query tells, and a saved state keeps.
+#![tactic(auto)]
 
 // The options: the words of option bits, their own mapping, and the flags (R27).
 #[derive(Drop)]
