@@ -1,6 +1,8 @@
 // Reads byte strings, one to a line in hex digits, and writes a line for each: where its well-formed UTF-8 ends, whether
 // that is all of it, whether it has a leading slash, whether it is too long, the number of the component check, and its
 // components: START+LENGTH for a name, START^ for a parent.
+#![tactic(auto)]
+
 use path::components::Component;
 use path::names::Checked;
 
