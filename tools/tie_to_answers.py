@@ -43,26 +43,49 @@ def clause_names(root):
 CLAUSES = {}
 
 
-def named(text, names):
-    """A tuple as a record of the clauses' names."""
+def pieces(text):
+    """The parts of a tuple, or None."""
     t = text.strip()
     if not (t.startswith('(') and t.endswith(')')):
-        return text
+        return None
     depth, parts, word = 0, [], ''
-    for k, ch in enumerate(t[1:-1]):
+    for ch in t[1:-1]:
         depth += ch in '([{'
         depth -= ch in ')]}'
         if depth < 0:
-            return text
+            return None
         if ch == ',' and depth == 0:
             parts.append(word)
             word = ''
         else:
             word += ch
-    parts.append(word)
-    if len(parts) != len(names):
+    return parts + [word] if parts else None
+
+
+def named(text, names):
+    """A tuple, or pairs in pairs, as a record of the clauses' names."""
+    parts = pieces(text)
+    while parts and len(parts) < len(names):
+        last = pieces(parts[-1])
+        if not last:
+            return text
+        parts = parts[:-1] + last
+    if not parts or len(parts) != len(names):
         return text
     return ' record { ' + '; '.join(f'{n} = {p.strip()}' for n, p in zip(names, parts)) + ' }'
+
+
+def picked(rest, names):
+    """A path into pairs in pairs, `1.0.x`, as `NAME.x`."""
+    k = 0
+    while rest and rest[0] == '1' and k < len(names) - 1:
+        k += 1
+        rest = rest[1:]
+    if k < len(names) - 1:
+        if rest[:1] != ['0']:
+            return None
+        rest = rest[1:]
+    return [names[k]] + rest
 
 
 class Walk:
@@ -102,8 +125,8 @@ def path(walk, place, n, parts):
     if head in ('args', 'requires', 'ranges', 'lifetimes', 'utf8', 'pre'):
         if head in ('requires', 'pre'):
             head = 'requires'
-            if rest and rest[0].isdigit() and int(rest[0]) < len(walk.pre):
-                rest = [walk.pre[int(rest[0])]] + rest[1:]
+            if len(walk.pre) > 1 and rest and rest[0].isdigit():
+                rest = picked(rest, walk.pre) or rest
         return 'c.' + '.'.join([head] + rest)
     for q in chain:
         arm = walk.arms.get(q)
@@ -124,8 +147,8 @@ def path(walk, place, n, parts):
     if rest and rest[0] == 'ensures':
         callee = walk.callee.get(hit) or ''
         names = walk.fields.get(hit) or CLAUSES.get(callee, {}).get('ensures') or []
-        if rest[1:2] and rest[1].isdigit() and int(rest[1]) < len(names) and len(names) > 1:
-            rest = ['ensures', names[int(rest[1])]] + rest[2:]
+        if rest[1:2] and rest[1].isdigit() and len(names) > 1:
+            rest = ['ensures'] + (picked(rest[1:], names) or rest[1:])
         elif len(names) == 1:
             rest = ['ensures', names[0]] + rest[1:]
     if rest and rest[0] == 'given':
@@ -302,7 +325,7 @@ def convert(folder, module, e, stem):
     kept = []
     for name, b in locals_:
         s = signature(b) if name else None
-        m = s and re.match(r"(?:\((\w+) : )?tie\.([^\s(){}.;,]+)([^→)]*)\)? → (.*)", s[1], re.S)
+        m = s and re.match(r"(?:\((\w+) : )?tie\.([^\s(){}.;,]+)([^→)]*)\)? → ?(.*)", s[1], re.S)
         if not m:
             kept.append((name, b))
             continue
