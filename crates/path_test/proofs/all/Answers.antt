@@ -2,7 +2,6 @@
 use native.Mathlib.Nat.{le_of_lt}
 use native.Mathlib.Omega.{arith}
 use Rattle.path.proofs.Words.{end_in}
-use Prim.Native.Nat.{◌-◌}
 use Rattle.path_test.proofs.all.Goals as goal
 
 pub overflow_add-at : goal.overflow_add-at

@@ -1,5 +1,4 @@
 -- `path_test::components` ends: each step goes further. Assumes nothing.
-use Prim.Native.Nat.{◌-◌}
 use native.Mathlib.Omega.{arith}
 use Rattle.path.proofs.Steps.{step_of}
 use Rattle.path_test.proofs.components.Goals as goal

@@ -1,5 +1,4 @@
 -- `test_expand::expanded` meets its contract. The invariant: n bytes stand, and with the rest of the line the whole text will. Assumes nothing.
-use Prim.Native.Nat.{◌-◌}
 use mathlib.Core.Path.{refl}
 use Rattle.test_words.proofs.Filling.{rest_all, ended, run_more}
 use Rattle.test_expand.proofs.Expanding.{line_past, line_plain, line_number}

@@ -1,5 +1,4 @@
 -- `test_expand::put_run` meets its contract. The invariant: k bytes stand, and with what is left of s the whole run will. Assumes nothing.
-use Prim.Native.Nat.{◌-◌}
 use mathlib.Core.Path.{refl}
 use native.Mathlib.Numerals.{add-one}
 use lib.ListN.{drop_of_length-le}

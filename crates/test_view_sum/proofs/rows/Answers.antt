@@ -1,5 +1,4 @@
 -- `test_view_sum::rows` meets its contract. The invariant: with the rows that are left it is the sum with all. Assumes nothing.
-use Prim.Native.Nat.{◌-◌}
 use Rattle.test_view_sum.proofs.Viewing.{pieces_all, pieces_more, pieces_end}
 use borrow.Author.Rules.{rules}
 use Rattle.test_view_sum.proofs.rows.Goals as goal

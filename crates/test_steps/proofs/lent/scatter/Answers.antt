@@ -1,5 +1,4 @@
 -- `test_steps::lent::scatter` meets its contract. The invariant: with the bytes that are left to draw all will stand. Assumes nothing.
-use Prim.Native.Nat.{◌-◌}
 use Rattle.test_steps.proofs.Setting.{left_all, left_more, left_none}
 use borrow.Author.Rules.{rules}
 use Rattle.test_steps.proofs.lent.scatter.Goals as goal

@@ -1,5 +1,4 @@
 -- `test_words::hex::pairs` meets its contract. The invariant: n bytes stand, and with what is left to spell the whole text will. Assumes nothing.
-use Prim.Native.Nat.{◌-◌}
 use mathlib.Core.Path.{refl}
 use Rattle.test_words.proofs.Filling.{rest_all, ended, full, one_more}
 use Rattle.test_words.proofs.Spelling.{pairs_past, pairs_stop, pairs_more}

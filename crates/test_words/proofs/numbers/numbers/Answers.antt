@@ -1,5 +1,4 @@
 -- `test_words::numbers::numbers` meets its contract. The invariant: k numbers stand, and with those left to find all of them will. Assumes nothing.
-use Prim.Native.Nat.{◌-◌}
 use native.Mathlib.Nat.{le_of_lt}
 use native.Mathlib.Omega.{arith}
 use mathlib.Core.Path.{sym, ap, ◌∙◌}
@@ -33,8 +32,8 @@ loop-at-smaller c = omega (arith, (end_in _ _ _ c.part_end-end.ensures (le_of_lt
 pub loop-at-preserved : goal.loop-at-preserved
 loop-at-preserved c =
     elim c.match-read.branch [
-    in-Value w ↦ rw (w.r-is, w.k-is) (rest_value _ _ _ _ _ c.part_end-end.ensures _ (sym c.read.ensures ∙ ap value_in w.in-Value.is) (omega (arith, c.if-k-ge8.false)) c.loop-at.invariant)
-    | in-Bad w ↦ rw (w.r-is, w.k-is) (rest_bad _ _ _ _ _ c.part_end-end.ensures (sym c.read.ensures ∙ ap value_in w.in-Bad.is) c.loop-at.invariant)
+      | in-Value w ↦ rw (w.r-is, w.k-is) (rest_value _ _ _ _ _ c.part_end-end.ensures _ (sym c.read.ensures ∙ ap value_in w.in-Value.is) (omega (arith, c.if-k-ge8.false)) c.loop-at.invariant)
+      | in-Bad w ↦ rw (w.r-is, w.k-is) (rest_bad _ _ _ _ _ c.part_end-end.ensures (sym c.read.ensures ∙ ap value_in w.in-Bad.is) c.loop-at.invariant)
     ]
 
 pub returns : goal.returns

@@ -1,5 +1,4 @@
 -- `test_words::sums::with_run` meets its contract. The invariant: the sum with the rest is the sum with all. Assumes nothing.
-use Prim.Native.Nat.{◌-◌}
 use mathlib.Core.Path.{refl}
 use Rattle.test_words.proofs.Summing.{sum_past, sum_more}
 use Rattle.test_words.proofs.sums.with_run.Goals as goal
