@@ -63,7 +63,10 @@ def pieces(text):
 
 
 def named(text, names):
-    """A tuple, or pairs in pairs, as a record of the clauses' names."""
+    """A tuple, or pairs in pairs, as a record of the clauses' names; behind `let`s too."""
+    m = re.match(r'(\s*let .* in\s+)(\(.*\)\s*)$', text, re.S)
+    if m and pieces(m.group(2)):
+        return m.group(1) + named(m.group(2), names).strip()
     parts = pieces(text)
     while parts and len(parts) < len(names):
         last = pieces(parts[-1])
@@ -121,7 +124,7 @@ def path(walk, place, n, parts):
     if not parts:
         return 'c'
     chain = walk.above(place)
-    head, rest = parts[0], parts[1:]
+    head, rest = parts[0], [re.sub(r'-(?!\d)', '_', p) for p in parts[1:]]
     if head in ('args', 'requires', 'ranges', 'lifetimes', 'utf8', 'pre'):
         if head in ('requires', 'pre'):
             head = 'requires'
@@ -134,6 +137,8 @@ def path(walk, place, n, parts):
             if norm(step) == norm(head) and old and rest[:len(old)] == old:
                 return 'c.' + '.'.join([arm[0], field] + rest[len(old):])
     hit = None
+    if head.endswith('_lem') and not any(norm(walk.places[p][1][0]) == norm(head) for p in chain):
+        head = head[:-4]
     if n < len(chain) and norm(walk.places[chain[n]][1][0]) == norm(head):
         hit = chain[n]
     if hit is None:
@@ -157,6 +162,8 @@ def path(walk, place, n, parts):
                 return 'c.' + '.'.join(['type_inv', var] + rest[1:])
         if rest[1:2] in (['1'], ['0']) and walk.arms.get(hit):
             return 'c.' + '.'.join([new, 'is'] + rest[2:])
+    if new.startswith('if-not-') and rest in (['true'], ['false']):
+        return '(ap not c.' + '.'.join([new] + rest) + ')'
     return 'c.' + '.'.join([new] + rest)
 
 
@@ -298,6 +305,10 @@ def imports(uses, body, own, drop):
                 keep.append(it)
         if keep:
             out.append(f'use {m.group(1)}.{{{", ".join(keep)}}}')
+    had = {w.strip() for u in out for w in re.findall(r'\{(.*)\}', u)[:1] for w in w.split(',')}
+    if 'ap not c.' in body:
+        out += [] if 'ap' in had else ['use mathlib.Core.Path.{ap}']
+        out += [] if 'not' in had else ['use mathlib.Core.Bool.{not}']
     return out
 
 
