@@ -142,7 +142,7 @@ def path(walk, place, n, parts):
     if n < len(chain) and norm(walk.places[chain[n]][1][0]) == norm(head):
         hit = chain[n]
     if hit is None:
-        near = [p for p in chain if norm(walk.places[p][1][0]) == norm(head)]
+        near = [p for p in chain if norm(walk.places[p][1][0]).lower() == norm(head).lower()]
         if not near:
             near = [p for p in chain if re.sub(r'\d+$', '', norm(walk.places[p][1][0])) == re.sub(r'\d+$', '', norm(head))]
         if not near:
@@ -333,6 +333,38 @@ def convert(folder, module, e, stem):
     if spec is None:
         raise Lost('no tie.spec')
     unfolded = {}
+    spread = []
+    for name, b in locals_:
+        m = re.match(r"((?:--[^\n]*\n)*)module _ \((\w+) : (tie\.[^)]*)\) where\n(.*)", b, re.S)
+        if not m:
+            spread.append((name, b))
+            continue
+        inner = [q for q in re.split(r'\n{2,}(?=  \S)', re.sub(r'(?m)^  ', '', m.group(4)).strip('\n').replace('\n\n', '\n\n  ')) if q.strip()]
+        inner = [re.sub(r'(?m)^  (?=\S)', '', q, count=0) if q.startswith('  ') else q for q in inner]
+        ways = {}
+        for q in inner:
+            s = signature(q)
+            w = s and s[1].startswith('tie.') and re.match(rf"{re.escape(s[0])} = ({re.escape(m.group(2))}(?:\.before)*)$", '\n'.join(s[4]).strip())
+            if w:
+                ways[s[0]] = w.group(1)
+        inner = [q for q in inner if not (signature(q) and signature(q)[0] in ways)]
+        for a, w in ways.items():
+            inner = [re.sub(rf"(?<![\w.'-]){re.escape(a)}(?![\w'-])", w, q) for q in inner]
+        mine = [signature(q)[0] for q in inner if signature(q)]
+        for q in inner:
+            s = signature(q)
+            if not s:
+                notes0.append(f'{module}: in a module, not read: {q[:60]}')
+                continue
+            lines = [l for l in q.split('\n') if not l.startswith('--')]
+            kind = 'abbrev ' if 'abbrev' in s[3] else ''
+            text = '\n'.join(lines)
+            text = re.sub(rf'^((?:pub |abbrev |unfoldable )*){re.escape(s[0])} : ', lambda w: f'{kind}{s[0]} : ({m.group(2)} : {m.group(3)}) → ', text)
+            text = re.sub(rf'(?m)^{re.escape(s[0])}(?=(?: [^:=\s]+)* =)', f'{s[0]} {m.group(2)}', text)
+            for other in mine:
+                text = re.sub(rf"(?<![\w.'-]){re.escape(other)}(?![\w'-])(?! {re.escape(m.group(2))}(?![\w.'-]))(?! :)", f'({other} {m.group(2)})', text) if other != s[0] else text
+            spread.append((s[0], text))
+    locals_ = spread
     kept = []
     for name, b in locals_:
         s = signature(b) if name else None
