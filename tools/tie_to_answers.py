@@ -63,7 +63,10 @@ def pieces(text):
 
 
 def named(text, names):
-    """A tuple, or pairs in pairs, as a record of the clauses' names."""
+    """A tuple, or pairs in pairs, as a record of the clauses' names; behind `let`s too."""
+    m = re.match(r'(\s*let .* in\s+)(\(.*\)\s*)$', text, re.S)
+    if m and pieces(m.group(2)):
+        return m.group(1) + named(m.group(2), names).strip()
     parts = pieces(text)
     while parts and len(parts) < len(names):
         last = pieces(parts[-1])
@@ -121,7 +124,7 @@ def path(walk, place, n, parts):
     if not parts:
         return 'c'
     chain = walk.above(place)
-    head, rest = parts[0], parts[1:]
+    head, rest = parts[0], [re.sub(r'-(?!\d)', '_', p) for p in parts[1:]]
     if head in ('args', 'requires', 'ranges', 'lifetimes', 'utf8', 'pre'):
         if head in ('requires', 'pre'):
             head = 'requires'
@@ -134,10 +137,12 @@ def path(walk, place, n, parts):
             if norm(step) == norm(head) and old and rest[:len(old)] == old:
                 return 'c.' + '.'.join([arm[0], field] + rest[len(old):])
     hit = None
+    if head.endswith('_lem') and not any(norm(walk.places[p][1][0]) == norm(head) for p in chain):
+        head = head[:-4]
     if n < len(chain) and norm(walk.places[chain[n]][1][0]) == norm(head):
         hit = chain[n]
     if hit is None:
-        near = [p for p in chain if norm(walk.places[p][1][0]) == norm(head)]
+        near = [p for p in chain if norm(walk.places[p][1][0]).lower() == norm(head).lower()]
         if not near:
             near = [p for p in chain if re.sub(r'\d+$', '', norm(walk.places[p][1][0])) == re.sub(r'\d+$', '', norm(head))]
         if not near:
@@ -157,6 +162,8 @@ def path(walk, place, n, parts):
                 return 'c.' + '.'.join(['type_inv', var] + rest[1:])
         if rest[1:2] in (['1'], ['0']) and walk.arms.get(hit):
             return 'c.' + '.'.join([new, 'is'] + rest[2:])
+    if new.startswith('if-not-') and rest in (['true'], ['false']):
+        return '(ap not c.' + '.'.join([new] + rest) + ')'
     return 'c.' + '.'.join([new] + rest)
 
 
@@ -298,6 +305,10 @@ def imports(uses, body, own, drop):
                 keep.append(it)
         if keep:
             out.append(f'use {m.group(1)}.{{{", ".join(keep)}}}')
+    had = {w.strip() for u in out for w in re.findall(r'\{(.*)\}', u)[:1] for w in w.split(',')}
+    if 'ap not c.' in body:
+        out += [] if 'ap' in had else ['use mathlib.Core.Path.{ap}']
+        out += [] if 'not' in had else ['use mathlib.Core.Bool.{not}']
     return out
 
 
@@ -322,6 +333,38 @@ def convert(folder, module, e, stem):
     if spec is None:
         raise Lost('no tie.spec')
     unfolded = {}
+    spread = []
+    for name, b in locals_:
+        m = re.match(r"((?:--[^\n]*\n)*)module _ \((\w+) : (tie\.[^)]*)\) where\n(.*)", b, re.S)
+        if not m:
+            spread.append((name, b))
+            continue
+        inner = [q for q in re.split(r'\n{2,}(?=  \S)', re.sub(r'(?m)^  ', '', m.group(4)).strip('\n').replace('\n\n', '\n\n  ')) if q.strip()]
+        inner = [re.sub(r'(?m)^  (?=\S)', '', q, count=0) if q.startswith('  ') else q for q in inner]
+        ways = {}
+        for q in inner:
+            s = signature(q)
+            w = s and s[1].startswith('tie.') and re.match(rf"{re.escape(s[0])} = ({re.escape(m.group(2))}(?:\.before)*)$", '\n'.join(s[4]).strip())
+            if w:
+                ways[s[0]] = w.group(1)
+        inner = [q for q in inner if not (signature(q) and signature(q)[0] in ways)]
+        for a, w in ways.items():
+            inner = [re.sub(rf"(?<![\w.'-]){re.escape(a)}(?![\w'-])", w, q) for q in inner]
+        mine = [signature(q)[0] for q in inner if signature(q)]
+        for q in inner:
+            s = signature(q)
+            if not s:
+                notes0.append(f'{module}: in a module, not read: {q[:60]}')
+                continue
+            lines = [l for l in q.split('\n') if not l.startswith('--')]
+            kind = 'abbrev ' if 'abbrev' in s[3] else ''
+            text = '\n'.join(lines)
+            text = re.sub(rf'^((?:pub |abbrev |unfoldable )*){re.escape(s[0])} : ', lambda w: f'{kind}{s[0]} : ({m.group(2)} : {m.group(3)}) → ', text)
+            text = re.sub(rf'(?m)^{re.escape(s[0])}(?=(?: [^:=\s]+)* =)', f'{s[0]} {m.group(2)}', text)
+            for other in mine:
+                text = re.sub(rf"(?<![\w.'-]){re.escape(other)}(?![\w'-])(?! {re.escape(m.group(2))}(?![\w.'-]))(?! :)", f'({other} {m.group(2)})', text) if other != s[0] else text
+            spread.append((s[0], text))
+    locals_ = spread
     kept = []
     for name, b in locals_:
         s = signature(b) if name else None

@@ -1,4 +1,6 @@
 // The pseudo tree: the walk along a path, and the entry of a node.
+#![tactic(auto)]
+
 ghost use Rattle.std.specs.Prelude.{◌≡◌};
 ghost use Rattle.rules.specs.Instance.{Instance};
 ghost use Rattle.rules.specs.Reached.{walk_rule};

@@ -1,4 +1,6 @@
 // The bytes that a host lends: the layout rule's test, creation, and the calls on the header alone (docs/LAYOUT.md).
+#![tactic(auto)]
+
 ghost use Rattle.std.specs.Prelude.{◌≡◌, cond, [], ◌∷◌, ◌≤◌, length};
 ghost use Rattle.le.specs.Mem.{write, bytes_of};
 ghost use Rattle.rules.specs.Create.{too_small, bad_options};
