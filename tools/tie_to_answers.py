@@ -492,10 +492,10 @@ def convert(folder, module, e, stem):
                 had = unf.split() if unf else []
                 unf = 'unfolding ' + ' '.join((had[1:] if had else []) + [u for u in un if u not in had]) + '\n'
         expr, lost = turned(expr, walk, place)
-        if new in walk.asked:
+        fs = walk.asked.get(old) or walk.asked.get(new)
+        if fs:
             was = expr
-            expr = named(expr, walk.asked[new])
-            fs = walk.asked[new]
+            expr = named(expr, fs)
             if expr == was and len(fs) > 1 and not re.match(r'\s*(search|omega|record|grind|let .*\brecord\b)', expr, re.S):
                 way = ['all' + '.1' * k + ('.0' if k < len(fs) - 1 else '') for k in range(len(fs))]
                 expr = f'\n    let all ={expr} in record {{ ' + '; '.join(f'{f} = {w}' for f, w in zip(fs, way)) + ' }'
