@@ -229,6 +229,14 @@ def turned(expr, walk, place):
 
     expr = re.sub(r"(?<![\w.'])(" + '|'.join(map(re.escape, alias)) + r")((?:\.[^\s.(){},;]+)+)", one, expr)
     expr = re.sub(r'\x00(\d+)\x00', lambda m: held[int(m.group(1))], expr)
+    expr = re.sub(r', c\.known_told[\w.-]*\.is(?=[,)])', '', expr)
+
+    def plain(m):
+        if m.group(1) == 'c' or m.group(1) == 'goal':
+            return m.group(0)
+        return m.group(1) + re.sub(r'-(?=[a-z])', '_', m.group(2))
+
+    expr = re.sub(r"(?<![\w.'«-])([\w']+|\))((?:\.[a-z][\w'-]*)+)", plain, expr)
     return expr, lost
 
 

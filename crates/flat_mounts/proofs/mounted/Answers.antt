@@ -12,11 +12,11 @@ returns-in-TooLong c = rw (c.in-TooLong.is, c.no_mount.ensures)
 
 pub returns-in-Inval : goal.returns-in-Inval
 unfolding mounted_told
-returns-in-Inval c = rw (c.in-Inval.is, c.known_told-in-Inval-1.is, c.no_mount-in-Inval.ensures)
+returns-in-Inval c = rw (c.in-Inval.is, c.no_mount-in-Inval.ensures)
 
 pub returns-in-Inode : goal.returns-in-Inode
 unfolding mounted_told
-returns-in-Inode c = rw (c.in-Inode.is, c.known_told-in-Inode-1.is, c.no_mount-in-Inode.ensures)
+returns-in-Inode c = rw (c.in-Inode.is, c.no_mount-in-Inode.ensures)
 
 pub returns-in-NoRoom : goal.returns-in-NoRoom
 unfolding mounted_told
@@ -24,7 +24,7 @@ returns-in-NoRoom c = rw (c.in-NoRoom.is, c.no_mount-in-NoRoom.ensures)
 
 pub returns-in-Full : goal.returns-in-Full
 unfolding mounted_told
-returns-in-Full c = rw (c.in-Full.is, c.known_told-in-Full-1.is, c.no_mount-in-Full.ensures)
+returns-in-Full c = rw (c.in-Full.is, c.no_mount-in-Full.ensures)
 
 pub returns-in-Small : goal.returns-in-Small
 unfolding mounted_told

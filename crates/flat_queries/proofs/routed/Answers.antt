@@ -8,7 +8,7 @@ returns-in-Tree c = rw c.in-Tree.is
 
 pub returns-in-Backend : goal.returns-in-Backend
 unfolding routed_told
-returns-in-Backend c = rw (c.in-Backend.is, c.known_told-in-Backend-1.is)
+returns-in-Backend c = rw (c.in-Backend.is)
 
 pub returns-in-NoEnt : goal.returns-in-NoEnt
 unfolding routed_told

@@ -38,7 +38,7 @@ put_options-requires c = record { bounds = laid_is _ (let it : laid c.args.s.now
 pub overflow_cast-count : goal.overflow_cast-count
 overflow_cast-count c =
     let l = laid_is _ (let it : laid c.args.s.now ≡ true = sym c.is_laid.ensures ∙ not-false _ (ap not c.if-not-is_laid.false) in it) in
-    omega (arith, c.count-count.ensures, l.live, l.few-nodes)
+    omega (arith, c.count-count.ensures, l.live, l.few_nodes)
 
 pub returns : goal.returns
 returns c =
