@@ -1,5 +1,4 @@
 -- `calls_test::sink::answer` is safe and ends: each turn tells one value more. Assumes nothing.
-use Rattle.std.proofs.Common.{◌-◌}
 use Rattle.calls_test.proofs.sink.answer.Goals as goal
 
 pub loop-i-init : goal.loop-i-init
