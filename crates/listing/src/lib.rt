@@ -9,7 +9,7 @@ ghost use Rattle.dirent.specs.Lays.{Lays};
 ghost use Rattle.listing.specs.Listed.{Lists};
 
 // What a listing answers: how many bytes were written, NOENT or SMALL.
-#[derive(Drop)]
+#[derive(Clone, Copy)]
 pub enum Listed {
     Wrote(usize),
     NoEnt,

@@ -10,7 +10,7 @@ use tables::rows::Row;
 use tables::slots::Tag;
 
 // The tag found on the node, and the tag then still in the slot of the new index.
-#[derive(Drop)]
+#[derive(Clone, Copy)]
 pub struct Tags {
     pub replaced: Tag,
     pub displaced: Tag,

@@ -15,7 +15,7 @@ use path::components::Component;
 use tables::rows::{Found, Row};
 
 // There is room: the node where the path ends, and how many nodes are to be made. Or there is none.
-#[derive(Drop)]
+#[derive(Clone, Copy)]
 pub enum Planned {
     Fits { node: u64, count: usize },
     NoRoom,

@@ -15,7 +15,7 @@ use vfs_options::VfsOptions;
 pub mod inner;
 
 // The answer of creation (R26).
-#[derive(Drop)]
+#[derive(Clone, Copy)]
 pub enum Created {
     Done,
     Small,
@@ -24,21 +24,21 @@ pub enum Created {
 }
 
 // The answer of the setting of `remove_pseudo_root` (R32).
-#[derive(Drop)]
+#[derive(Clone, Copy)]
 pub enum Removal {
     Done,
     Small,
 }
 
 // Whether the instance is initialized (R33).
-#[derive(Drop)]
+#[derive(Clone, Copy)]
 pub enum IsInitialized {
     Is(bool),
     Small,
 }
 
 // The options of an instance (R33).
-#[derive(Drop)]
+#[derive(Clone, Copy)]
 pub enum OptionsOf {
     Options(VfsOptions),
     Small,
