@@ -11,5 +11,5 @@ def dependencies():
         for line in f:
             name, colon, deps = line.split("#")[0].partition(":")
             if colon:
-                out[name.strip()] = deps.split()
+                out[name.split()[0]] = deps.split()
     return out
