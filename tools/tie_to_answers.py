@@ -43,31 +43,59 @@ def clause_names(root):
 CLAUSES = {}
 
 
-def named(text, names):
-    """A tuple as a record of the clauses' names."""
+def pieces(text):
+    """The parts of a tuple, or None."""
     t = text.strip()
     if not (t.startswith('(') and t.endswith(')')):
-        return text
+        return None
     depth, parts, word = 0, [], ''
-    for k, ch in enumerate(t[1:-1]):
+    for ch in t[1:-1]:
         depth += ch in '([{'
         depth -= ch in ')]}'
         if depth < 0:
-            return text
+            return None
         if ch == ',' and depth == 0:
             parts.append(word)
             word = ''
         else:
             word += ch
-    parts.append(word)
-    if len(parts) != len(names):
+    return parts + [word] if parts else None
+
+
+def named(text, names):
+    """A tuple, or pairs in pairs, as a record of the clauses' names; behind `let`s too."""
+    m = re.match(r'(\s*let .* in\s+)(\(.*\)\s*)$', text, re.S)
+    if m and pieces(m.group(2)):
+        return m.group(1) + named(m.group(2), names).strip()
+    parts = pieces(text)
+    while parts and len(parts) < len(names):
+        last = pieces(parts[-1])
+        if not last:
+            return text
+        parts = parts[:-1] + last
+    if not parts or len(parts) != len(names):
         return text
     return ' record { ' + '; '.join(f'{n} = {p.strip()}' for n, p in zip(names, parts)) + ' }'
+
+
+def picked(rest, names):
+    """A path into pairs in pairs, `1.0.x`, as `NAME.x`."""
+    k = 0
+    while rest and rest[0] == '1' and k < len(names) - 1:
+        k += 1
+        rest = rest[1:]
+    if k < len(names) - 1:
+        if rest[:1] != ['0']:
+            return None
+        rest = rest[1:]
+    return [names[k]] + rest
 
 
 class Walk:
     def __init__(self, e):
         self.callee = {p[0]: p[3] for p in e['places']}
+        self.fields = {p[0]: (c or {}).get('fields') or [] for p, c in zip(e['places'], e.get('clauses') or [])}
+        self.helpers = {}
         self.pre = (e.get('pre') or {}).get('fields') or []
         self.asked = e.get('asked') or {}
         self.places = {p[0]: (p[1], p[2]) for p in e['places']}
@@ -96,12 +124,12 @@ def path(walk, place, n, parts):
     if not parts:
         return 'c'
     chain = walk.above(place)
-    head, rest = parts[0], parts[1:]
+    head, rest = parts[0], [re.sub(r'-(?!\d)', '_', p) for p in parts[1:]]
     if head in ('args', 'requires', 'ranges', 'lifetimes', 'utf8', 'pre'):
         if head in ('requires', 'pre'):
             head = 'requires'
-            if rest and rest[0].isdigit() and int(rest[0]) < len(walk.pre):
-                rest = [walk.pre[int(rest[0])]] + rest[1:]
+            if len(walk.pre) > 1 and rest and rest[0].isdigit():
+                rest = picked(rest, walk.pre) or rest
         return 'c.' + '.'.join([head] + rest)
     for q in chain:
         arm = walk.arms.get(q)
@@ -109,10 +137,12 @@ def path(walk, place, n, parts):
             if norm(step) == norm(head) and old and rest[:len(old)] == old:
                 return 'c.' + '.'.join([arm[0], field] + rest[len(old):])
     hit = None
+    if head.endswith('_lem') and not any(norm(walk.places[p][1][0]) == norm(head) for p in chain):
+        head = head[:-4]
     if n < len(chain) and norm(walk.places[chain[n]][1][0]) == norm(head):
         hit = chain[n]
     if hit is None:
-        near = [p for p in chain if norm(walk.places[p][1][0]) == norm(head)]
+        near = [p for p in chain if norm(walk.places[p][1][0]).lower() == norm(head).lower()]
         if not near:
             near = [p for p in chain if re.sub(r'\d+$', '', norm(walk.places[p][1][0])) == re.sub(r'\d+$', '', norm(head))]
         if not near:
@@ -121,24 +151,26 @@ def path(walk, place, n, parts):
     new = walk.places[hit][1][1]
     if rest and rest[0] == 'ensures':
         callee = walk.callee.get(hit) or ''
-        names = CLAUSES.get(callee, {}).get('ensures') or []
-        if rest[1:2] and rest[1].isdigit() and int(rest[1]) < len(names):
-            rest = ['ensures', names[int(rest[1])]] + rest[2:]
-        if rest == ['ensures'] and norm(head).startswith('wrapping'):
-            rest = ['ensures', 'value']
+        names = walk.fields.get(hit) or CLAUSES.get(callee, {}).get('ensures') or []
+        if rest[1:2] and rest[1].isdigit() and len(names) > 1:
+            rest = ['ensures'] + (picked(rest[1:], names) or rest[1:])
+        elif len(names) == 1:
+            rest = ['ensures', names[0]] + rest[1:]
     if rest and rest[0] == 'given':
         for var, step in walk.typed.get(place) or []:
             if norm(step) == norm(walk.places[hit][1][0]):
                 return 'c.' + '.'.join(['type_inv', var] + rest[1:])
         if rest[1:2] in (['1'], ['0']) and walk.arms.get(hit):
             return 'c.' + '.'.join([new, 'is'] + rest[2:])
+    if new.startswith('if-not-') and rest in (['true'], ['false']):
+        return '(ap not c.' + '.'.join([new] + rest) + ')'
     return 'c.' + '.'.join([new] + rest)
 
 
 def turned(expr, walk, place):
     """The expression with today's paths."""
     alias = {'c': 0}
-    lost = []
+    lost, held = [], []
 
     def strip(m):
         alias[m.group(1)] = alias[m.group(2)] + m.group(3).count('.before')
@@ -150,6 +182,28 @@ def turned(expr, walk, place):
         if new == expr:
             break
         expr = new
+
+    for name, (where, kind, params, body) in walk.helpers.items():
+        pat = re.compile(rf"(\()?(?<![\w.'-]){re.escape(name)} (" + '|'.join(map(re.escape, alias)) + r")((?:\.before)*)(?![\w.'-])(\))?")
+
+        def put(m, where=where, kind=kind, params=params, body=body, name=name):
+            inner, gone = turned(body, walk, where)
+            lost.extend(gone)
+            if kind is not None:
+                said, gone = turned(kind, walk, where)
+                lost.extend(gone)
+                lam = f'λ {" ".join(params)}. ' if params else ''
+                inner = f'let it : {said.strip()} = {lam}{inner.strip()} in it'
+            elif params:
+                inner = f'λ {" ".join(params)}. {inner.strip()}'
+            inner = '(' + inner.strip() + ')' if ' ' in inner.strip() else inner.strip()
+            held.append(inner)
+            mark = f'\x00{len(held) - 1}\x00'
+            if m.group(1) and m.group(4):
+                return mark if inner.startswith('(') else '(' + mark + ')'
+            return (m.group(1) or '') + mark + (m.group(4) or '')
+
+        expr = pat.sub(put, expr)
 
     def one(m):
         n, parts = alias[m.group(1)], m.group(2)[1:].split('.')
@@ -163,6 +217,7 @@ def turned(expr, walk, place):
             return 'c.«?' + str(e) + '»' + ''.join('.' + p for p in parts[1:])
 
     expr = re.sub(r"(?<![\w.'])(" + '|'.join(map(re.escape, alias)) + r")((?:\.[^\s.(){},;]+)+)", one, expr)
+    expr = re.sub(r'\x00(\d+)\x00', lambda m: held[int(m.group(1))], expr)
     return expr, lost
 
 
@@ -250,6 +305,10 @@ def imports(uses, body, own, drop):
                 keep.append(it)
         if keep:
             out.append(f'use {m.group(1)}.{{{", ".join(keep)}}}')
+    had = {w.strip() for u in out for w in re.findall(r'\{(.*)\}', u)[:1] for w in w.split(',')}
+    if 'ap not c.' in body:
+        out += [] if 'ap' in had else ['use mathlib.Core.Path.{ap}']
+        out += [] if 'not' in had else ['use mathlib.Core.Bool.{not}']
     return out
 
 
@@ -258,6 +317,7 @@ def convert(folder, module, e, stem):
     text = open(p, encoding='utf-8').read()
     head, uses, parts = blocks(text)
     walk = Walk(e)
+    notes0 = []
     invs, answers, locals_, spec = [], {}, [], None
     for b in parts:
         if 'tie.spec' in b and re.search(r'tie\.close', b):
@@ -266,12 +326,79 @@ def convert(folder, module, e, stem):
         s = signature(b)
         if s and re.match(r'tie\.(invariant|decreases|ghost|InvT|MeasureT)', s[1]):
             invs.append(s)
-        elif s and s[1].startswith('tie.'):
+        elif s and s[1].startswith('tie.Need'):
             answers[s[0]] = s
         else:
             locals_.append((s[0] if s else None, b))
     if spec is None:
         raise Lost('no tie.spec')
+    unfolded = {}
+    spread = []
+    for name, b in locals_:
+        m = re.match(r"((?:--[^\n]*\n)*)module _ \((\w+) : (tie\.[^)]*)\) where\n(.*)", b, re.S)
+        if not m:
+            spread.append((name, b))
+            continue
+        inner = [q for q in re.split(r'\n{2,}(?=  \S)', re.sub(r'(?m)^  ', '', m.group(4)).strip('\n').replace('\n\n', '\n\n  ')) if q.strip()]
+        inner = [re.sub(r'(?m)^  (?=\S)', '', q, count=0) if q.startswith('  ') else q for q in inner]
+        ways = {}
+        for q in inner:
+            s = signature(q)
+            w = s and s[1].startswith('tie.') and re.match(rf"{re.escape(s[0])} = ({re.escape(m.group(2))}(?:\.before)*)$", '\n'.join(s[4]).strip())
+            if w:
+                ways[s[0]] = w.group(1)
+        inner = [q for q in inner if not (signature(q) and signature(q)[0] in ways)]
+        for a, w in ways.items():
+            inner = [re.sub(rf"(?<![\w.'-]){re.escape(a)}(?![\w'-])", w, q) for q in inner]
+        mine = [signature(q)[0] for q in inner if signature(q)]
+        for q in inner:
+            s = signature(q)
+            if not s:
+                notes0.append(f'{module}: in a module, not read: {q[:60]}')
+                continue
+            lines = [l for l in q.split('\n') if not l.startswith('--')]
+            kind = 'abbrev ' if 'abbrev' in s[3] else ''
+            text = '\n'.join(lines)
+            text = re.sub(rf'^((?:pub |abbrev |unfoldable )*){re.escape(s[0])} : ', lambda w: f'{kind}{s[0]} : ({m.group(2)} : {m.group(3)}) → ', text)
+            text = re.sub(rf'(?m)^{re.escape(s[0])}(?=(?: [^:=\s]+)* =)', f'{s[0]} {m.group(2)}', text)
+            for other in mine:
+                text = re.sub(rf"(?<![\w.'-]){re.escape(other)}(?![\w'-])(?! {re.escape(m.group(2))}(?![\w.'-]))(?! :)", f'({other} {m.group(2)})', text) if other != s[0] else text
+            spread.append((s[0], text))
+    locals_ = spread
+    kept = []
+    for name, b in locals_:
+        s = signature(b) if name else None
+        m = s and re.match(r"(?:\((\w+) : )?tie\.([^\s(){}.;,]+)([^→)]*)\)? → ?(.*)", s[1], re.S)
+        if not m:
+            kept.append((name, b))
+            continue
+        lines = s[4]
+        more = []
+        while lines and not lines[0].startswith(name + ' ') and not lines[0].startswith('unfolding'):
+            more.append(lines[0])
+            lines = lines[1:]
+        unf = []
+        while lines and lines[0].startswith('unfolding'):
+            unf += lines[0].split()[1:]
+            lines = lines[1:]
+        eq = re.match(rf'{re.escape(name)}((?: [^=\s]+)*) =(.*)', '\n'.join(lines), re.S)
+        where = next((q for q in walk.order if norm(q) == norm(m.group(2))), None)
+        if not eq or where is None:
+            kept.append((name, b))
+            notes0.append(f'{module}: helper {name} at {m.group(2)} not read')
+            continue
+        params = eq.group(1).split()
+        body, kind = eq.group(2), (m.group(4) + '\n' + '\n'.join(more)).strip()
+        if params and params[0] != 'c':
+            body = re.sub(rf"(?<![\w.'])" + re.escape(params[0]) + r"(?![\w'])", 'c', body)
+        if m.group(1) and m.group(1) != 'c':
+            kind = re.sub(rf"(?<![\w.'])" + re.escape(m.group(1)) + r"(?![\w'])", 'c', kind)
+        if 'abbrev' in s[3]:
+            kind = None
+        walk.helpers[name] = (where, kind, params[1:], body)
+        if unf:
+            unfolded[name] = unf
+    locals_ = kept
     args = spec_arguments(spec)
     count = 2 * len(walk.loops) if invs else 0
     lead = 0
@@ -279,7 +406,7 @@ def convert(folder, module, e, stem):
     while lead < len(args) and args[lead] in names:
         lead += 1
     goals = args[lead:]
-    notes = []
+    notes = notes0
     if len(goals) != len(walk.needs):
         notes.append(f'{module}: {len(goals)} goals then, {len(walk.needs)} now')
     out_inv, out_ans = [], []
@@ -349,6 +476,10 @@ def convert(folder, module, e, stem):
                     continue
         if not unf and re.fullmatch(r'\s*search rules\s*', expr):
             continue
+        for name, un in unfolded.items():
+            if re.search(rf"(?<![\w.'-]){re.escape(name)} c", expr):
+                had = unf.split() if unf else []
+                unf = 'unfolding ' + ' '.join((had[1:] if had else []) + [u for u in un if u not in had]) + '\n'
         expr, lost = turned(expr, walk, place)
         if new in walk.asked:
             expr = named(expr, walk.asked[new])

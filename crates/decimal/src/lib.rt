@@ -7,7 +7,7 @@ ghost use Rattle.decimal.specs.Read.{value_in, number_to, more};
 pub mod inner;
 
 // What reading a decimal answers.
-#[derive(Drop)]
+#[derive(Clone, Copy)]
 pub enum Number {
     Value(u64),
     Bad,

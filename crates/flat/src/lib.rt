@@ -2,14 +2,14 @@
 
 // The answer of a call that has no values.
 #[repr(C)]
-#[derive(Drop)]
+#[derive(Clone, Copy)]
 pub struct CodeAnswer {
     pub code: u32,
 }
 
 // Whether the instance is initialized: 1, or 0 (R33).
 #[repr(C)]
-#[derive(Drop)]
+#[derive(Clone, Copy)]
 pub struct InitializedAnswer {
     pub code: u32,
     pub initialized: u32,
@@ -17,7 +17,7 @@ pub struct InitializedAnswer {
 
 // The options, with their own mapping (R27, R33, R34).
 #[repr(C)]
-#[derive(Drop)]
+#[derive(Clone, Copy)]
 pub struct OptionsAnswer {
     pub code: u32,
     pub flags: u32,
@@ -30,7 +30,7 @@ pub struct OptionsAnswer {
 
 // Of a mount: the index, the count of visited indexes, and the tag replaced where has_replaced is 1 (R75, R78, R79).
 #[repr(C)]
-#[derive(Drop)]
+#[derive(Clone, Copy)]
 pub struct MountAnswer {
     pub code: u32,
     pub fs_idx: u32,
@@ -41,7 +41,7 @@ pub struct MountAnswer {
 
 // Of a restored mount: the tag replaced on the node and the tag displaced from the slot, each where its has_ field is 1 (R93).
 #[repr(C)]
-#[derive(Drop)]
+#[derive(Clone, Copy)]
 pub struct RestoreMountAnswer {
     pub code: u32,
     pub has_replaced: u32,
@@ -52,7 +52,7 @@ pub struct RestoreMountAnswer {
 
 // Of an unmount: the node, its parent, and the tag released where has_released is 1 (R97).
 #[repr(C)]
-#[derive(Drop)]
+#[derive(Clone, Copy)]
 pub struct UmountAnswer {
     pub code: u32,
     pub has_released: u32,
@@ -63,7 +63,7 @@ pub struct UmountAnswer {
 
 // Of a root query: tag and index where has_backend is 1 (R103, R104).
 #[repr(C)]
-#[derive(Drop)]
+#[derive(Clone, Copy)]
 pub struct RootfsAnswer {
     pub code: u32,
     pub has_backend: u32,
@@ -73,7 +73,7 @@ pub struct RootfsAnswer {
 
 // Of a walk: the node where has_node is 1 (R46, R47).
 #[repr(C)]
-#[derive(Drop)]
+#[derive(Clone, Copy)]
 pub struct WalkAnswer {
     pub code: u32,
     pub has_node: u32,
@@ -82,7 +82,7 @@ pub struct WalkAnswer {
 
 // Of routing: to the tree, with the node's number; or, where to_backend is 1, to a backend, with its tag, its index and its own number (R105, R106).
 #[repr(C)]
-#[derive(Drop)]
+#[derive(Clone, Copy)]
 pub struct RouteAnswer {
     pub code: u32,
     pub to_backend: u32,
@@ -93,7 +93,7 @@ pub struct RouteAnswer {
 
 // Of a lookup: the full number and the attributes of what was found (R13, R108, R109).
 #[repr(C)]
-#[derive(Drop)]
+#[derive(Clone, Copy)]
 pub struct LookupAnswer {
     pub code: u32,
     pub mode: u32,
@@ -105,7 +105,7 @@ pub struct LookupAnswer {
 
 // Of a listing and of a save: how many bytes were written (R66, R125).
 #[repr(C)]
-#[derive(Drop)]
+#[derive(Clone, Copy)]
 pub struct WroteAnswer {
     pub code: u32,
     pub written: u64,
@@ -113,7 +113,7 @@ pub struct WroteAnswer {
 
 // Ids after mapping (R118).
 #[repr(C)]
-#[derive(Drop)]
+#[derive(Clone, Copy)]
 pub struct IdsAnswer {
     pub code: u32,
     pub uid: u32,
@@ -122,7 +122,7 @@ pub struct IdsAnswer {
 
 // Of a conversion: the full number (R7).
 #[repr(C)]
-#[derive(Drop)]
+#[derive(Clone, Copy)]
 pub struct InodeAnswer {
     pub code: u32,
     pub inode: u64,

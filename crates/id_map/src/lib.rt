@@ -6,7 +6,7 @@ ghost use Rattle.rules.specs.Ids.{bad_mapping, wrapped, unwrapped};
 ghost use Rattle.id_map.specs.Mapping.{mapping_of};
 
 // One range of ids: the start inside, the start outside, and how many; range 0 means no mapping (R27, R112).
-#[derive(Drop)]
+#[derive(Clone, Copy)]
 pub struct IdMapping {
     pub internal: u32,
     pub external: u32,

@@ -11,7 +11,7 @@ use rules::codes::{DONE, FULL};
 
 // The slots and the counter, of numbers alone, as a host lends them: a slot is held where its occupancy byte is not 0 (R56, R90).
 #[repr(C)]
-#[derive(Drop)]
+#[derive(Clone, Copy)]
 pub struct FsIndexes {
     pub used: [u8; rules::MAX_VFS_INDEX],
     pub tags: [u32; rules::MAX_VFS_INDEX],
@@ -19,14 +19,14 @@ pub struct FsIndexes {
 }
 
 // What a search finds: an index, or FULL.
-#[derive(Drop)]
+#[derive(Clone, Copy)]
 pub enum FsIndex {
     Index(u8),
     Full,
 }
 
 // What a search gives: what it found, how many indexes it visited, and the counter after it.
-#[derive(Drop)]
+#[derive(Clone, Copy)]
 pub struct Allocated {
     pub answer: FsIndex,
     pub count: u32,
@@ -35,7 +35,7 @@ pub struct Allocated {
 
 // The number of the answer, the index or 0, and the count.
 #[repr(C)]
-#[derive(Drop)]
+#[derive(Clone, Copy)]
 pub struct AllocateAnswer {
     pub code: u32,
     pub fs_idx: u32,

@@ -6,19 +6,19 @@ ghost use Rattle.rules.specs.Numbers.{or_zero, index_of, number_of};
 ghost use Rattle.inode.specs.Converted.{full_of, Converts};
 
 // A full inode number: an index and a number below 2^56.
-#[derive(Drop)]
+#[derive(Clone, Copy)]
 pub struct VfsInode(pub u64);
 
 // The number of a node of the tree.
-#[derive(Drop)]
+#[derive(Clone, Copy)]
 pub struct NodeNumber(pub u64);
 
 // A number as a backend has it.
-#[derive(Drop)]
+#[derive(Clone, Copy)]
 pub struct BackendNumber(pub u64);
 
 // What a conversion gives: a full number, or INODE.
-#[derive(Drop)]
+#[derive(Clone, Copy)]
 pub enum Converted {
     Full(VfsInode),
     Inode,

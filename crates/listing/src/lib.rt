@@ -1,4 +1,6 @@
 // The listing of a directory of the tree: records of its children into lent bytes, each behind the one before it.
+#![tactic(auto)]
+
 ghost use Rattle.std.specs.Prelude.{◌≡◌, [], ◌∷◌, ◌≤◌, ◌<◌, min, length, drop};
 ghost use Rattle.rules.specs.Tree.{children_in};
 ghost use Rattle.rules.specs.Listing.{dirent, dirents_from};
@@ -9,7 +11,7 @@ ghost use Rattle.dirent.specs.Lays.{Lays};
 ghost use Rattle.listing.specs.Listed.{Lists};
 
 // What a listing answers: how many bytes were written, NOENT or SMALL.
-#[derive(Drop)]
+#[derive(Clone, Copy)]
 pub enum Listed {
     Wrote(usize),
     NoEnt,

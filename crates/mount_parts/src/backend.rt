@@ -2,7 +2,7 @@
 use inode::BackendNumber;
 
 // A backend as a request brings it: its tag, its root and largest numbers, and its root's ids and mode (R3).
-#[derive(Drop)]
+#[derive(Clone, Copy)]
 pub struct Backend {
     pub tag: u32,
     pub root: BackendNumber,

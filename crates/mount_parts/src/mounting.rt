@@ -14,7 +14,7 @@ use index::{Allocated, FsIndex};
 use tables::slots::Tag;
 
 // What a mount answers: the index, the count and the tag replaced, or a refusal, with its count where it has one.
-#[derive(Drop)]
+#[derive(Clone, Copy)]
 pub enum Mounted {
     Done {
         fs_idx: u8,

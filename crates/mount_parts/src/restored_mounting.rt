@@ -7,7 +7,7 @@ use crate::backend::Backend;
 use tables::slots::Tag;
 
 // What a restored mount answers: the tag replaced on the node and the tag displaced in the slot, or a refusal.
-#[derive(Drop)]
+#[derive(Clone, Copy)]
 pub enum RestoredMount {
     Done { replaced: Tag, displaced: Tag },
     TooLong,

@@ -7,7 +7,7 @@ use crate::eight::any_byte;
 use crate::names::{is_dot, is_dots};
 
 // A component with the place where it starts and the place behind it, or the end of the path (R37).
-#[derive(Drop)]
+#[derive(Clone, Copy)]
 pub enum Component {
     Normal {
         start: usize,

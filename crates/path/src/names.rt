@@ -5,7 +5,7 @@ ghost use Rattle.rules.specs.Path.{is_dot, is_dots};
 ghost use Rattle.path.specs.Checks.{checked_code, check_code};
 
 // What the component check answers (R61).
-#[derive(Drop)]
+#[derive(Clone, Copy)]
 pub enum Checked {
     Done,
     Inval,

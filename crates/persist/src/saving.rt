@@ -7,7 +7,7 @@ use saved_rows::{put_options, put_records, records_size};
 use storage::is_laid;
 
 // What a save answers: how many bytes were written, or SMALL.
-#[derive(Drop)]
+#[derive(Clone, Copy)]
 pub enum Saved {
     Wrote(usize),
     Small,

@@ -4,7 +4,7 @@ ghost use Rattle.persist.specs.StateRestoring.{RestoresState};
 use saved_restore::{has_unknown, is_fresh, is_too_many, put_saved};
 
 // What a state restore answers: done, or a refusal.
-#[derive(Drop)]
+#[derive(Clone, Copy)]
 pub enum StateRestored {
     Done,
     NotFresh,

@@ -1,5 +1,7 @@
 // A mount placed on a node, and taken off it: slot, mount and node are changed together, here and nowhere else. Nothing here is for a host: the layout rule is the
 // condition of each function.
+#![tactic(auto)]
+
 ghost use Rattle.std.specs.Prelude.{◌≡◌, true, ◌<◌, ◌^◌};
 ghost use Rattle.tables.specs.Laid.{laid};
 ghost use Rattle.tables.specs.Answer.{mount_of_point, RowOf};
@@ -10,7 +12,7 @@ use tables::rows::Row;
 use tables::slots::Tag;
 
 // The tag found on the node, and the tag then still in the slot of the new index.
-#[derive(Drop)]
+#[derive(Clone, Copy)]
 pub struct Tags {
     pub replaced: Tag,
     pub displaced: Tag,

@@ -1,6 +1,8 @@
 // The mount walk in two steps: the plan, which only reads the storage, and its application. The nodes to make stand in columns that the caller lends: the parent's
 // number, where the name starts in the path, and how long it is. Each function has as its condition a place within a slice, the layout rule, or what its caller has
 // just found or tested.
+#![tactic(auto)]
+
 ghost use Rattle.std.specs.Prelude.{false, List, ◌++◌, ◌≡◌, ℕ, ◌+◌, ◌^◌, ◌≤◌, ◌<◌, length, get_or};
 ghost use Rattle.rules.specs.Path.{too_long};
 ghost use Rattle.rules.specs.Tree.{is_child, child_in, parent_in};
@@ -15,7 +17,7 @@ use path::components::Component;
 use tables::rows::{Found, Row};
 
 // There is room: the node where the path ends, and how many nodes are to be made. Or there is none.
-#[derive(Drop)]
+#[derive(Clone, Copy)]
 pub enum Planned {
     Fits { node: u64, count: usize },
     NoRoom,

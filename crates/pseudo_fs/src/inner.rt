@@ -17,7 +17,7 @@ use tables::rows::{Found, child_alike, find_child, is_known, next_alike, number,
 use utf8::{is_plain, is_utf8};
 
 // The node that a find in a directory gives, or its refusal.
-#[derive(Drop)]
+#[derive(Clone, Copy)]
 pub enum Finding {
     Node(u64),
     NoEnt,

@@ -1,4 +1,6 @@
 // The pseudo tree: the walk along a path, and the entry of a node.
+#![tactic(auto)]
+
 ghost use Rattle.std.specs.Prelude.{◌≡◌};
 ghost use Rattle.rules.specs.Instance.{Instance};
 ghost use Rattle.rules.specs.Reached.{walk_rule};
@@ -15,7 +17,7 @@ use utf8::is_utf8;
 pub mod inner;
 
 // The first fault of a path, which is INVAL, or none (R15, R36).
-#[derive(Drop)]
+#[derive(Clone, Copy)]
 pub enum PathFault {
     Utf8,
     Slash,
@@ -23,7 +25,7 @@ pub enum PathFault {
 }
 
 // What a walk answers.
-#[derive(Drop)]
+#[derive(Clone, Copy)]
 pub enum PathWalk {
     Node(NodeNumber),
     Nothing,
@@ -32,7 +34,7 @@ pub enum PathWalk {
 }
 
 // The entry of a node that was found.
-#[derive(Drop)]
+#[derive(Clone, Copy)]
 pub struct Entry {
     pub inode: VfsInode,
     pub mode: u32,

@@ -1,4 +1,6 @@
 // The name of a row of the node table: how long it is, its two cells, and its bytes brought together where a caller wants them.
+#![tactic(auto)]
+
 ghost use Rattle.std.specs.Prelude.{◌≡◌, ◌+◌, ◌≤◌, ◌<◌, length};
 ghost use Rattle.le.specs.Mem.{get};
 ghost use Rattle.tables.specs.Layout.{capacity_of, count_of, last_at, first_at};

@@ -1,5 +1,7 @@
 // Saved state: which bytes are accepted. One pass judges all but the pairs of records, then the pairs are judged: by columns
 // of the first 1,023 records, and by scans of the bytes beyond them.
+#![tactic(auto)]
+
 ghost use Rattle.std.specs.Prelude.{◌≡◌, ◌≤◌, [], length};
 ghost use Rattle.rules.specs.Saved.{saved_node_at, saved_nodes_at, behind, good_name, used, accepted};
 ghost use Rattle.saved.specs.Scan.{start_of, earlier, sound, well_placed, all_placed, framed, sound_to, twin};

@@ -1,4 +1,6 @@
 // What a save takes of the storage, put into lent bytes: the records of the rows, and the options of the header.
+#![tactic(auto)]
+
 ghost use Rattle.std.specs.Prelude.{◌≡◌, ◌+◌, ◌≤◌, ◌<◌, length};
 ghost use Rattle.le.specs.Mem.{write};
 ghost use Rattle.rules.specs.Fields.{row_length};

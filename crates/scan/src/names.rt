@@ -4,7 +4,7 @@ ghost use Rattle.le.specs.Mem.{get};
 ghost use Rattle.scan.specs.Key.{ones, mask_of, word_of};
 
 // The cell of a name under its mask.
-#[derive(Drop)]
+#[derive(Clone, Copy)]
 pub struct NameKey {
     pub mask: u64,
     pub word: u64,

@@ -15,14 +15,14 @@ const STORAGE: usize = 512 * NODES + 8192;
 const COPY_FILENO: i32 = 3;
 
 // What a write took, and whether it failed.
-#[derive(Drop)]
+#[derive(Clone, Copy)]
 struct Took {
     count: usize,
     failed: bool,
 }
 
 // Where a read has led: how many bytes of a begun line are kept, and whether the session goes on.
-#[derive(Drop)]
+#[derive(Clone, Copy)]
 struct Stand {
     kept: usize,
     on: bool,

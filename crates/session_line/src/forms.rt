@@ -13,7 +13,7 @@ use session_text::put_question;
 const MAX_TAG: u64 = u32::MAX as u64;
 
 // The three numbers of a mount line, where each is one.
-#[derive(Drop)]
+#[derive(Clone, Copy)]
 enum MountNumbers {
     Numbers { tag: u32, root: u64, largest: u64 },
     Bad,

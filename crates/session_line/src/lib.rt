@@ -7,7 +7,7 @@ ghost use Rattle.session_line.specs.Fields.{FieldEnds, cut_of, two_at, three_at,
 mod forms;
 
 // The places of a line's spaces, where it has two, three or five fields.
-#[derive(Drop)]
+#[derive(Clone, Copy)]
 enum Cut {
     Two {
         a: usize,

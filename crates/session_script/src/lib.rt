@@ -4,7 +4,7 @@ ghost use Rattle.session_script.specs.Step.{Ended, Took};
 ghost use Rattle.session_script.specs.Feed.{Feeds, Finishes};
 
 // What a feed answers: how many bytes of the piece it used, how many it wrote, and how many of a begun line it keeps; refused, it is SMALL (R15).
-#[derive(Drop)]
+#[derive(Clone, Copy)]
 pub enum Fed {
     Went {
         used: usize,
@@ -15,14 +15,14 @@ pub enum Fed {
 }
 
 // What the end of the input answers: how many bytes it wrote; refused, it is SMALL (R15).
-#[derive(Drop)]
+#[derive(Clone, Copy)]
 pub enum Finished {
     Done(usize),
     Refused,
 }
 
 // Where one byte leaves the begun line and the output.
-#[derive(Drop)]
+#[derive(Clone, Copy)]
 struct Next {
     kept: usize,
     at: usize,

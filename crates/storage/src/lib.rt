@@ -1,4 +1,6 @@
 // The bytes that a host lends: the layout rule's test, creation, and the calls on the header alone (docs/LAYOUT.md).
+#![tactic(auto)]
+
 ghost use Rattle.std.specs.Prelude.{◌≡◌, cond, [], ◌∷◌, ◌≤◌, length};
 ghost use Rattle.le.specs.Mem.{write, bytes_of};
 ghost use Rattle.rules.specs.Create.{too_small, bad_options};
@@ -15,7 +17,7 @@ use vfs_options::VfsOptions;
 pub mod inner;
 
 // The answer of creation (R26).
-#[derive(Drop)]
+#[derive(Clone, Copy)]
 pub enum Created {
     Done,
     Small,
@@ -24,21 +26,21 @@ pub enum Created {
 }
 
 // The answer of the setting of `remove_pseudo_root` (R32).
-#[derive(Drop)]
+#[derive(Clone, Copy)]
 pub enum Removal {
     Done,
     Small,
 }
 
 // Whether the instance is initialized (R33).
-#[derive(Drop)]
+#[derive(Clone, Copy)]
 pub enum IsInitialized {
     Is(bool),
     Small,
 }
 
 // The options of an instance (R33).
-#[derive(Drop)]
+#[derive(Clone, Copy)]
 pub enum OptionsOf {
     Options(VfsOptions),
     Small,

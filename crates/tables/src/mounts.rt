@@ -11,7 +11,7 @@ ghost use Rattle.tables.specs.Answer.{mount_of_point, mount_in, RowOf, WithParen
 use crate::rows::Row;
 
 // A mount on a node: its index, the backend's root number, and the root's ids and mode as the request brought them (R3, R76).
-#[derive(Drop)]
+#[derive(Clone, Copy)]
 pub struct MountPoint {
     pub fs_idx: u8,
     pub root: u64,
@@ -21,7 +21,7 @@ pub struct MountPoint {
 }
 
 // The mount on a node, or nothing.
-#[derive(Drop)]
+#[derive(Clone, Copy)]
 pub enum MountOn {
     Point(MountPoint),
     Nothing,
@@ -87,7 +87,7 @@ pub fn of_node(s: &[u8], x: u64) -> MountOn
 }
 
 // The mount on a node, the number of the node's parent, and the node's row; the root's row is nothing.
-#[derive(Drop)]
+#[derive(Clone, Copy)]
 pub struct NodeMount {
     pub mount: MountOn,
     pub parent: u64,

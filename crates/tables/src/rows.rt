@@ -15,14 +15,14 @@ ghost use Rattle.tables.specs.Answer.{found_in, row_in, place_in};
 use scan::names::NameKey;
 
 // The number of a node, or nothing.
-#[derive(Drop)]
+#[derive(Clone, Copy)]
 pub enum Found {
     Node(u64),
     Nothing,
 }
 
 // The place of a row, or nothing.
-#[derive(Drop)]
+#[derive(Clone, Copy)]
 pub enum Row {
     At(usize),
     Nothing,

@@ -7,7 +7,7 @@ ghost use Rattle.tables.specs.Write.{set_held, set_tag, set_slot};
 ghost use Rattle.tables.specs.Answer.{tag_in};
 
 // What a slot holds (R56).
-#[derive(Drop)]
+#[derive(Clone, Copy)]
 pub enum Tag {
     Held(u32),
     Empty,

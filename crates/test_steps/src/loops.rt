@@ -4,7 +4,7 @@ ghost use Rattle.std.specs.Prelude.{◌≡◌};
 ghost use Rattle.test_steps.specs.Nested.{opened, turned_loop, turn_of};
 
 // What the end of a loop answers: its next turn, or that the run goes on behind it.
-#[derive(Drop)]
+#[derive(Clone, Copy)]
 pub enum Turn {
     Again { place: u64, variable: u64 },
     Done,

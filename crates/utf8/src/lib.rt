@@ -1,4 +1,6 @@
 // UTF-8 as in the Unicode standard, table 3-7 (R35).
+#![tactic(auto)]
+
 ghost use Rattle.std.specs.Prelude.{◌≡◌, cond, [], ◌∷◌, ◌<◌, ◌≤◌, length, drop};
 ghost use Rattle.utf8.specs.Plain.{plain_long};
 ghost use Rattle.rules.specs.Utf8.{◌‥◌, fits, sequence, valid_to, well_formed};

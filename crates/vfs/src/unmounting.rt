@@ -12,7 +12,7 @@ use tables::mounts::MountOn;
 use tables::slots::Tag;
 
 // What an unmount answers: the node, its parent and the tag released, or a refusal.
-#[derive(Drop)]
+#[derive(Clone, Copy)]
 pub enum Unmounted {
     Done {
         node: NodeNumber,

@@ -18,7 +18,7 @@ use tables::mounts::{MountOn, MountPoint, of_node, of_root};
 use tables::slots::{Tag, tag_of};
 
 // Where a full number goes: to the tree, or to a backend.
-#[derive(Drop)]
+#[derive(Clone, Copy)]
 pub enum Routed {
     Tree(NodeNumber),
     Backend {
@@ -31,7 +31,7 @@ pub enum Routed {
 }
 
 // What a root query answers.
-#[derive(Drop)]
+#[derive(Clone, Copy)]
 pub enum Rootfs {
     Backend { tag: u32, fs_idx: u8 },
     Nothing,
@@ -41,14 +41,14 @@ pub enum Rootfs {
 }
 
 // Ids after mapping.
-#[derive(Drop)]
+#[derive(Clone, Copy)]
 pub enum Remapped {
     Ids { uid: u32, gid: u32 },
     Small,
 }
 
 // What a lookup answers.
-#[derive(Drop)]
+#[derive(Clone, Copy)]
 pub enum Looked {
     Entry(Entry),
     NoEnt,

@@ -1,0 +1,15 @@
+-- `saved_parts::trailer::counter_of` meets its contract. Assumes nothing.
+use borrow.Author.Rules.{rules}
+use Rattle.rules.specs.Saved.{trailer_counter_field, saved_counter}
+use Rattle.saved_parts.proofs.Gets.{trailer_room, trailer_by}
+use Rattle.saved_parts.proofs.trailer.counter_of.Goals as goal
+
+pub overflow_add-start : goal.overflow_add-start
+overflow_add-start c = let l = trailer_room _ _ c.requires c.start.ensures in search rules
+
+pub get_u8-requires : goal.get_u8-requires
+get_u8-requires c = let l = trailer_room _ _ c.requires c.start.ensures in search rules
+
+pub returns : goal.returns
+unfolding saved_counter
+returns c = trailer_by trailer_counter_field _ _ _ c.start.ensures c.get_u8.ensures

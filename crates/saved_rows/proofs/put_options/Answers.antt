@@ -1,0 +1,5 @@
+-- The options are those of the header. Assumes nothing.
+use Rattle.saved_rows.proofs.put_options.Goals as goal
+
+pub returns : goal.returns
+returns c = rw c.options_in-o.ensures at c.put_options.ensures

@@ -1,0 +1,31 @@
+-- Putting what is left behind what is written gives what putting all gives. Assumes nothing.
+use native.Mathlib.Omega.{arith}
+use Prim.Native.Nat.{◌-◌}
+use Rattle.saved_rows.proofs.SaveRecords.{putting_start, putting_within, putting_done, putting_room, putting_on}
+use borrow.Author.Rules.{rules}
+use Rattle.saved_rows.proofs.put_records.Goals as goal
+
+pub loop-i-init : goal.loop-i-init
+loop-i-init c = putting_start _ _ _ c.count-c.ensures (search rules)
+
+pub slice_bounds-put_record-count : goal.slice_bounds-put_record-count
+slice_bounds-put_record-count c = putting_within _ _ _ _ _ _ c.loop-i.invariant
+
+pub slice_bounds-put_record-start : goal.slice_bounds-put_record-start
+slice_bounds-put_record-start c = let h = putting_within _ _ _ _ _ _ c.loop-i.invariant in search rules
+
+pub put_record-n-requires : goal.put_record-n-requires
+put_record-n-requires c = (search rules, (search rules, putting_room _ _ _ _ _ _ c.loop-i.invariant c.loop-i-test.true))
+
+pub overflow_add-at : goal.overflow_add-at
+overflow_add-at c = omega (arith, putting_within _ _ _ _ _ _ (loop-again c))
+
+pub loop-i-preserved : goal.loop-i-preserved
+loop-i-preserved c =
+    putting_on _ _ _ _ _ _ c.loop-i.invariant c.loop-i-test.true _ _ c.put_record-n.ensures
+
+pub shape_of-out : goal.shape_of-out
+shape_of-out c = c.loop-i.invariant.long
+
+pub returns : goal.returns
+returns c = putting_done _ _ _ _ _ _ c.loop-i.invariant c.loop-i-test.false
