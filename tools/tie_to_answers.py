@@ -183,6 +183,17 @@ def turned(expr, walk, place):
             break
         expr = new
 
+    if len(walk.pre) > 1:
+        needs = {}
+
+        def drop_needs(m):
+            needs[m.group(1)] = True
+            return ''
+
+        expr = re.sub(r'let (\w+) = (?:' + '|'.join(map(re.escape, alias)) + r')(?:\.before)*\.requires in\s+', drop_needs, expr)
+        for a in needs:
+            expr = re.sub(rf"(?<![\w.'-]){re.escape(a)}(?=\.|[^\w'-])", 'c.requires', expr)
+
     for name, (where, kind, params, body) in walk.helpers.items():
         pat = re.compile(rf"(\()?(?<![\w.'-]){re.escape(name)} (" + '|'.join(map(re.escape, alias)) + r")((?:\.before)*)(?![\w.'-])(\))?")
 
@@ -218,6 +229,14 @@ def turned(expr, walk, place):
 
     expr = re.sub(r"(?<![\w.'])(" + '|'.join(map(re.escape, alias)) + r")((?:\.[^\s.(){},;]+)+)", one, expr)
     expr = re.sub(r'\x00(\d+)\x00', lambda m: held[int(m.group(1))], expr)
+    expr = re.sub(r', c\.known_told[\w.-]*\.is(?=[,)])', '', expr)
+
+    def plain(m):
+        if m.group(1) == 'c' or m.group(1) == 'goal':
+            return m.group(0)
+        return m.group(1) + re.sub(r'-(?=[a-z])', '_', m.group(2))
+
+    expr = re.sub(r"(?<![\w.'«-])([\w']+|\))((?:\.[a-z][\w'-]*)+)", plain, expr)
     return expr, lost
 
 
@@ -481,8 +500,13 @@ def convert(folder, module, e, stem):
                 had = unf.split() if unf else []
                 unf = 'unfolding ' + ' '.join((had[1:] if had else []) + [u for u in un if u not in had]) + '\n'
         expr, lost = turned(expr, walk, place)
-        if new in walk.asked:
-            expr = named(expr, walk.asked[new])
+        fs = walk.asked.get(old) or walk.asked.get(new)
+        if fs:
+            was = expr
+            expr = named(expr, fs)
+            if expr == was and len(fs) > 1 and not re.match(r'\s*(search|omega|record|grind|let .*\brecord\b)', expr, re.S):
+                way = ['all' + '.1' * k + ('.0' if k < len(fs) - 1 else '') for k in range(len(fs))]
+                expr = f'\n    let all ={expr} in record {{ ' + '; '.join(f'{f} = {w}' for f, w in zip(fs, way)) + ' }'
         if new.startswith('returns'):
             mine = CLAUSES.get(stem + '::' + module.replace('.', '::'), {}).get('ensures') or []
             if len(mine) > 1:

@@ -1,4 +1,5 @@
 // The structs of plain numbers that the calls answer to C: an enum does not cross, its numbers do. A refusal has zeros in every field but the count (R16).
+#![tactic(auto)]
 
 // The answer of a call that has no values.
 #[repr(C)]

@@ -1,4 +1,6 @@
 // The answers of the calls on an instance as a whole, and of those without one, as structs of plain numbers: an enum does not cross to C, its numbers do. A refusal has zeros in every field but the count (R16).
+#![tactic(auto)]
+
 ghost use Rattle.std.specs.Prelude.{◌≡◌};
 ghost use Rattle.inode.specs.Converted.{converted_code, full_of};
 ghost use Rattle.path.specs.Checks.{checked_code};

@@ -1,4 +1,6 @@
 // The answers of mount, restored mount and unmount as structs of plain numbers: an enum does not cross to C, its numbers do. A refusal has zeros in every field but the count (R16).
+#![tactic(auto)]
+
 ghost use Rattle.std.specs.Prelude.{◌≡◌};
 ghost use Rattle.rules.specs.Numbers.{or_zero};
 ghost use Rattle.tables.specs.Answer.{tag_in};

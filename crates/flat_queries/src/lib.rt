@@ -1,4 +1,6 @@
 // The answers of the calls that only read as structs of plain numbers: an enum does not cross to C, its numbers do. A refusal has zeros in every field but the count (R16).
+#![tactic(auto)]
+
 ghost use Rattle.std.specs.Prelude.{◌≡◌};
 ghost use Rattle.call_form.specs.Form.{refuses};
 ghost use Rattle.pseudo_fs.specs.Told.{path_walk_told};

@@ -20,7 +20,7 @@ use Rattle.tables.specs.Write.{from_place, set_next}
 use Rattle.tables.proofs.Spells.{cell_back}
 use Rattle.tables.proofs.Heads.{head_put, view_header}
 use Rattle.tables.proofs.Refine.{view_append}
-use Rattle.tables.proofs.Keeps.{laid_ruled, is_ruled, laid_is, length_header, length-append, keeps_append}
+use Rattle.tables.proofs.Keeps.{laid_ruled, is_ruled, laid_is, length_header, length_append, keeps_append}
 use Rattle.tables.proofs.RowOf.{nodes_count}
 use Rattle.saved_restore.specs.Parts.{Loads, load_node, load_nodes}
 use Rattle.saved_restore.proofs.Records.{AllLoad}
@@ -118,7 +118,7 @@ loads e mem k f room =
     let x : next_of m' ≡ e.number = next_next mem d e.number top in
     let v = next_view mem d e.number top in
     record {
-      long = length-append e.parent e.name m' ∙ next_length mem d e.number top;
+      long = length_append e.parent e.name m' ∙ next_length mem d e.number top;
       keeps = keeps_append m' r.keeps e.parent e.name r.room r.under;
       stands =
           view_append m' (laid_is m' r.keeps) e.parent e.name r.room r.under f.parent f.short

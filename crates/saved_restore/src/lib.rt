@@ -1,4 +1,6 @@
 // The parts of a state restore: the tests of a fresh instance and of the state, the records loaded, and the header.
+#![tactic(auto)]
+
 ghost use Rattle.std.specs.Prelude.{◌≡◌, true, ◌+◌, ◌≤◌, ◌<◌, length, ltb};
 ghost use Rattle.rules.specs.Create.{unknown};
 ghost use Rattle.rules.specs.Saved.{tail_length, saved_node_at, behind, saved_records, state_of, accepted};

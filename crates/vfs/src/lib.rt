@@ -1,4 +1,6 @@
 // The mount tables: mount, restored mount and unmount, on an instance in lent bytes.
+#![tactic(auto)]
+
 pub mod mounting;
 pub mod restored_mounting;
 pub mod unmounting;

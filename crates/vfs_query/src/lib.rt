@@ -1,4 +1,6 @@
 // What a host asks of the mount tables: routing, the root query, lookup across mounts, and ids by the mapping in force. Nothing is written.
+#![tactic(auto)]
+
 ghost use Rattle.std.specs.Prelude.{◌≡◌, true};
 ghost use Rattle.rules.specs.Instance.{Instance, tag_of};
 ghost use Rattle.rules.specs.Lookup.{route_tag, route_rule, lookup_rule, remapped, remap_rule};

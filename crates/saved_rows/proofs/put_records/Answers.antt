@@ -15,10 +15,10 @@ pub slice_bounds-put_record-start : goal.slice_bounds-put_record-start
 slice_bounds-put_record-start c = let h = putting_within _ _ _ _ _ _ c.loop-i.invariant in search rules
 
 pub put_record-n-requires : goal.put_record-n-requires
-put_record-n-requires c = (search rules, (search rules, putting_room _ _ _ _ _ _ c.loop-i.invariant c.loop-i-test.true))
+put_record-n-requires c = record { bounds = search rules; i_bound = search rules; i_in_bounds = putting_room _ _ _ _ _ _ c.loop-i.invariant c.loop-i-test.true }
 
 pub overflow_add-at : goal.overflow_add-at
-overflow_add-at c = omega (arith, putting_within _ _ _ _ _ _ (loop-again c))
+overflow_add-at c = omega (arith, putting_within _ _ _ _ _ _ (putting_on _ _ _ _ _ _ c.loop-i.invariant c.loop-i-test.true _ _ c.put_record-n.ensures))
 
 pub loop-i-preserved : goal.loop-i-preserved
 loop-i-preserved c =
