@@ -464,7 +464,20 @@ def convert(folder, module, e, stem):
         table = {a: q for a, (v, q) in zip(mine, params) if a != '_'}
         expr = re.sub(r"(?<![\w.'«])([^\s(){}.;,@\"«»:\d][^\s(){}.;,@\"«»:]*)", lambda w: table.get(w.group(1), w.group(1)), m.group(3))
         out_inv.append('\n'.join(s[2] + [f'abbrev pub {new} : goal.{new}'] + ([m.group(1).rstrip()] if m.group(1) else []) + [f'{new} l ={expr}']))
-    for k, a in enumerate(goals):
+    by_name = {norm(o): k for k, (o, _) in enumerate(walk.needs)}
+    rows = list(enumerate(goals))
+    if len(goals) != len(walk.needs):
+        rows = []
+        for a in goals:
+            if a in answers:
+                want = norm(re.match(r'tie\.Need-(\S+)', answers[a][1]).group(1))
+                if want in by_name:
+                    rows.append((by_name[want], a))
+                else:
+                    notes.append(f'{module}: {a} ({want}) has no goal now')
+            elif not re.match(r'\(λ [^.]*\. search rules\)$', a):
+                notes.append(f'{module}: left: {a[:80]}')
+    for k, a in rows:
         if k >= len(walk.needs):
             notes.append(f'{module}: goal {k} left: {a[:80]}')
             continue
@@ -504,7 +517,7 @@ def convert(folder, module, e, stem):
         if fs:
             was = expr
             expr = named(expr, fs)
-            if expr == was and len(fs) > 1 and not re.match(r'\s*(search|omega|record|grind|let .*\brecord\b)', expr, re.S):
+            if expr == was and len(fs) > 1 and not re.match(r'\s*(search|omega|record|grind|let .*\brecord\b|let .* in search)', expr, re.S):
                 way = ['all' + '.1' * k + ('.0' if k < len(fs) - 1 else '') for k in range(len(fs))]
                 expr = f'\n    let all ={expr} in record {{ ' + '; '.join(f'{f} = {w}' for f, w in zip(fs, way)) + ' }'
         if new.startswith('returns'):

@@ -1,4 +1,6 @@
 // The four lines that call: what each of them asks of the instance in lent bytes, and the text of its answer.
+#![tactic(auto)]
+
 ghost use Rattle.std.proofs.Math.Option.{some};
 ghost use Rattle.std.specs.Prelude.{◌+◌, ◌≤◌, length};
 ghost use Rattle.rules.specs.Session.{mount, umount, walk, look};

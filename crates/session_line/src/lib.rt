@@ -1,4 +1,6 @@
 // One line of a session, answered on an instance in lent bytes. The functions that lay a text ask for room in the lent output.
+#![tactic(auto)]
+
 ghost use Rattle.std.specs.Prelude.{◌≡◌, ◌+◌, ◌≤◌, ◌<◌, length};
 ghost use Rattle.rules.specs.Session.{parsed};
 ghost use Rattle.session_calls.specs.Answered.{Answered};

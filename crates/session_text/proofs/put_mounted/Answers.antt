@@ -4,8 +4,7 @@ use Rattle.session_text.proofs.Numbers.{mount_of, shows}
 use Rattle.session_text.proofs.put_mounted.Goals as goal
 
 pub put_three-requires : goal.put_three-requires
-put_three-requires c =
-    let all = let s = mount_of _ _ c.mounted-a.ensures in search rules in record { at_in_bounds = all.0; code_bound = all.1 }
+put_three-requires c = let s = mount_of _ _ c.mounted-a.ensures in search rules
 
 pub returns : goal.returns
 returns c = shows (mount_of _ _ c.mounted-a.ensures) c.put_three.ensures

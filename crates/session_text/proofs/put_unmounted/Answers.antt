@@ -4,8 +4,7 @@ use Rattle.session_text.proofs.Numbers.{umount_of, shows}
 use Rattle.session_text.proofs.put_unmounted.Goals as goal
 
 pub put_three-requires : goal.put_three-requires
-put_three-requires c =
-    let all = let s = umount_of _ _ c.unmounted-a.ensures in search rules in record { at_in_bounds = all.0; code_bound = all.1 }
+put_three-requires c = let s = umount_of _ _ c.unmounted-a.ensures in search rules
 
 pub returns : goal.returns
 returns c = shows (umount_of _ _ c.unmounted-a.ensures) c.put_three.ensures

@@ -4,8 +4,7 @@ use Rattle.session_text.proofs.Numbers.{walk_of, shows}
 use Rattle.session_text.proofs.put_walked.Goals as goal
 
 pub put_two-requires : goal.put_two-requires
-put_two-requires c =
-    let all = let s = walk_of _ _ c.walked-a.ensures in search rules in record { at_in_bounds = all.0; code_bound = all.1 }
+put_two-requires c = let s = walk_of _ _ c.walked-a.ensures in search rules
 
 pub returns : goal.returns
 returns c = shows (walk_of _ _ c.walked-a.ensures) c.put_two.ensures
