@@ -10,7 +10,7 @@ use lib.Dec.{eqb}
 use borrow.Author.Tests.{eqb-true, le-leb, eq-eqb, ne_eqb}
 use Rattle.rules.specs.Bytes.{same, holds}
 use Rattle.rules.specs.Utf8.{Range, table, within, fits, first_row, sequence, on_sequence, end_from, valid_to, well_formed}
-use Rattle.rules.specs.Path.{slash, onto, parts_by, pieces, is_dot, is_dots, components, too_long}
+use Rattle.rules.specs.Path.{slash, onto, parts_by, pieces, is_dot, is_dots, components}
 use Rattle.rules.specs.Saved.{good_name}
 use Rattle.rules.specs.claims.Names.{GoodName, ComponentsGood}
 use Rattle.rules.proofs.Tests.{and_both, pass}

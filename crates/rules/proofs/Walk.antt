@@ -12,8 +12,7 @@ use lib.Dec.{eqb}
 use borrow.Author.Tests.{eqb-true, eq-eqb, ne_eqb}
 use Rattle.rules.specs.Numbers.{root_number}
 use Rattle.rules.specs.Bytes.{same}
-use Rattle.rules.specs.Path.{Part, Normal, ParentDir, components, too_long}
-use Rattle.rules.specs.Utf8.{well_formed}
+use Rattle.rules.specs.Path.{Part, Normal, ParentDir, components}
 use Rattle.rules.specs.Tree.{Node, Made, bare, is_child, child_in, node_in, parent_of, parent_in, or_make, mount_step, makes, at_root}
 use Rattle.rules.specs.Instance.{Tree}
 use Rattle.rules.specs.Saved.{good_name}

@@ -11,7 +11,6 @@ use borrow.Author.Tests.{eq-eqb, ne_eqb, le-leb, lt-leb, lt-ltb, le-ltb}
 use Rattle.le.specs.Mem.{get, put}
 use Rattle.rules.specs.Tree.{Node, is_none}
 use Rattle.rules.specs.Create.{unknown}
-use Rattle.rules.specs.Ids.{mapping_at}
 use Rattle.rules.specs.Saved.{name_start, saved_node_at, behind, saved_options_at, options_start, saved_records, saved_next, saved_counter, state_of}
 use Rattle.rules.specs.StateRestore.{no_nodes, fresh}
 use Rattle.rules.proofs.Tests.{le_or_lt}

@@ -6,7 +6,6 @@ use mathlib.Core.Path.{◌≡◌, refl, sym, ap, ◌∙◌}
 use native.Mathlib.Omega.{arith}
 use lib.ListN.{length}
 use Rattle.rules.specs.Numbers.{DONE, SMALL}
-use Rattle.session_script.specs.Step.{by_bytes}
 use Rattle.session_script.specs.Feed.{FeedGoing, start, accepts, goes, went, end_accepts, Feeds, Finishes}
 use Rattle.session_script.specs.Codes.{fed_code, finished_code, FeedCode, FinishCode, EveryCode}
 use Rattle.session_script.specs.declared.Fed.{Fed}

@@ -2,14 +2,10 @@
 use Prim.Native.Nat.{ℕ}
 use mathlib.Core.Path.{◌≡◌, refl, sym, ap, ◌∙◌}
 use mathlib.Core.Bool.{true}
-use mathlib.Core.List.{List, [], ◌∷◌, ◌++◌, append_assoc}
+use mathlib.Core.List.{List, [], ◌∷◌, ◌++◌}
 use lib.ListN.{length, take, drop}
-use Rattle.tables.specs.View.{view}
-use Rattle.tables.specs.Laid.{laid}
-use Rattle.rules.specs.Whole.{session}
 use Rattle.session_script.specs.Feed.{accepts, Feeds}
 use Rattle.session_script.specs.Runs.{used_in, wrote_in, kept_in, Feed, Finish, FeedRun, written, WholeOf, Through, Read, Loop, input_of, feeds_of, EveryLoop}
-use Rattle.session_script.specs.declared.Fed.{Fed}
 use Rattle.session_script.proofs.Onward.{onward}
 use Rattle.session_script.proofs.Runs.{every_cutting}
 

@@ -9,7 +9,7 @@ use lib.Dec.{ltb}
 use borrow.Author.Tests.{le-ltb}
 use Rattle.session_script.specs.Step.{Answers, by_bytes}
 use Rattle.session_script.specs.Feed.{FeedGoing, start, feed_step, fed, accepts, goes}
-use Rattle.session_script.specs.Runs.{used_in, wrote_in, EveryFeed}
+use Rattle.session_script.specs.Runs.{used_in, EveryFeed}
 use Rattle.session_script.proofs.Carry.{accepts_byte}
 use Rattle.session_script.proofs.Runs.{used_by, wrote_by, kept_by}
 

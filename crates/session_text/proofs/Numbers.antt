@@ -1,7 +1,7 @@
 -- What a line shows of an answer is among the plain numbers that `flat` makes of it. Assumes nothing.
 use Prim.Native.Nat.{ℕ, ◌<◌}
 use native.Mathlib.Omega.{arith}
-use mathlib.Core.Path.{◌≡◌, refl, ap, ◌∙◌}
+use mathlib.Core.Path.{◌≡◌, refl}
 use mathlib.Core.List.{List, [], ◌∷◌}
 use Rattle.rules.specs.Session.{text_of, values, shown}
 use Rattle.decimal.specs.Wrote.{Wrote}

@@ -1,6 +1,6 @@
 -- `decimal::read` meets its contract. The loop's invariant: reading the whole is reading the rest after `acc`, which is at most `max`.
 use mathlib.Core.Path.{◌≡◌, sym, ap, ◌∙◌}
-use Prim.Native.Nat.{suc, ◌-◌}
+use Prim.Native.Nat.{suc}
 use borrow.Author.Rules.{rules}
 use native.Mathlib.Omega.{arith}
 use native.Mathlib.Numerals.{add-one}

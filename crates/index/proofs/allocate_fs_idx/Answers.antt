@@ -1,6 +1,6 @@
 -- `index::allocate_fs_idx` meets its contract. The loop's invariant is `Going`: what is to be found from the counter is what is to be found from here.
 -- Assumes nothing.
-use Rattle.std.proofs.Common.{◌-◌, sym, ◌∙◌, ⊎_elim, arith}
+use Rattle.std.proofs.Common.{sym, ◌∙◌, arith}
 use Rattle.index.specs.Search.{found_of, search_code, read_of}
 use Rattle.index.proofs.Going.{begins, passes, ends_found, ends_full}
 use Rattle.index.proofs.allocate_fs_idx.Goals as goal

@@ -1,6 +1,5 @@
 -- After i rows, the children among the others are to be laid behind what is written; a law for each way round, and where the ways meet one for all.
 use mathlib.Core.Path.{sym, ◌∙◌}
-use Prim.Native.Nat.{◌-◌}
 use native.Mathlib.Omega.{arith}
 use Rattle.listing.proofs.Rest.{listing_start, listing_done, listing_not, listing_skip, listing_laid, listing_full, listing_as}
 use borrow.Author.Rules.{rules}

@@ -1,5 +1,4 @@
 -- The invariant is `Writing`: to write the rest here gives what writing all gives.
-use Prim.Native.Nat.{◌-◌}
 use native.Mathlib.Nat.{add-sub_cancel_left}
 use native.Mathlib.Omega.{arith}
 use lib.ListN.{length-take}

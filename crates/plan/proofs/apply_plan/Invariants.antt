@@ -1,7 +1,7 @@
 -- The invariant is `Writing`: to write the rest here gives what writing all gives.
 use Prim.Native.Nat.{◌-◌}
 use Rattle.plan.specs.Plan.{columns}
-use Rattle.plan.proofs.Grows.{Writing, starts}
+use Rattle.plan.proofs.Grows.{Writing}
 use Rattle.plan.proofs.apply_plan.Given as goal
 
 abbrev pub invariant-loop-k : goal.invariant-loop-k

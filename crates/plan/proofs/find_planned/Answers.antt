@@ -1,6 +1,5 @@
 -- After j planned nodes that are not the child, those that are left decide.
 use mathlib.Core.Path.{sym, ◌∙◌}
-use Prim.Native.Nat.{◌-◌}
 use Rattle.tables.specs.Answer.{found_in}
 use Rattle.plan.proofs.Columns.{seek_begins, seek_here, seek_on, seek_none}
 use borrow.Author.Rules.{rules}

@@ -1,6 +1,5 @@
 -- The invariant is `Going`: what is planned, and the walk from here on, make what the whole walk makes.
 use mathlib.Core.Path.{sym, ap, ◌∙◌}
-use Prim.Native.Nat.{◌-◌}
 use native.Mathlib.Omega.{arith}
 use Rattle.rules.proofs.Parts.{within_limits}
 use Rattle.path.proofs.Steps.{step_of}

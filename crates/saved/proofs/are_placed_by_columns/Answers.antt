@@ -1,5 +1,5 @@
 -- `saved::are_placed_by_columns` meets its contract. The invariant: the records that are left are placed where all are. Assumes nothing.
-use Rattle.std.proofs.Common.{◌-◌, sym, refl, ◌∙◌, arith}
+use Rattle.std.proofs.Common.{sym, refl, ◌∙◌, arith}
 use borrow.Author.Tests.{not-true, not-false}
 use Rattle.saved.specs.Scan.{start_of}
 use Rattle.saved.proofs.Walk.{start_next, within, all_bad, all_on, all_done, all_start}

@@ -1,5 +1,5 @@
 -- `saved::fill` meets its contract. The invariant: the rows so far are filled. Assumes nothing.
-use Rattle.std.proofs.Common.{◌-◌, refl, ◌∙◌, arith, rules}
+use Rattle.std.proofs.Common.{refl, ◌∙◌, arith, rules}
 use Rattle.saved.specs.Scan.{start_of}
 use Rattle.saved.proofs.Walk.{start_next, within}
 use Rattle.saved.proofs.Filled.{none_filled, row_filled, all_filled}

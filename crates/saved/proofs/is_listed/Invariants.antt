@@ -1,5 +1,5 @@
 -- `saved::is_listed` meets its contract. The invariant: the number is among those that are left where it is among all. Assumes nothing.
-use Rattle.std.proofs.Common.{◌≡◌, ◌-◌, ◌≤◌}
+use Rattle.std.proofs.Common.{◌≡◌, ◌≤◌}
 use Rattle.saved.specs.Columns.{listed}
 use Rattle.saved.proofs.is_listed.Given as goal
 

@@ -1,6 +1,6 @@
 -- `saved::is_placed_by_scan` meets its contract. The invariant: of the records passed, whether one is the parent is known, and none is a twin.
 -- Assumes nothing.
-use Rattle.std.proofs.Common.{ℕ, ◌-◌, false, eqb, sym, refl, ap, ◌∙◌, arith}
+use Rattle.std.proofs.Common.{ℕ, eqb, sym, refl, ap, ◌∙◌, arith}
 use Rattle.rules.specs.Saved.{saved_node_at, present, used}
 use Rattle.saved.specs.Scan.{start_of, earlier}
 use Rattle.saved.proofs.Walk.{start_next, within, present_here, present_on, used_on, used_among, is_used, scanned}

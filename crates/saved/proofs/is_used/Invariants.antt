@@ -1,5 +1,5 @@
 -- `saved::is_used` meets its contract. The invariant: one of those that are left is a twin where one of all is. Assumes nothing.
-use Rattle.std.proofs.Common.{◌≡◌, ◌-◌, ◌≤◌}
+use Rattle.std.proofs.Common.{◌≡◌, ◌≤◌}
 use Rattle.rules.specs.Saved.{saved_node_at, used}
 use Rattle.saved.specs.Scan.{earlier}
 use Rattle.saved.proofs.is_used.Given as goal

@@ -1,5 +1,4 @@
 -- The invariant is `Loading`: to load the rest here gives what loading all gives. Assumes nothing.
-use Prim.Native.Nat.{◌-◌}
 use native.Mathlib.Omega.{arith}
 use Rattle.saved.proofs.Accepted.{accepted_long, accepted_within}
 use Rattle.saved_restore.proofs.Records.{record_loads}

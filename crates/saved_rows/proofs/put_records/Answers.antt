@@ -1,6 +1,5 @@
 -- Putting what is left behind what is written gives what putting all gives. Assumes nothing.
 use native.Mathlib.Omega.{arith}
-use Prim.Native.Nat.{◌-◌}
 use Rattle.saved_rows.proofs.SaveRecords.{putting_start, putting_within, putting_done, putting_room, putting_on}
 use borrow.Author.Rules.{rules}
 use Rattle.saved_rows.proofs.put_records.Goals as goal

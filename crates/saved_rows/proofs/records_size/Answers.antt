@@ -1,6 +1,5 @@
 -- What is counted and what is left make the whole. Assumes nothing.
 use native.Mathlib.Omega.{arith}
-use Prim.Native.Nat.{◌-◌}
 use Rattle.row_name.proofs.Names.{name_short}
 use Rattle.saved_rows.proofs.SaveRecords.{sized_start, sized_on, sized_done, sized_small}
 use Rattle.saved_rows.proofs.records_size.Goals as goal

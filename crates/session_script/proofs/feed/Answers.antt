@@ -1,6 +1,5 @@
 -- After i bytes, what the rest leads to is what the whole piece leads to; a law for each way round.
 use mathlib.Core.Path.{refl}
-use Prim.Native.Nat.{◌-◌}
 use borrow.Author.Rules.{rules}
 use Rattle.session_script.proofs.Going.{so_far_start, so_far_more, feeds_all, feeds_full, refuses_short, refuses_many}
 use Rattle.session_script.proofs.feed.Goals as goal

@@ -1,6 +1,5 @@
 -- The loop has written k tags. Assumes nothing.
 use mathlib.Core.Path.{refl}
-use Prim.Native.Nat.{◌-◌}
 use Rattle.storage.proofs.Slots.{tags_next, tags_all}
 use borrow.Author.Rules.{rules}
 use Rattle.storage.proofs.put_tags.Goals as goal

@@ -1,7 +1,6 @@
 -- Eight bytes at a time, all of them plain; then the last eight.
 use mathlib.Core.Path.{sym, ap, ◌∙◌}
 use mathlib.Core.Bool.{not}
-use Prim.Native.Nat.{◌-◌}
 use Rattle.path.proofs.Together.{none_yet, none_on, one_there, last_eight}
 use Rattle.utf8.proofs.Plain.{short_not_plain, long_plain}
 use borrow.Author.Rules.{rules}

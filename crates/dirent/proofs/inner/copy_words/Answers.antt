@@ -1,5 +1,4 @@
 -- The loop has copied i words; the first is copied before it.
-use Prim.Native.Nat.{◌-◌}
 use Rattle.dirent.proofs.Long.{copied_none, copied_next, copied_all}
 use borrow.Author.Rules.{rules}
 use Rattle.dirent.proofs.inner.copy_words.Goals as goal

@@ -1,5 +1,4 @@
 -- The loop has copied i bytes of the run.
-use Prim.Native.Nat.{◌-◌}
 use Rattle.le.specs.Mem.{read}
 use Rattle.le.proofs.Turns.{all_written, copied}
 use borrow.Author.Rules.{rules}

@@ -1,5 +1,4 @@
 -- The loop has written i bytes of the run.
-use Prim.Native.Nat.{◌-◌}
 use lib.ListN.{replicate}
 use Rattle.le.proofs.Turns.{all_written, filled}
 use borrow.Author.Rules.{rules}

@@ -1,6 +1,5 @@
 -- After i bytes that are equal, eight at a time, the rest of the two runs decides.
 use mathlib.Core.Path.{sym, ◌∙◌}
-use Prim.Native.Nat.{◌-◌}
 use Rattle.le.proofs.Turns.{none_compared, equal_here, unequal_here}
 use borrow.Author.Rules.{rules}
 use Rattle.le.proofs.runs.same_at.Goals as goal

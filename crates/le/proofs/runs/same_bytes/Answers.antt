@@ -1,6 +1,5 @@
 -- After i bytes that are equal the rest of the two runs decides.
 use mathlib.Core.Path.{sym, ◌∙◌}
-use Prim.Native.Nat.{◌-◌}
 use Rattle.le.proofs.Lens.{get_one}
 use Rattle.le.proofs.Turns.{none_compared, all_compared, equal_here, unequal_here}
 use borrow.Author.Rules.{rules}

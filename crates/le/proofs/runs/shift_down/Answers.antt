@@ -1,5 +1,5 @@
 -- The loop has moved i bytes of the run; the next one lies above all that is written.
-use Prim.Native.Nat.{◌+◌, ◌-◌}
+use Prim.Native.Nat.{◌+◌}
 use Rattle.le.specs.Mem.{read}
 use Rattle.le.proofs.Turns.{all_written, moved}
 use borrow.Author.Rules.{rules}

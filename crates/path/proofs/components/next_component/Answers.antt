@@ -1,6 +1,5 @@
 -- `path::components::next_component` meets its contract. The invariant: the next component from here on is the one from `at` on. Assumes nothing.
 use mathlib.Core.Path.{refl, sym, ◌∙◌}
-use Prim.Native.Nat.{◌-◌}
 use native.Mathlib.Omega.{arith}
 use Rattle.rules.specs.Path.{slash}
 use Rattle.path.proofs.Words.{end_behind}

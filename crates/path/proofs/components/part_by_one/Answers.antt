@@ -1,6 +1,5 @@
 -- `path::components::part_by_one` meets its contract. The invariant: the part ends where it ends seen from `at`. Assumes nothing.
 use mathlib.Core.Path.{refl, sym, ◌∙◌}
-use Prim.Native.Nat.{◌-◌}
 use native.Mathlib.Omega.{arith}
 use Rattle.path.proofs.Words.{end_past, end_here, end_more}
 use Rattle.path.proofs.components.part_by_one.Goals as goal

@@ -1,7 +1,6 @@
 -- Eight bytes at a time, none of them the byte; then those that are left. The invariant: the part ends where it ends seen from `at`. Assumes nothing.
 use borrow.Author.Rules.{rules}
 use mathlib.Core.Path.{refl, sym, ◌∙◌}
-use Prim.Native.Nat.{◌-◌}
 use Rattle.path.proofs.Words.{end_past}
 use Rattle.path.proofs.Together.{end_eight}
 use Rattle.path.proofs.components.part_end.Goals as goal

@@ -1,5 +1,4 @@
 -- After k bytes, whether one of them was hit.
-use Prim.Native.Nat.{◌-◌}
 use Rattle.scan.proofs.First.{none_hit, one_hit, not_hit, all_looked}
 use Rattle.path.proofs.Together.{is, is_not}
 use borrow.Author.Rules.{rules}

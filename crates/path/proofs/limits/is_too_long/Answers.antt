@@ -1,6 +1,6 @@
 -- `path::limits::is_too_long` meets its contract. The invariant: a part from here on is too long where one of all is. Assumes nothing.
 use mathlib.Core.Path.{refl, sym, ◌∙◌}
-use Prim.Native.Nat.{◌-◌, ◌≤◌}
+use Prim.Native.Nat.{◌≤◌}
 use native.Mathlib.Omega.{arith}
 use lib.ListN.{length}
 use Rattle.rules.specs.Path.{slash}

@@ -1,6 +1,5 @@
 -- `path::names::has_by_one` meets its contract. The invariant: the rest has the byte where the whole has it. Assumes nothing.
 use mathlib.Core.Path.{refl, sym, ◌∙◌}
-use Prim.Native.Nat.{◌-◌}
 use native.Mathlib.Omega.{arith}
 use Rattle.path.proofs.Naming.{holds_end, holds_here, holds_more}
 use Rattle.path.proofs.names.has_by_one.Goals as goal

@@ -1,6 +1,5 @@
 -- Eight bytes at a time, none of them the byte; then the last eight.
 use mathlib.Core.Path.{sym, ◌∙◌}
-use Prim.Native.Nat.{◌-◌}
 use Rattle.path.proofs.Together.{none_yet, none_on, one_there, last_eight, holds_any}
 use borrow.Author.Rules.{rules}
 use Rattle.path.proofs.names.has_byte.Goals as goal

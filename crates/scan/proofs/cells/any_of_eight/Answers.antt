@@ -1,5 +1,4 @@
 -- After k cells, whether one of them was hit.
-use Prim.Native.Nat.{◌-◌}
 use Rattle.scan.proofs.First.{none_hit, one_hit, not_hit, all_looked, cell_here, cell_other}
 use borrow.Author.Rules.{rules}
 use Rattle.scan.proofs.cells.any_of_eight.Goals as goal

@@ -1,6 +1,5 @@
 -- After the cells before i, eight at a time, none of which is the one sought, the cells that are left decide.
 use mathlib.Core.Path.{sym, ◌∙◌}
-use Prim.Native.Nat.{◌-◌}
 use Rattle.scan.proofs.First.{all_left, eight_left}
 use borrow.Author.Rules.{rules}
 use Rattle.scan.proofs.cells.find_by_eight.Goals as goal

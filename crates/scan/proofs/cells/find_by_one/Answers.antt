@@ -1,5 +1,4 @@
 -- After the cells before i, none of which is the one sought, the cells that are left decide.
-use Prim.Native.Nat.{◌-◌}
 use Rattle.scan.proofs.First.{all_left, here_left, on_left, done_left, cell_here, cell_other}
 use borrow.Author.Rules.{rules}
 use Rattle.scan.proofs.cells.find_by_one.Goals as goal

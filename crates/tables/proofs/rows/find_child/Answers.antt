@@ -1,7 +1,6 @@
 -- After i rows that are not the child, the rows that are left decide.
 use mathlib.Core.Path.{sym, ap, ◌∙◌}
 use mathlib.Core.Option.{some}
-use Prim.Native.Nat.{◌-◌}
 use native.Mathlib.Omega.{arith}
 use Rattle.tables.specs.Answer.{found_in}
 use Rattle.tables.proofs.Alike.{skips, lands, further}

@@ -1,6 +1,5 @@
 -- After k bytes, whether one of them was hit.
 use mathlib.Core.Path.{sym, ◌∙◌}
-use Prim.Native.Nat.{◌-◌}
 use Rattle.scan.proofs.First.{none_hit, one_hit, not_hit, all_looked}
 use borrow.Author.Rules.{rules}
 use Rattle.utf8.proofs.eight.any_not_plain.Goals as goal
