@@ -3,7 +3,6 @@ use borrow.Author.Rules.{rules}
 use native.Mathlib.Omega.{arith}
 use mathlib.Core.Path.{refl}
 use Rattle.session.proofs.Feeding.{so_far_start, moves, not_fed, fed_all, fed_part}
-use Prim.Native.Nat.{◌-◌}
 use Rattle.session.proofs.feed_all.Goals as goal
 
 pub loop-at-init : goal.loop-at-init
