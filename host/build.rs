@@ -1,4 +1,4 @@
-// Finds the static library of the proved calls: where GALDOVAR_LIB_DIR says, or by `rt staticlib gateway`.
+// Finds the static library of the proved calls: where GALDOVAR_LIB_DIR says, or by `tools/static_lib`.
 use std::env;
 use std::fs;
 use std::path::{Path, PathBuf};
@@ -27,43 +27,46 @@ fn given(dir: &Path) -> PathBuf {
     fs::canonicalize(dir).expect("the directory of GALDOVAR_LIB_DIR can be read")
 }
 
-/// The library proved and built by the kit, copied to where cargo keeps what this script makes. The copy stays when
-/// the gate removes the kit's own folder.
+/// The library proved and built by the kit, written to where cargo keeps what this script makes.
 fn proved() -> PathBuf {
     warn_of_other_targets();
     let root = Path::new(&env::var_os("CARGO_MANIFEST_DIR").expect("cargo sets it")).join("..");
-    println!("cargo:rerun-if-changed={}", root.join("crates").display());
     println!("cargo:rerun-if-changed={}", root.join("crates.txt").display());
+    for part in sources(&root.join("crates")) {
+        println!("cargo:rerun-if-changed={}", part.display());
+    }
+    let out = PathBuf::from(env::var_os("OUT_DIR").expect("cargo sets it"));
     let start = Instant::now();
-    let run = Command::new("rt").args(["staticlib", "gateway"]).current_dir(&root).output();
+    let run = Command::new(root.join("tools").join("static_lib")).arg("--to").arg(&out).output();
     let run = run.unwrap_or_else(|e| {
         fail(format!(
-            "GALDOVAR_LIB_DIR is not set, so `rt staticlib gateway` has to build {}, and `rt` does not start ({}).\n\
-             Put the Rattle kit on the PATH, or set GALDOVAR_LIB_DIR to the directory of a {} built elsewhere.",
+            "GALDOVAR_LIB_DIR is not set, so `tools/static_lib` has to build {}, and it does not start ({}).\n\
+             It needs Python 3 and the Rattle kit on the PATH. Or set GALDOVAR_LIB_DIR to the directory of a {} built elsewhere.",
             LIBRARY, e, LIBRARY
         ))
     });
     if !run.status.success() {
         let (out, err) =
             (String::from_utf8_lossy(&run.stdout), String::from_utf8_lossy(&run.stderr));
-        fail(format!("{}{}`rt staticlib gateway` failed ({})", out, err, run.status));
+        fail(format!("{}{}`tools/static_lib` failed ({})", out, err, run.status));
     }
     println!(
-        "cargo:warning={} was proved and built by `rt staticlib gateway`, in {} s, since GALDOVAR_LIB_DIR is not set. \
-         From nothing that takes several minutes. It is done again when a file under crates/ changes",
+        "cargo:warning={} was proved and built by `tools/static_lib`, in {} s, since GALDOVAR_LIB_DIR is not set. \
+         From nothing that takes several minutes. It is done again when the source of a crate changes",
         LIBRARY,
         start.elapsed().as_secs()
     );
-    let out = PathBuf::from(env::var_os("OUT_DIR").expect("cargo sets it"));
-    let made = root.join("target").join("staticlib").join(LIBRARY);
-    if let Err(e) = fs::copy(&made, out.join(LIBRARY)) {
-        fail(format!(
-            "`rt staticlib gateway` is done, but {} cannot be copied ({})",
-            made.display(),
-            e
-        ));
-    }
     out
+}
+
+/// The folders of the crates' source and proofs. What the kit keeps beside them is not looked at.
+fn sources(crates: &Path) -> Vec<PathBuf> {
+    let entries = fs::read_dir(crates).expect("the folder of the crates can be read");
+    let folders = entries.map(|e| e.expect("an entry of that folder can be read").path());
+    let parts = folders.flat_map(|f| ["src", "specs", "proofs"].map(|part| f.join(part)));
+    let mut found: Vec<PathBuf> = parts.filter(|part| part.is_dir()).collect();
+    found.sort();
+    found
 }
 
 /// Ends the build with a message alone.

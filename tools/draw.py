@@ -1,5 +1,5 @@
 #!/usr/bin/env python3
-"""Draws docs/pictures/*.svg from docs/pictures/*.txt. Who rests on whom is read from crates.txt.
+"""Draws docs/pictures/*.svg from docs/pictures/*.picture. Who rests on whom is read from crates.txt.
 
     python3 tools/draw.py            writes each picture anew
     python3 tools/draw.py --check    writes nothing; says which picture is not what its text and crates.txt give
@@ -406,10 +406,10 @@ def main():
         print(__doc__)
         return 2
     bad = 0
-    for name in sorted(glob.glob(os.path.join(ROOT, "docs", "pictures", "*.txt"))):
+    for name in sorted(glob.glob(os.path.join(ROOT, "docs", "pictures", "*.picture"))):
         told = lines_of(name)
         svg, faults = DRAWN[told["picture"][0][0]](told)
-        out = name[:-4] + ".svg"
+        out = os.path.splitext(name)[0] + ".svg"
         old = open(out, encoding="utf-8").read() if os.path.exists(out) else ""
         if check and old != svg:
             faults.append("the picture is stale: run python3 tools/draw.py")

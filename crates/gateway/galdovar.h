@@ -1,7 +1,7 @@
 /*
- * Galdovar for a host in C or Rust: every call of the static library that `rt staticlib gateway` writes.
+ * Galdovar for a host in C or Rust: every call of the static library that `tools/static_lib` writes.
  *
- * R1 to R183 are the rules of docs/RULES.md. `tools/check_header` holds this file to the source in crates/gateway/src.
+ * R1 to R183 are the rules of docs/RULES.md. `tools/check_header` holds this file to the source in crates/gateway_c/src.
  * The library is for x86-64 with the C calling convention of Linux. It calls memcpy, memmove and memset, and nothing else.
  * A call needs stack; how deep is not proved.
  *

@@ -15,8 +15,7 @@ use id_map::IdMapping;
 use vfs_options::VfsOptions;
 
 // A new instance of N nodes, whatever the bytes held: SMALL, then BADOPT, then BADMAP, or done (R19, R26 to R34).
-#[unsafe(no_mangle)]
-pub extern "C" fn galdovar_create(
+pub fn galdovar_create(
     storage: &mut [u8],
     n: usize,
     known: u64,
@@ -44,37 +43,28 @@ pub extern "C" fn galdovar_create(
 }
 
 // From now on a done unmount also removes its node; the root always stays (R32, R100).
-#[unsafe(no_mangle)]
-pub extern "C" fn galdovar_set_remove_pseudo_root(storage: &mut [u8]) -> CodeAnswer
+pub fn galdovar_set_remove_pseudo_root(storage: &mut [u8]) -> CodeAnswer
     ensures { DoesBy code_numbers storage.old remove_call result storage.new (cond (laid storage.old) (set_removal storage.old) storage.old) }
 {
     flat_instance::removal(storage::set_remove_pseudo_root(storage))
 }
 
 // Whether the instance is initialized (R33, R134).
-#[unsafe(no_mangle)]
-pub extern "C" fn galdovar_initialized(storage: &[u8]) -> InitializedAnswer
+pub fn galdovar_initialized(storage: &[u8]) -> InitializedAnswer
     ensures { result ≡ initialized_numbers (answered_by storage.now initialized_call) }
 {
     flat_instance::initialized(storage::initialized(storage))
 }
 
 // The options, with their own mapping (R27, R33, R34).
-#[unsafe(no_mangle)]
-pub extern "C" fn galdovar_options(storage: &[u8]) -> OptionsAnswer
+pub fn galdovar_options(storage: &[u8]) -> OptionsAnswer
     ensures { result ≡ options_numbers (answered_by storage.now options_call) }
 {
     flat_instance::options(storage::options(storage))
 }
 
 // The ids of an attribute by the mapping in force: out, from the internal range to the external one, where `outward` is not 0; else back (R113, R114, R118).
-#[unsafe(no_mangle)]
-pub extern "C" fn galdovar_remap_attr_id(
-    storage: &[u8],
-    uid: u32,
-    gid: u32,
-    outward: u32,
-) -> IdsAnswer
+pub fn galdovar_remap_attr_id(storage: &[u8], uid: u32, gid: u32, outward: u32) -> IdsAnswer
     ensures { result ≡ ids_numbers (answered_by storage.now (λ (i : Instance). remap_rule i (not (eqb outward 0)) uid gid)) }
 {
     flat_queries::remapped(vfs_query::remap_attr_id(storage, uid, gid, outward != 0))

@@ -31,8 +31,7 @@ fn backend(tag: u32, root: u64, largest: u64, uid: u32, gid: u32, mode: u32) -> 
 }
 
 // The first of the rows of a mount that applies, or the mount (R68 to R79).
-#[unsafe(no_mangle)]
-pub extern "C" fn galdovar_mount(
+pub fn galdovar_mount(
     storage: &mut [u8],
     path: &[u8],
     tag: u32,
@@ -52,8 +51,7 @@ pub extern "C" fn galdovar_mount(
 }
 
 // The first of the rows of a restored mount that applies, or the mount at the index given (R91 to R95).
-#[unsafe(no_mangle)]
-pub extern "C" fn galdovar_restore_mount(
+pub fn galdovar_restore_mount(
     storage: &mut [u8],
     fs_idx: u8,
     path: &[u8],
@@ -71,24 +69,21 @@ pub extern "C" fn galdovar_restore_mount(
 }
 
 // Takes the mount off the node that the path leads to, and frees its index (R96 to R100).
-#[unsafe(no_mangle)]
-pub extern "C" fn galdovar_umount(storage: &mut [u8], path: &[u8]) -> UmountAnswer
+pub fn galdovar_umount(storage: &mut [u8], path: &[u8]) -> UmountAnswer
     ensures { DoesBy umount_numbers storage.old (λ (i : Instance). unmount_rule i path.now) result storage.new (unmount_mem path.now storage.old) }
 {
     flat_mounts::unmounted(vfs::unmounting::umount(storage, path))
 }
 
 // The backend mounted where a path leads, none for no path or no mount, or NOTFOUND where its slot is empty (R103, R104).
-#[unsafe(no_mangle)]
-pub extern "C" fn galdovar_get_rootfs(storage: &[u8], path: &[u8]) -> RootfsAnswer
+pub fn galdovar_get_rootfs(storage: &[u8], path: &[u8]) -> RootfsAnswer
     ensures { result ≡ rootfs_numbers (answered_by storage.now (λ (i : Instance). root_rule i path.now)) }
 {
     flat_queries::rootfs(vfs_query::get_rootfs(storage, path))
 }
 
 // Where a full number goes: to the tree, to a backend, or NOENT (R105 to R107).
-#[unsafe(no_mangle)]
-pub extern "C" fn galdovar_route(storage: &[u8], inode: u64) -> RouteAnswer
+pub fn galdovar_route(storage: &[u8], inode: u64) -> RouteAnswer
     ensures { result ≡ route_numbers (answered_by storage.now (λ (i : Instance). route_rule i inode)) }
 {
     flat_queries::routed(vfs_query::route(storage, VfsInode(inode)))

@@ -11,24 +11,21 @@ use flat::{LookupAnswer, WalkAnswer, WroteAnswer};
 use inode::NodeNumber;
 
 // The node that a path leads to, from the root, or none; INVAL for a path with a fault (R36, R46, R47).
-#[unsafe(no_mangle)]
-pub extern "C" fn galdovar_path_walk(storage: &[u8], path: &[u8]) -> WalkAnswer
+pub fn galdovar_path_walk(storage: &[u8], path: &[u8]) -> WalkAnswer
     ensures { result ≡ walk_numbers (answered_by storage.now (λ (i : Instance). walk_rule i path.now)) }
 {
     flat_queries::walked(pseudo_fs::path_walk(storage, path))
 }
 
 // In a directory of the tree by a name: the root entry of the mount on what is found, or its pseudo entry (R57 to R60, R108 to R111).
-#[unsafe(no_mangle)]
-pub extern "C" fn galdovar_lookup(storage: &[u8], parent: u64, name: &[u8]) -> LookupAnswer
+pub fn galdovar_lookup(storage: &[u8], parent: u64, name: &[u8]) -> LookupAnswer
     ensures { result ≡ lookup_numbers (answered_by storage.now (λ (i : Instance). lookup_rule i parent name.now)) }
 {
     flat_queries::looked(vfs_query::lookup(storage, NodeNumber(parent), name))
 }
 
 // Lists the children of a node from an offset on into the lent bytes, whole records within `size` only (R63 to R66).
-#[unsafe(no_mangle)]
-pub extern "C" fn galdovar_readdir(
+pub fn galdovar_readdir(
     storage: &[u8],
     node: u64,
     size: u32,

@@ -1,0 +1,23 @@
+// Saved state: save and restore.
+ghost use Rattle.call_form.specs.Form.{WritesBy, DoesBy};
+ghost use Rattle.persist.specs.Saving.{saving};
+ghost use Rattle.persist.specs.StateRestoring.{restoring_state, restore_state_mem};
+ghost use Rattle.flat.specs.Flat.{code_numbers, wrote_numbers};
+
+use flat::{CodeAnswer, WroteAnswer};
+
+// Saves the instance at the start of the lent bytes: SMALL where these are too few, else how many were written (R119 to R127).
+#[unsafe(no_mangle)]
+pub extern "C" fn galdovar_save_to_bytes(storage: &[u8], out: &mut [u8]) -> WroteAnswer
+    ensures { WritesBy wrote_numbers storage.now (saving out.old) out.old result out.new }
+{
+    gateway::state::galdovar_save_to_bytes(storage, out)
+}
+
+// NOTFRESH, BADSAVE, BADOPT, NOROOM, or the state of the bytes in place of the instance's own (R128 to R134).
+#[unsafe(no_mangle)]
+pub extern "C" fn galdovar_restore_from_bytes(storage: &mut [u8], bytes: &[u8]) -> CodeAnswer
+    ensures { DoesBy code_numbers storage.old (restoring_state bytes.now) result storage.new (restore_state_mem bytes.now storage.old) }
+{
+    gateway::state::galdovar_restore_from_bytes(storage, bytes)
+}
