@@ -1,6 +1,7 @@
 // Reads a script and makes the calls that it says on lent bytes: one line for each answer (docs/TESTS.md).
+#![tactic(auto)]
+
 use crate::regs::CELLS;
-use libc::STDIN_FILENO;
 use test_words::numbers::large;
 
 mod calls;
@@ -11,6 +12,9 @@ mod sink;
 mod states;
 mod told;
 mod verbs;
+
+// The descriptor of standard input.
+const STDIN_FILENO: i32 = 0;
 
 fn main() {
     let mut input = large();

@@ -16,7 +16,7 @@ use Rattle.persist.specs.declared.saving.Saved.TheVariants.{Wrote}
 use Rattle.persist.proofs.saving.save_to_bytes.Reads as persist-save
 use Rattle.flat.specs.declared.WroteAnswer.{WroteAnswer}
 use Rattle.gateway.proofs.state.galdovar_save_to_bytes.Reads as galdovar-save
-use Rattle.contracts.specs.Made.{Lent}
+use Rattle.contracts.specs.Made.{Lent, LentMut}
 use Rattle.contracts.specs.Answers.{TellsIndex, LastTells, NoStateRestores, WholeLaps}
 
 -- bytes, and steps on them: what runs from one restart to the next
@@ -47,8 +47,8 @@ Lives Begins mem (l ∷ ls) = Begins mem l.start × (Run l.start l.steps × (NoS
 
 -- bytes that a save of mem, the call or the export, which told that it is done, has written into a lent output: the first ones, as many as it told (R125)
 pub data SavedOf : List ℕ → List ℕ → Type 0 where
-  by_call : (κs : _) (s out : Lent) (n : ℕ) (x : _) → persist-save.Post κs (s, (out, tt)) (Wrote n) x → SavedOf s.now (take n x.1.0.now)
-  by_export : (κs : _) (s out : Lent) (r : WroteAnswer) (x : _) → galdovar-save.Post κs (s, (out, tt)) r x → r.code ≡ DONE → SavedOf s.now (take r.written x.1.0.now)
+  by_call : (κs : _) (s : Lent) (out : LentMut) (n : ℕ) (x : _) → persist-save.Post κs (s, (out, tt)) (Wrote n) x → SavedOf s.now (take n x.1.0.now)
+  by_export : (κs : _) (s : Lent) (out : LentMut) (r : WroteAnswer) (x : _) → galdovar-save.Post κs (s, (out, tt)) r x → r.code ≡ DONE → SavedOf s.now (take r.written x.1.0.now)
 
 -- the counter is the one that was left
 pub record Carries (mem start : List ℕ) : Type 0 where

@@ -1,6 +1,6 @@
 -- Which steps the contracts allow: one way for each call that takes storage, and one for each export; and that the theorems on bytes speak of them all.
 use Rattle.std.specs.Prelude.{ℕ, ◌^◌, ◌<◌, Bool, true, not, List, [], ◌∷◌, ◌⊎◌, ◌≡◌, eqb, length}
-use Rattle.std.specs.Borrow.{Bor}
+use Rattle.std.specs.Borrow.{Bor, MutBor}
 use Rattle.rules.specs.Numbers.{DONE}
 use Rattle.rules.specs.Calls.{Call, mount, restore_mount, umount, set_remove_pseudo_root, ask, path_walk, get_rootfs, route, lookup, readdir, remap_attr_id, options, initialized, save_to_bytes, restore_from_bytes}
 use Rattle.rules.specs.claims.Driven.{Typed, Driven}
@@ -90,18 +90,22 @@ step_by mem c t after = record { before = mem; call = c; told = t; after = after
 abbrev pub Lent : Type 0
 Lent = Bor (List ℕ)
 
+-- the same, lent to be written
+abbrev pub LentMut : Type 0
+LentMut = MutBor (List ℕ)
+
 -- ---- the calls
 
 -- one way for each call. `Post` of a function is its contract, what its `ensures` says: of its arguments, with what lent bytes held, of its answer, and of what they
 -- hold then; κs are the lifetimes of the references. A call to which the storage is lent to be read leaves it
 pub data Called : Step → Type 0 where
-  by_remove : (κs : _) (s : Lent) (r : Removal) (x : _) → storage-remove.Post κs (s, tt) r x → Called (step_by s.now set_remove_pseudo_root (removal_told r) x.0.now)
-  by_mount : (κs : _) (s path : Lent) (b : Backend) (r : Mounted) (x : _) → vfs-mount.Post κs (s, (path, (b, tt))) r x
+  by_remove : (κs : _) (s : LentMut) (r : Removal) (x : _) → storage-remove.Post κs (s, tt) r x → Called (step_by s.now set_remove_pseudo_root (removal_told r) x.0.now)
+  by_mount : (κs : _) (s : LentMut) (path : Lent) (b : Backend) (r : Mounted) (x : _) → vfs-mount.Post κs (s, (path, (b, tt))) r x
       → Called (step_by s.now (mount (request_of path.now b)) (mounted_told r) x.0.now)
-  by_restore_mount : (κs : _) (s : Lent) (k : ℕ) (path : Lent) (b : Backend) (r : RestoredMount) (x : _) → vfs-restore-mount.Post κs (s, (k, (path, (b, tt)))) r x
+  by_restore_mount : (κs : _) (s : LentMut) (k : ℕ) (path : Lent) (b : Backend) (r : RestoredMount) (x : _) → vfs-restore-mount.Post κs (s, (k, (path, (b, tt)))) r x
       → Called (step_by s.now (restore_mount k (request_of path.now b)) (restored_mount_told r) x.0.now)
-  by_umount : (κs : _) (s path : Lent) (r : Unmounted) (x : _) → vfs-umount.Post κs (s, (path, tt)) r x → Called (step_by s.now (umount path.now) (unmounted_told r) x.0.now)
-  by_restore : (κs : _) (s b : Lent) (r : StateRestored) (x : _) → persist-restore.Post κs (s, (b, tt)) r x → Called (step_by s.now (restore_from_bytes b.now) (state_restored_told r) x.0.now)
+  by_umount : (κs : _) (s : LentMut) (path : Lent) (r : Unmounted) (x : _) → vfs-umount.Post κs (s, (path, tt)) r x → Called (step_by s.now (umount path.now) (unmounted_told r) x.0.now)
+  by_restore : (κs : _) (s : LentMut) (b : Lent) (r : StateRestored) (x : _) → persist-restore.Post κs (s, (b, tt)) r x → Called (step_by s.now (restore_from_bytes b.now) (state_restored_told r) x.0.now)
   by_walk : (κs : _) (s path : Lent) (r : PathWalk) (x : _) → tree-walk.Post κs (s, (path, tt)) r x → Called (step_by s.now (ask (path_walk path.now)) (path_walk_told r) s.now)
   by_rootfs : (κs : _) (s path : Lent) (r : Rootfs) (x : _) → query-rootfs.Post κs (s, (path, tt)) r x → Called (step_by s.now (ask (get_rootfs path.now)) (rootfs_told r) s.now)
   by_route : (κs : _) (s : Lent) (n : VfsInode) (r : Routed) (x : _) → query-route.Post κs (s, (n, tt)) r x → Called (step_by s.now (ask (route n.0)) (routed_told r) s.now)
@@ -111,23 +115,23 @@ pub data Called : Step → Type 0 where
       → Called (step_by s.now (ask (remap_attr_id out uid gid)) (remapped_told r) s.now)
   by_options : (κs : _) (s : Lent) (r : OptionsOf) (x : _) → storage-options.Post κs (s, tt) r x → Called (step_by s.now (ask options) (options_told r) s.now)
   by_initialized : (κs : _) (s : Lent) (r : IsInitialized) (x : _) → storage-initialized.Post κs (s, tt) r x → Called (step_by s.now (ask initialized) (initialized_told r) s.now)
-  by_readdir : (κs : _) (s : Lent) (n : NodeNumber) (size offset : ℕ) (out : Lent) (r : Listed) (x : _) → listing-readdir.Post κs (s, (n, (size, (offset, (out, tt))))) r x
+  by_readdir : (κs : _) (s : Lent) (n : NodeNumber) (size offset : ℕ) (out : LentMut) (r : Listed) (x : _) → listing-readdir.Post κs (s, (n, (size, (offset, (out, tt))))) r x
       → Called (step_by s.now (ask (readdir (record { node = n.0; size = size; offset = offset; buffer = length out.now }))) (listed_told r) s.now)
-  by_save : (κs : _) (s out : Lent) (r : Saved) (x : _) → persist-save.Post κs (s, (out, tt)) r x → Called (step_by s.now (ask (save_to_bytes (length out.now))) (saved_told r) s.now)
+  by_save : (κs : _) (s : Lent) (out : LentMut) (r : Saved) (x : _) → persist-save.Post κs (s, (out, tt)) r x → Called (step_by s.now (ask (save_to_bytes (length out.now))) (saved_told r) s.now)
 
 -- ---- the exports
 
 -- one way for each export: what is told is what a host reads in the numbers of the answer
 pub data Exported : Step → Type 0 where
-  by_remove : (κs : _) (s : Lent) (r : CodeAnswer) (x : _) → galdovar-remove.Post κs (s, tt) r x → Exported (step_by s.now set_remove_pseudo_root (code_read r) x.0.now)
-  by_mount : (κs : _) (s path : Lent) (tag root largest uid gid mode : ℕ) (r : MountAnswer) (x : _)
+  by_remove : (κs : _) (s : LentMut) (r : CodeAnswer) (x : _) → galdovar-remove.Post κs (s, tt) r x → Exported (step_by s.now set_remove_pseudo_root (code_read r) x.0.now)
+  by_mount : (κs : _) (s : LentMut) (path : Lent) (tag root largest uid gid mode : ℕ) (r : MountAnswer) (x : _)
       → galdovar-mount.Post κs (s, (path, (tag, (root, (largest, (uid, (gid, (mode, tt)))))))) r x
       → Exported (step_by s.now (mount (request_by path.now tag root largest uid gid mode)) (mount_read r) x.0.now)
-  by_restore_mount : (κs : _) (s : Lent) (k : ℕ) (path : Lent) (tag root largest uid gid mode : ℕ) (r : RestoreMountAnswer) (x : _)
+  by_restore_mount : (κs : _) (s : LentMut) (k : ℕ) (path : Lent) (tag root largest uid gid mode : ℕ) (r : RestoreMountAnswer) (x : _)
       → galdovar-restore-mount.Post κs (s, (k, (path, (tag, (root, (largest, (uid, (gid, (mode, tt))))))))) r x
       → Exported (step_by s.now (restore_mount k (request_by path.now tag root largest uid gid mode)) (restore_mount_read r) x.0.now)
-  by_umount : (κs : _) (s path : Lent) (r : UmountAnswer) (x : _) → galdovar-umount.Post κs (s, (path, tt)) r x → Exported (step_by s.now (umount path.now) (umount_read r) x.0.now)
-  by_restore : (κs : _) (s b : Lent) (r : CodeAnswer) (x : _) → galdovar-restore.Post κs (s, (b, tt)) r x → Exported (step_by s.now (restore_from_bytes b.now) (code_read r) x.0.now)
+  by_umount : (κs : _) (s : LentMut) (path : Lent) (r : UmountAnswer) (x : _) → galdovar-umount.Post κs (s, (path, tt)) r x → Exported (step_by s.now (umount path.now) (umount_read r) x.0.now)
+  by_restore : (κs : _) (s : LentMut) (b : Lent) (r : CodeAnswer) (x : _) → galdovar-restore.Post κs (s, (b, tt)) r x → Exported (step_by s.now (restore_from_bytes b.now) (code_read r) x.0.now)
   by_walk : (κs : _) (s path : Lent) (r : WalkAnswer) (x : _) → galdovar-walk.Post κs (s, (path, tt)) r x → Exported (step_by s.now (ask (path_walk path.now)) (walk_read r) s.now)
   by_rootfs : (κs : _) (s path : Lent) (r : RootfsAnswer) (x : _) → galdovar-rootfs.Post κs (s, (path, tt)) r x → Exported (step_by s.now (ask (get_rootfs path.now)) (rootfs_read r) s.now)
   by_route : (κs : _) (s : Lent) (n : ℕ) (r : RouteAnswer) (x : _) → galdovar-route.Post κs (s, (n, tt)) r x → Exported (step_by s.now (ask (route n)) (route_read r) s.now)
@@ -137,9 +141,9 @@ pub data Exported : Step → Type 0 where
       → Exported (step_by s.now (ask (remap_attr_id (not (eqb out 0)) uid gid)) (ids_read r) s.now)
   by_options : (κs : _) (s : Lent) (r : OptionsAnswer) (x : _) → galdovar-options.Post κs (s, tt) r x → Exported (step_by s.now (ask options) (options_read r) s.now)
   by_initialized : (κs : _) (s : Lent) (r : InitializedAnswer) (x : _) → galdovar-initialized.Post κs (s, tt) r x → Exported (step_by s.now (ask initialized) (initialized_read r) s.now)
-  by_readdir : (κs : _) (s : Lent) (n size offset : ℕ) (out : Lent) (r : WroteAnswer) (x : _) → galdovar-readdir.Post κs (s, (n, (size, (offset, (out, tt))))) r x
+  by_readdir : (κs : _) (s : Lent) (n size offset : ℕ) (out : LentMut) (r : WroteAnswer) (x : _) → galdovar-readdir.Post κs (s, (n, (size, (offset, (out, tt))))) r x
       → Exported (step_by s.now (ask (readdir (record { node = n; size = size; offset = offset; buffer = length out.now }))) (wrote_read r) s.now)
-  by_save : (κs : _) (s out : Lent) (r : WroteAnswer) (x : _) → galdovar-save.Post κs (s, (out, tt)) r x → Exported (step_by s.now (ask (save_to_bytes (length out.now))) (wrote_read r) s.now)
+  by_save : (κs : _) (s : Lent) (out : LentMut) (r : WroteAnswer) (x : _) → galdovar-save.Post κs (s, (out, tt)) r x → Exported (step_by s.now (ask (save_to_bytes (length out.now))) (wrote_read r) s.now)
 
 -- ---- the claims
 
@@ -162,9 +166,9 @@ EveryRunBy = (mem : List ℕ) (ss : List Step) → RunBy mem ss → Run mem ss
 
 -- bytes that a creation left, the call or the export, which told that it is done; its mask is a number of 64 bits (R26)
 pub data CreatedBytes : List ℕ → Type 0 where
-  by_create : (κs : _) (s : Lent) (n known : ℕ) (o : VfsOptions) (r : CreatedAnswer) (x : _) → storage-create.Post κs (s, (n, (known, (o, tt)))) r x
+  by_create : (κs : _) (s : LentMut) (n known : ℕ) (o : VfsOptions) (r : CreatedAnswer) (x : _) → storage-create.Post κs (s, (n, (known, (o, tt)))) r x
       → known < 2 ^ 64 → created_code r ≡ DONE → CreatedBytes x.0.now
-  by_export : (κs : _) (s : Lent) (n known ins outs flags internal external range : ℕ) (r : CodeAnswer) (x : _)
+  by_export : (κs : _) (s : LentMut) (n known ins outs flags internal external range : ℕ) (r : CodeAnswer) (x : _)
       → galdovar-create.Post κs (s, (n, (known, (ins, (outs, (flags, (internal, (external, (range, tt))))))))) r x
       → known < 2 ^ 64 → r.code ≡ DONE → CreatedBytes x.0.now
 

@@ -1,9 +1,15 @@
 // Reads byte strings, one to a line in hex digits, and writes a line for each: where its well-formed UTF-8 ends, whether
 // that is all of it, whether it has a leading slash, whether it is too long, the number of the component check, and its
 // components: START+LENGTH for a name, START^ for a parent.
-use libc::{STDIN_FILENO, STDOUT_FILENO};
+#![tactic(auto)]
+
 use path::components::Component;
 use path::names::Checked;
+
+// The descriptors of standard input and output.
+const STDIN_FILENO: i32 = 0;
+
+const STDOUT_FILENO: i32 = 1;
 
 fn main() {
     let mut input = io::large_buffer();

@@ -1,8 +1,13 @@
 // Reads the calls of the recorded list, makes each on the port, and writes it with the port's answer behind it, as the list has it (oracle/README.md).
-use libc::{STDIN_FILENO, STDOUT_FILENO};
+#![tactic(auto)]
 
 mod calls;
 mod told;
+
+// The descriptors of standard input and output.
+const STDIN_FILENO: i32 = 0;
+
+const STDOUT_FILENO: i32 = 1;
 
 fn main() {
     let mut input = test_words::numbers::large();

@@ -1,5 +1,5 @@
 // Writes the answer of a call, in the form of the list.
-use libc::STDOUT_FILENO;
+use crate::STDOUT_FILENO;
 
 // The numbers of an answer, each behind a space.
 pub fn numbers(values: &[u64]) {

@@ -1,9 +1,12 @@
 // A session from standard input to standard output (R137): it only reads, calls and writes, 64 KiB at a time. Where a read or a write fails it says so and ends (D130).
+#![tactic(auto)]
+
 ghost use Rattle.std.specs.Prelude.{◌≤◌, length};
 ghost use Rattle.session.specs.Feeding.{TookSome, WroteAll, FedAll, InputEnds, Turned, Ran};
 
-use libc::{STDIN_FILENO, STDOUT_FILENO};
 use session_script::{Fed, Finished};
+use std::env;
+use std::io::{Error, ErrorKind, Read};
 
 // The number of nodes of the instance (R137).
 const NODES: usize = 64;
@@ -28,36 +31,42 @@ struct Stand {
     on: bool,
 }
 
-// Whether the call of C just before failed since a signal came; it moved nothing then, and is made again.
-fn interrupted() -> bool {
-    os::errno() == libc::EINTR
+// Whether a read or a write failed since a signal came; it moved nothing then, and is made again.
+fn interrupted(e: &Error) -> bool {
+    e.kind() == ErrorKind::Interrupted
 }
 
-// One write: what it took of the bytes, none where it was interrupted, and whether it failed; then it took none.
-fn write_some(fd: i32, bytes: &[u8]) -> Took
+// Says on standard error, in one line, what failed and why. Where that cannot be said, nothing is.
+fn say(rt: &HostRuntime, what: &str, why: Error) {
+    let _ = eprintln!(rt; "session: {what}: {why}");
+}
+
+// One write: what it took of the bytes, none where it was interrupted, and whether it failed; then it took none, and says so.
+fn write_some(rt: &HostRuntime, bytes: &[u8]) -> Took
     ensures { TookSome (length bytes.now) result }
 {
-    let put = libc::write(fd, bytes);
-    if 0 < put {
-        return Took {
-            count: io::count(put, bytes),
-            failed: false,
-        };
-    }
-    if put == 0 {
-        return Took {
-            count: 0,
-            failed: true,
-        };
+    let why = match Print::write_some(rt, bytes) {
+        Ok(0) => Error::from(ErrorKind::WriteZero),
+        Ok(count) => {
+            return Took {
+                count,
+                failed: false,
+            };
+        }
+        Err(e) => e,
+    };
+    let again = interrupted(&why);
+    if !again {
+        say(rt, "cannot write", why);
     }
     Took {
         count: 0,
-        failed: !interrupted(),
+        failed: !again,
     }
 }
 
 // Writes all of the bytes, and answers whether that went well; where there are none it did. A proved loop ends, and nothing says that a write gets on: the turns are counted down from a number that no run uses up.
-fn write_all(fd: i32, bytes: &[u8]) -> bool
+fn write_all(rt: &HostRuntime, bytes: &[u8]) -> bool
     ensures { WroteAll (length bytes.now) result }
 {
     let mut turns = u64::MAX;
@@ -66,7 +75,7 @@ fn write_all(fd: i32, bytes: &[u8]) -> bool
         if bytes.len() <= done {
             return true;
         }
-        let took = write_some(fd, &bytes[done..bytes.len()]);
+        let took = write_some(rt, &bytes[done..bytes.len()]);
         if took.failed {
             return false;
         }
@@ -76,20 +85,17 @@ fn write_all(fd: i32, bytes: &[u8]) -> bool
     false
 }
 
-// Writes the first bytes of the output; where that fails, says so and answers false. None are written well.
-fn put(out: &[u8], wrote: usize) -> bool
+// Writes the first bytes of the output; where that fails, answers false. None are written well.
+fn put(rt: &HostRuntime, out: &[u8], wrote: usize) -> bool
     requires { wrote ≤ length out.now }
     ensures { WroteAll wrote result }
 {
-    let all = write_all(STDOUT_FILENO, &out[0..wrote]);
-    if !all {
-        os::fail(b"session: cannot write");
-    }
-    all
+    write_all(rt, &out[0..wrote])
 }
 
 // Feeds a whole read, and writes the answers of each feed; a write that fails ends it.
 fn feed_all(
+    rt: &HostRuntime,
     storage: &mut [u8],
     carry: &mut [u8],
     kept: usize,
@@ -108,7 +114,7 @@ fn feed_all(
             Fed::Went { used, wrote, kept } => {
                 at += used;
                 line = kept;
-                if !put(out, wrote) {
+                if !put(rt, out, wrote) {
                     return Stand {
                         kept: line,
                         on: false,
@@ -130,7 +136,7 @@ fn feed_all(
 }
 
 // The input has ended: the last line's answer is written.
-fn end(storage: &mut [u8], carry: &[u8], kept: usize, out: &mut [u8])
+fn end(rt: &HostRuntime, storage: &mut [u8], carry: &[u8], kept: usize, out: &mut [u8])
     requires in_bounds { 8192 ≤ length carry.now }
     requires kept_bound { kept ≤ 8193 }
     requires in_bounds_2 { 64 ≤ length out.old }
@@ -138,7 +144,7 @@ fn end(storage: &mut [u8], carry: &[u8], kept: usize, out: &mut [u8])
 {
     match session_script::finish(storage, carry, kept, out) {
         Finished::Done(wrote) => {
-            put(out, wrote);
+            put(rt, out, wrote);
         }
         Finished::Refused => {}
     }
@@ -146,6 +152,7 @@ fn end(storage: &mut [u8], carry: &[u8], kept: usize, out: &mut [u8])
 
 // One read, and what it brings. Where it fails, what is begun is not run.
 fn turn(
+    rt: &HostRuntime,
     storage: &mut [u8],
     carry: &mut [u8],
     kept: usize,
@@ -158,31 +165,39 @@ fn turn(
     requires in_bounds_2 { 64 ≤ length out.old }
     ensures { Turned (length out.old) storage.old carry.old kept input.new out.old result storage.new carry.new out.new }
 {
-    let got = libc::read(STDIN_FILENO, input);
-    if got == 0 {
-        end(storage, carry, kept, out);
-        return Stand { kept, on: false };
-    }
-    if got < 0 {
-        let again = interrupted();
-        if !again {
-            os::fail(b"session: cannot read");
+    let n = match rt.stdin().read(input) {
+        Ok(0) => {
+            end(rt, storage, carry, kept, out);
+            return Stand { kept, on: false };
         }
-        return Stand { kept, on: again };
-    }
-    let n = io::count(got, input);
-    let stand = feed_all(storage, carry, kept, &input[..n], out);
+        Ok(n) => n,
+        Err(e) => {
+            let again = interrupted(&e);
+            if !again {
+                say(rt, "cannot read", e);
+            }
+            return Stand { kept, on: again };
+        }
+    };
+    let stand = feed_all(rt, storage, carry, kept, &input[..n], out);
     if !stand.on {
         return stand;
     }
     if copied {
-        write_all(COPY_FILENO, &input[..n]);
+        io::write_all(COPY_FILENO, &input[..n]);
     }
     stand
 }
 
 // Reads until the input ends, or a read or a write fails. The turns are counted down as in `write_all`.
-fn run(storage: &mut [u8], carry: &mut [u8], input: &mut [u8], out: &mut [u8], copied: bool)
+fn run(
+    rt: &HostRuntime,
+    storage: &mut [u8],
+    carry: &mut [u8],
+    input: &mut [u8],
+    out: &mut [u8],
+    copied: bool,
+)
     requires in_bounds { 8192 ≤ length carry.old }
     requires in_bounds_2 { 64 ≤ length out.old }
     ensures { Ran (length out.old) storage.old carry.old storage.new carry.new }
@@ -190,7 +205,7 @@ fn run(storage: &mut [u8], carry: &mut [u8], input: &mut [u8], out: &mut [u8], c
     let mut turns = u64::MAX;
     let mut kept = 0;
     while 0 < turns {
-        let stand = turn(storage, carry, kept, input, out, copied);
+        let stand = turn(rt, storage, carry, kept, input, out, copied);
         if !stand.on {
             return;
         }
@@ -200,7 +215,7 @@ fn run(storage: &mut [u8], carry: &mut [u8], input: &mut [u8], out: &mut [u8], c
 }
 
 // The instance of a session has no option bits, no mapping, and keeps its nodes (R137). With an argument, what is read is copied.
-fn main() {
+fn main(rt: HostRuntime) -> std::io::Result<()> {
     let mut storage = [0u8; STORAGE];
     let mut carry = [0u8; rules::MAX_LINE];
     let mut input = [0u8; 65536];
@@ -217,6 +232,7 @@ fn main() {
         flags: 0,
     };
     storage::create(&mut storage, NODES, 0, o);
-    let copied = 1 < os::arg_count();
-    run(&mut storage, &mut carry, &mut input, &mut out, copied);
+    let copied = 1 < env::args(&rt)?.len();
+    run(&rt, &mut storage, &mut carry, &mut input, &mut out, copied);
+    Ok(())
 }

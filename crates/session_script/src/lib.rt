@@ -1,4 +1,6 @@
 // A session as a stream: pieces of input in, answer lines out, on an instance and a begun line in lent bytes.
+#![tactic(auto)]
+
 ghost use Rattle.std.specs.Prelude.{◌+◌, ◌≤◌, length};
 ghost use Rattle.session_script.specs.Step.{Ended, Took};
 ghost use Rattle.session_script.specs.Feed.{Feeds, Finishes};

@@ -1,4 +1,6 @@
 // A line with the numbers of cells in place of their names, `$a` to `$h`.
+#![tactic(auto)]
+
 ghost use Rattle.std.specs.Prelude.{◌≡◌, ◌-◌, ◌≤◌, ◌<◌, length, get_or, take};
 ghost use Rattle.rules.specs.Session.{decimal};
 ghost use Rattle.decimal.specs.Wrote.{Wrote};

@@ -1,4 +1,6 @@
 // The sum of the tables that lent bytes stand for, by the page of the layout (docs/LAYOUT.md).
+#![tactic(auto)]
+
 ghost use Rattle.std.specs.Prelude.{◌≡◌};
 ghost use Rattle.path.specs.Steps.{part};
 ghost use Rattle.test_words.specs.Adler.{adler};
