@@ -5,7 +5,7 @@ ghost use Rattle.std.specs.Prelude.{◌≤◌, length};
 ghost use Rattle.session.specs.Feeding.{TookSome, WroteAll, FedAll, InputEnds, Turned, Ran};
 
 use session_script::{Fed, Finished};
-use std::env;
+use std::env::{Env, FillError};
 use std::io::{Error, ErrorKind, Read};
 
 // The number of nodes of the instance (R137).
@@ -215,7 +215,7 @@ fn run(
 }
 
 // The instance of a session has no option bits, no mapping, and keeps its nodes (R137). With an argument, what is read is copied.
-fn main(rt: HostRuntime) -> std::io::Result<()> {
+fn main(rt: HostRuntime) {
     let mut storage = [0u8; STORAGE];
     let mut carry = [0u8; rules::MAX_LINE];
     let mut input = [0u8; 65536];
@@ -232,7 +232,9 @@ fn main(rt: HostRuntime) -> std::io::Result<()> {
         flags: 0,
     };
     storage::create(&mut storage, NODES, 0, o);
-    let copied = 1 < env::args(&rt)?.len();
+    let copied = match rt.arg(1, &mut []) {
+        Err(FillError::NotPresent) => false,
+        Ok(_) | Err(FillError::TooLong) => true,
+    };
     run(&rt, &mut storage, &mut carry, &mut input, &mut out, copied);
-    Ok(())
 }
