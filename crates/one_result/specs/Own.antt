@@ -47,14 +47,14 @@ abbrev pub LentMem : Type 0
 LentMem = Bor Mem
 
 -- the same, to bytes lent to be written
-abbrev pub LentMut : Type 0
-LentMut = MutBor Mem
+abbrev pub LentMutMem : Type 0
+LentMutMem = MutBor Mem
 
 -- of each call, for its parameters at entry, its answer r, and its parameters at exit, marked with a prime (R164)
 pub record EveryOwnResult : Type 0 where
-  pub create : (κs : Lfts 1) (s : LentMut) (n known : ℕ) (o : VfsOptions) (r : Created) (s' : LentMut) (n' known' : ℕ) (o' : VfsOptions)
+  pub create : (κs : Lfts 1) (s : LentMutMem) (n known : ℕ) (o : VfsOptions) (r : Created) (s' : LentMutMem) (n' known' : ℕ) (o' : VfsOptions)
       → Create.Post κs (s, (n, (known, (o, tt)))) r (s', (n', (known', (o', tt)))) → creates (s.now, n, known, o) (r, s'.now)
-  pub set_remove_pseudo_root : (κs : Lfts 1) (s : LentMut) (r : Removal) (s' : LentMut)
+  pub set_remove_pseudo_root : (κs : Lfts 1) (s : LentMutMem) (r : Removal) (s' : LentMutMem)
       → SetRemovePseudoRoot.Post κs (s, tt) r (s', tt) → sets_removal s.now (r, s'.now)
   pub initialized : (κs : Lfts 1) (s : LentMem) (r : IsInitialized) (s' : LentMem)
       → Initialized.Post κs (s, tt) r (s', tt) → asks_initialized s.now r
@@ -64,13 +64,13 @@ pub record EveryOwnResult : Type 0 where
       → PathWalk.Post κs (s, (path, tt)) r (s', (path', tt)) → walks_path (s.now, path.now) r
   pub lookup : (κs : Lfts 2) (s : LentMem) (parent : NodeNumber) (name : LentMem) (r : Looked) (s' : LentMem) (parent' : NodeNumber) (name' : LentMem)
       → Lookup.Post κs (s, (parent, (name, tt))) r (s', (parent', (name', tt))) → looks_up (s.now, parent, name.now) r
-  pub readdir : (κs : Lfts 2) (s : LentMem) (node : NodeNumber) (size offset : ℕ) (out : LentMut) (r : Listed) (s' : LentMem) (node' : NodeNumber) (size' offset' : ℕ) (out' : LentMut)
+  pub readdir : (κs : Lfts 2) (s : LentMem) (node : NodeNumber) (size offset : ℕ) (out : LentMutMem) (r : Listed) (s' : LentMem) (node' : NodeNumber) (size' offset' : ℕ) (out' : LentMutMem)
       → Readdir.Post κs (s, (node, (size, (offset, (out, tt))))) r (s', (node', (size', (offset', (out', tt))))) → lists (s.now, node, size, offset, out.now) (r, out'.now)
-  pub mount : (κs : Lfts 2) (s : LentMut) (path : LentMem) (b : Backend) (r : Mounted) (s' : LentMut) (path' : LentMem) (b' : Backend)
+  pub mount : (κs : Lfts 2) (s : LentMutMem) (path : LentMem) (b : Backend) (r : Mounted) (s' : LentMutMem) (path' : LentMem) (b' : Backend)
       → Mount.Post κs (s, (path, (b, tt))) r (s', (path', (b', tt))) → mounts_path (s.now, path.now, b) (r, s'.now)
-  pub restore_mount : (κs : Lfts 2) (s : LentMut) (k : ℕ) (path : LentMem) (b : Backend) (r : RestoredMount) (s' : LentMut) (k' : ℕ) (path' : LentMem) (b' : Backend)
+  pub restore_mount : (κs : Lfts 2) (s : LentMutMem) (k : ℕ) (path : LentMem) (b : Backend) (r : RestoredMount) (s' : LentMutMem) (k' : ℕ) (path' : LentMem) (b' : Backend)
       → RestoreMount.Post κs (s, (k, (path, (b, tt)))) r (s', (k', (path', (b', tt)))) → restores_mount (s.now, k, path.now, b) (r, s'.now)
-  pub umount : (κs : Lfts 2) (s : LentMut) (path : LentMem) (r : Unmounted) (s' : LentMut) (path' : LentMem)
+  pub umount : (κs : Lfts 2) (s : LentMutMem) (path : LentMem) (r : Unmounted) (s' : LentMutMem) (path' : LentMem)
       → Umount.Post κs (s, (path, tt)) r (s', (path', tt)) → unmounts_path (s.now, path.now) (r, s'.now)
   pub get_rootfs : (κs : Lfts 2) (s path : LentMem) (r : Rootfs) (s' path' : LentMem)
       → GetRootfs.Post κs (s, (path, tt)) r (s', (path', tt)) → asks_rootfs (s.now, path.now) r
@@ -78,11 +78,11 @@ pub record EveryOwnResult : Type 0 where
       → Route.Post κs (s, (x, tt)) r (s', (x', tt)) → routes (s.now, x) r
   pub remap_attr_id : (κs : Lfts 1) (s : LentMem) (uid gid : ℕ) (outward : Bool) (r : Remapped) (s' : LentMem) (uid' gid' : ℕ) (outward' : Bool)
       → RemapAttrId.Post κs (s, (uid, (gid, (outward, tt)))) r (s', (uid', (gid', (outward', tt)))) → remaps (s.now, uid, gid, outward) r
-  pub save_to_bytes : (κs : Lfts 2) (s : LentMem) (out : LentMut) (r : Saved) (s' : LentMem) (out' : LentMut)
+  pub save_to_bytes : (κs : Lfts 2) (s : LentMem) (out : LentMutMem) (r : Saved) (s' : LentMem) (out' : LentMutMem)
       → SaveToBytes.Post κs (s, (out, tt)) r (s', (out', tt)) → saves (s.now, out.now) (r, out'.now)
-  pub restore_from_bytes : (κs : Lfts 2) (s : LentMut) (b : LentMem) (r : StateRestored) (s' : LentMut) (b' : LentMem)
+  pub restore_from_bytes : (κs : Lfts 2) (s : LentMutMem) (b : LentMem) (r : StateRestored) (s' : LentMutMem) (b' : LentMem)
       → RestoreFromBytes.Post κs (s, (b, tt)) r (s', (b', tt)) → restores_state (s.now, b.now) (r, s'.now)
-  pub feed : (κs : Lfts 4) (s carry : LentMut) (kept : ℕ) (piece : LentMem) (out : LentMut) (r : Fed) (s' carry' : LentMut) (kept' : ℕ) (piece' : LentMem) (out' : LentMut)
+  pub feed : (κs : Lfts 4) (s carry : LentMutMem) (kept : ℕ) (piece : LentMem) (out : LentMutMem) (r : Fed) (s' carry' : LentMutMem) (kept' : ℕ) (piece' : LentMem) (out' : LentMutMem)
       → Feed.Post κs (s, (carry, (kept, (piece, (out, tt))))) r (s', (carry', (kept', (piece', (out', tt))))) → feeds (s.now, carry.now, kept, piece.now, out.now) (r, s'.now, carry'.now, out'.now)
-  pub finish : (κs : Lfts 3) (s : LentMut) (carry : LentMem) (kept : ℕ) (out : LentMut) (r : Finished) (s' : LentMut) (carry' : LentMem) (kept' : ℕ) (out' : LentMut)
+  pub finish : (κs : Lfts 3) (s : LentMutMem) (carry : LentMem) (kept : ℕ) (out : LentMutMem) (r : Finished) (s' : LentMutMem) (carry' : LentMem) (kept' : ℕ) (out' : LentMutMem)
       → Finish.Post κs (s, (carry, (kept, (out, tt)))) r (s', (carry', (kept', (out', tt)))) → finishes (s.now, carry.now, kept, out.now) (r, s'.now, out'.now)
