@@ -1,4 +1,4 @@
--- Reading a number digit by digit: `readFrom` goes by `more`, one digit at a time; and the rule's widths. Assumes nothing.
+-- Reading a number digit by digit: `read_from` goes by `more`, one digit at a time; and the rule's widths. Assumes nothing.
 use Prim.Native.Nat.{ℕ, ◌+◌, ◌-◌, ◌*◌, ◌^◌, ◌≤◌, ◌<◌}
 use native.Mathlib.Omega.{arith}
 use mathlib.Core.Path.{◌≡◌, refl, sym, ap, ◌∙◌}

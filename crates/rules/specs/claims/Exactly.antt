@@ -34,7 +34,7 @@ FirstIs k (t ∷ ts) = ((t.holds ≡ true) × (k ≡ t.number)) ⊎ ((t.holds �
 abbrev pub Decides : ℕ → List Test → Type 0
 Decides code ts = (k : ℕ) → (code ≡ k) ↔ FirstIs k ts
 
--- more nodes than N, or numbers than there are; written out here too, so that a slip in `noRoom` does not pass (R67)
+-- more nodes than N, or numbers than there are; written out here too, so that a slip in `no_room` does not pass (R67)
 abbrev pub lacks_room : Instance → List ℕ → Bool
 lacks_room i path = ltb i.fixed.capacity (live i + needed i.tree path) || ltb top_number (i.tree.next + needed i.tree path)
 

@@ -25,7 +25,7 @@ none_set = record { in_opts = 0; out_opts = 0; mapping = record { internal = 0; 
 abbrev pub knowing : ℕ → Options → Instance
 knowing n o = new_instance (record { capacity = n; known = 515; options = o })
 
--- ---- the bytes: node 2, called `a`, under the root, and node 4, called `c`, under node 2; the options `storedOptions`; next number 5, counter 3
+-- ---- the bytes: node 2, called `a`, under the root, and node 4, called `c`, under node 2; the options `stored_options`; next number 5, counter 3
 
 -- number, parent, length of the name, name (R120)
 abbrev pub records : List ℕ
