@@ -13,7 +13,7 @@ use Rattle.rules.specs.Outcome.{wrote}
 use Rattle.rules.specs.Calls.{ask, save_to_bytes, restore_from_bytes, rule}
 use Rattle.rules.specs.claims.Laps.{LapsBy}
 use Rattle.rules.specs.claims.Trace.{steps_of}
-use Rattle.rules.specs.claims.Restart.{Carried, Restarted, steps_in as rulesSteps}
+use Rattle.rules.specs.claims.Restart.{Carried, Restarted, steps_in as rules_steps}
 use Rattle.rules.proofs.Encoded.{state_read}
 use Rattle.rules.proofs.Driven.{facts}
 use Rattle.rules.proofs.SaveThenRestore.{saved_fits, restore_done}
@@ -52,11 +52,11 @@ carried (l ∷ ls) mem i e (c, (r, (n, h))) =
     let w = run_stood l.steps l.start (view l.start) (begun l mem c) r in
     (c.counter ∙ e, (unrestored l.steps (view l.start) w.0 n, carried ls (bytes_left_by l) _ (ap counter_of w.1.is) h))
 
-lives_follow : (ls : List LifeOfBytes) (mem : List ℕ) → Lives Carries mem ls → Follows (steps_of_lives ls) (rulesSteps (lives_of ls))
-unfolding Lives lives_of steps_of_lives rulesSteps
+lives_follow : (ls : List LifeOfBytes) (mem : List ℕ) → Lives Carries mem ls → Follows (steps_of_lives ls) (rules_steps (lives_of ls))
+unfolding Lives lives_of steps_of_lives rules_steps
 lives_follow [] mem h = tt
 lives_follow (l ∷ ls) mem (c, (r, (n, h))) =
-    follows_append l.steps (steps_of (view l.start) (calls_of l.steps)) (steps_of_lives ls) (rulesSteps (lives_of ls))
+    follows_append l.steps (steps_of (view l.start) (calls_of l.steps)) (steps_of_lives ls) (rules_steps (lives_of ls))
     (stood_follows l.steps (view l.start) (run_stood l.steps l.start (view l.start) (begun l mem c) r).0) (lives_follow ls (bytes_left_by l) h)
 
 -- the theorem: the counter carried over
@@ -65,7 +65,7 @@ restart_of_bytes s a l bytes k f ls h last =
     let i = view s.before in
     let u = by_rule s a s.before refl i (record { keeps = l; is = refl }) in
     let z = laps_over i (counter_in s.before bytes) s.call k f (lives_of ls) (carried ls s.after (rule i s.call).after (ap counter_of u.leaves.is) h) last in
-    subst (λ (n : ℕ). LapsBy n (rulesSteps (lives_of ls))) (sym (same_sum (steps_of_lives ls) (rulesSteps (lives_of ls)) (lives_follow ls s.after h))) z
+    subst (λ (n : ℕ). LapsBy n (rules_steps (lives_of ls))) (sym (same_sum (steps_of_lives ls) (rules_steps (lives_of ls)) (lives_follow ls s.after h))) z
 
 -- ---- a save and a restore
 
@@ -114,21 +114,21 @@ after_step s a l ss r n ls h =
 
 -- the theorem: over saves and restores
 pub saved_restart_of_bytes : EverySavedRestartOfBytes
-unfolding steps_of_lives lives_of rulesSteps
+unfolding steps_of_lives lives_of rules_steps
 saved_restart_of_bytes s a l bytes k f ss r n ls h last = restart_of_bytes s a l bytes k f (record { start = s.after; steps = ss } ∷ ls) (after_step s a l ss r n ls h) last
 
 -- ---- from the answers
 
 -- the theorem: over saves and restores
 pub restart_of_answers : EveryRestartOfAnswers
-unfolding steps_of_lives lives_of rulesSteps
+unfolding steps_of_lives lives_of rules_steps
 restart_of_answers s a bytes k t ss r n ls h last =
     let l = done_laid s a t.done in
     let i = view s.before in
     let u = by_rule s a s.before refl i (record { keeps = l; is = refl }) in
     let all : List LifeOfBytes = record { start = s.after; steps = ss } ∷ ls in
     let f = lives_follow all s.after (after_step s a l ss r n ls h) in
-    let z = saved_restart_of_bytes s a l bytes k (found_told i s u.told k t) ss r n ls h (same_last k (steps_of_lives all) (rulesSteps (lives_of all)) f last none) in
+    let z = saved_restart_of_bytes s a l bytes k (found_told i s u.told k t) ss r n ls h (same_last k (steps_of_lives all) (rules_steps (lives_of all)) f last none) in
     (z.positive, z.whole)
 
 -- the theorem: over one run

@@ -8,7 +8,7 @@ use Rattle.rules.specs.Calls.{restore_from_bytes, rule}
 use Rattle.rules.specs.claims.Driven.{Driven}
 use Rattle.rules.specs.claims.Laps.{last_found, LapsBy}
 use Rattle.rules.specs.claims.Trace.{steps_of}
-use Rattle.rules.specs.claims.Restart.{Life, steps_in as rulesSteps}
+use Rattle.rules.specs.claims.Restart.{Life, steps_in as rules_steps}
 use Rattle.tables.specs.View.{view}
 use Rattle.tables.specs.Laid.{laid}
 use Rattle.vfs.specs.Runs.{Step, Allowed, Run, calls_of, counts, last_of}
@@ -71,14 +71,14 @@ pub record RestartedOfBytes (mem start : List ℕ) : Type 0 where
 -- a step handed k out; lives follow, each with the counter that was left, and the last step of all hands k out again (R87, R88)
 abbrev pub EveryRestartOfBytes : Type 0
 EveryRestartOfBytes = (s : Step) → Allowed s → laid s.before ≡ true → Bytes s.before → (k : ℕ) → (rule (view s.before) s.call).found ≡ some k
-    → (ls : List LifeOfBytes) → Lives Carries s.after ls → last_found none (rulesSteps (lives_of ls)) ≡ some k → LapsBy (counts (steps_of_lives ls)) (rulesSteps (lives_of ls))
+    → (ls : List LifeOfBytes) → Lives Carries s.after ls → last_found none (rules_steps (lives_of ls)) ≡ some k → LapsBy (counts (steps_of_lives ls)) (rules_steps (lives_of ls))
 
 -- the same over saves and restores, with steps before the first of them (R87, R88, R135)
 abbrev pub EverySavedRestartOfBytes : Type 0
 EverySavedRestartOfBytes = (s : Step) → Allowed s → laid s.before ≡ true → Bytes s.before → (k : ℕ) → (rule (view s.before) s.call).found ≡ some k
     → (ss : List Step) → Run s.after ss → NoStateRestores ss → (ls : List LifeOfBytes) → Lives RestartedOfBytes (last_of s.after ss) ls
-    → last_found none (steps_of (view s.after) (calls_of ss) ++ rulesSteps (lives_of ls)) ≡ some k
-    → LapsBy (counts (ss ++ steps_of_lives ls)) (steps_of (view s.after) (calls_of ss) ++ rulesSteps (lives_of ls))
+    → last_found none (steps_of (view s.after) (calls_of ss) ++ rules_steps (lives_of ls)) ≡ some k
+    → LapsBy (counts (ss ++ steps_of_lives ls)) (steps_of (view s.after) (calls_of ss) ++ rules_steps (lives_of ls))
 
 -- the same from what the answers tell alone: a mount tells k, and the last step of all is a mount that tells k again (R87, R135)
 abbrev pub EveryRestartOfAnswers : Type 0
