@@ -2,3 +2,5 @@
 pub mod Going
 pub mod Answers
 pub mod Lap
+pub mod Lent
+pub mod Stepping
