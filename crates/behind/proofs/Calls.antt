@@ -2,7 +2,7 @@
 use mathlib.Core.Path.{◌≡◌, refl, sym, ap, ◌∙◌, subst}
 use mathlib.Core.Bool.{Bool, true, false, cond}
 use mathlib.Core.List.{List, [], ◌∷◌, ◌++◌}
-use mathlib.Core.Option.{Option, none, some}
+use Rattle.std.specs.Prelude.{Option, None, Some}
 use Prim.Native.Nat.{ℕ, ◌<◌}
 use native.Mathlib.Omega.{arith}
 use lib.Dec.{ltb}
@@ -83,7 +83,7 @@ module _ (rest : List ℕ) where
     abbrev i : Instance
     i = view mem
 
-    index_low : (k : ℕ) → (allocation i).found ≡ some k → k < 256
+    index_low : (k : ℕ) → (allocation i).found ≡ Some k → k < 256
     index_low k f = omega (arith, (found_bounds i (counter_in mem b) k f).1)
 
     same_room : no_room (view (alloc_mem mem)) r.path ≡ no_room i r.path
@@ -93,8 +93,8 @@ module _ (rest : List ℕ) where
     -- row 5, or the rest with the index found
     found_front : no_room i r.path ≡ false → (o : Option ℕ) → (allocation i).found ≡ o → LeavesRest (found_mem o r) mem rest
     unfolding found_mem
-    found_front n none f = alloc_front mem e
-    found_front n (some k) f =
+    found_front n None f = alloc_front mem e
+    found_front n (Some k) f =
         ap (planned_mem k r) (alloc_front mem e)
         ∙ planned_front (alloc_mem mem) (alloc_keeps mem e) k r (index_low k f) (subst (λ (j : Instance). TreeIn j.tree) (sym (alloc_view mem e)) (view_in mem b)) s (same_room ∙ n)
 
@@ -144,11 +144,11 @@ module _ (rest : List ℕ) where
         (ap (λ (i : Instance). cond (bad_path path) (mem ++ rest) (off_mem (reached i path) (reached_mount i (reached i path)) (mem ++ rest))) (view_front rest mem (laid_is mem e))
         ∙ go (bad_path path) (reached (view mem) path))
       where
-        off : (x : ℕ) (m : Option Mount) → mount_of_node (view mem).tree x ≡ m → off_mem (some x) m (mem ++ rest) ≡ off_mem (some x) m mem ++ rest
-        off x none q = refl
-        off x (some m) q = take_off_front rest mem e m x (subst InSlots q (mount_in_lem (view mem).tree x (view_in mem b)))
+        off : (x : ℕ) (m : Option Mount) → mount_of_node (view mem).tree x ≡ m → off_mem (Some x) m (mem ++ rest) ≡ off_mem (Some x) m mem ++ rest
+        off x None q = refl
+        off x (Some m) q = take_off_front rest mem e m x (subst InSlots q (mount_in_lem (view mem).tree x (view_in mem b)))
 
         go : (t : Bool) (o : Option ℕ) → cond t (mem ++ rest) (off_mem o (reached_mount (view mem) o) (mem ++ rest)) ≡ cond t mem (off_mem o (reached_mount (view mem) o) mem) ++ rest
         go true o = refl
-        go false none = refl
-        go false (some x) = off x (mount_of_node (view mem).tree x) refl
+        go false None = refl
+        go false (Some x) = off x (mount_of_node (view mem).tree x) refl

@@ -2,7 +2,7 @@
 use mathlib.Core.Path.{sym, ap, subst}
 use mathlib.Core.Bool.{Bool, true, false, cond}
 use mathlib.Core.List.{List, [], ◌∷◌, ◌++◌}
-use mathlib.Core.Option.{some}
+use Rattle.std.specs.Prelude.{Some}
 use Prim.Native.Nat.{ℕ, zero, suc, ◌+◌, ◌^◌, ◌<◌}
 use native.Mathlib.Omega.{arith}
 use lib.Dec.{eqb}
@@ -68,7 +68,7 @@ unfolding node_in
 node_in_lem [] x a = tt
 node_in_lem (n ∷ ns) x a = go (eqb n.number x) (node_in_lem ns x a.1)
   where
-    go : (b : Bool) → InSlots (mount_of_found (node_in ns x)) → InSlots (mount_of_found (cond b (some n) (node_in ns x)))
+    go : (b : Bool) → InSlots (mount_of_found (node_in ns x)) → InSlots (mount_of_found (cond b (Some n) (node_in ns x)))
     go true k = a.0
     go false k = k
 

@@ -2,7 +2,7 @@
 use mathlib.Core.Path.{◌≡◌, refl, ap, ◌∙◌}
 use mathlib.Core.Bool.{Bool, true, false, cond, not, ◌&&◌}
 use mathlib.Core.List.{List, [], ◌∷◌, ◌++◌}
-use mathlib.Core.Option.{Option, none, some}
+use Rattle.std.specs.Prelude.{Option, None, Some}
 use Prim.Native.Nat.{ℕ, ◌+◌, ◌^◌, ◌≤◌, ◌<◌}
 use native.Mathlib.Omega.{arith}
 use lib.ListN.{length}
@@ -42,21 +42,21 @@ module _ (rest : List ℕ) where
         go : (b : Bool) (o : Option ℕ) → place_in (nodes_of mem) x ≡ o
             → cond b (set_root_mount m (mem ++ rest)) (at_place o (λ (i : ℕ). set_row_mount m i (mem ++ rest)) (mem ++ rest)) ≡ cond b (set_root_mount m mem) (at_place o (λ (i : ℕ). set_row_mount m i mem) mem) ++ rest
         go true o q = header_front rest mem (laid_long mem e) 17 (mount_cells m) (root_fit m)
-        go false none q = refl
-        go false (some i) q = row_mount_front rest mem d m i (row_below mem x i q)
+        go false None q = refl
+        go false (Some i) q = row_mount_front rest mem d m i (row_below mem x i q)
 
     gone_front : (x : ℕ) → LeavesRest (λ (s : List ℕ). remove_mem (nodes_of s) x s) mem rest
     unfolding remove_mem
     gone_front x = ap (λ (ns : List Node). remove_mem ns x (mem ++ rest)) nodes_front ∙ go (place_in (nodes_of mem) x) refl
       where
         go : (o : Option ℕ) → place_in (nodes_of mem) x ≡ o → at_place o (λ (i : ℕ). remove_row i (mem ++ rest)) (mem ++ rest) ≡ at_place o (λ (i : ℕ). remove_row i mem) mem ++ rest
-        go none q = refl
-        go (some i) q = remove_front rest mem d i (row_below mem x i q)
+        go None q = refl
+        go (Some i) q = remove_front rest mem d i (row_below mem x i q)
 
     freed_front : (m : Option Mount) → InSlots m → LeavesRest (freed_mem m) mem rest
     unfolding freed_mem
-    freed_front none h = refl
-    freed_front (some m) h = slot_front rest mem (laid_long mem e) m.index false 0 h
+    freed_front None h = refl
+    freed_front (Some m) h = slot_front rest mem (laid_long mem e) m.index false 0 h
 
     out_front : (x : ℕ) → LeavesRest (out_mem x) mem rest
     unfolding out_mem view
@@ -75,20 +75,20 @@ module _ (rest : List ℕ) where
         let old : Option Mount = mount_of_node (view mem).tree x in
         let m₁ = freed_mem old mem in
         let k₁ : laid m₁ ≡ true = keeps_freed mem e old in
-        let m₂ = node_mount_mem (nodes_of m₁) (some m) x m₁ in
-        let put : List ℕ → List ℕ = λ (f : List ℕ). set_slot m.index true tag (node_mount_mem (nodes_of f) (some m) x f) in
+        let m₂ = node_mount_mem (nodes_of m₁) (Some m) x m₁ in
+        let put : List ℕ → List ℕ = λ (f : List ℕ). set_slot m.index true tag (node_mount_mem (nodes_of f) (Some m) x f) in
         ap (λ (i : Instance). put (freed_mem (mount_of_node i.tree x) (mem ++ rest))) (view_front rest mem (laid_is mem e))
         ∙ ap put (freed_front mem e old h)
-        ∙ ap (set_slot m.index true tag) (mount_front m₁ k₁ (some m) x)
-        ∙ slot_front rest m₂ (laid_long m₂ (keeps_mount m₁ k₁ (some m) x)) m.index true tag k
+        ∙ ap (set_slot m.index true tag) (mount_front m₁ k₁ (Some m) x)
+        ∙ slot_front rest m₂ (laid_long m₂ (keeps_mount m₁ k₁ (Some m) x)) m.index true tag k
 
     pub take_off_front : (m : Mount) (x : ℕ) → m.index < 256 → LeavesRest (take_off_mem m x) mem rest
     unfolding take_off_mem
     take_off_front m x k =
-        let m₁ = node_mount_mem (nodes_of mem) none x mem in
-        let k₁ : laid m₁ ≡ true = keeps_mount mem e none x in
+        let m₁ = node_mount_mem (nodes_of mem) None x mem in
+        let k₁ : laid m₁ ≡ true = keeps_mount mem e None x in
         let m₂ = out_mem x m₁ in
-        ap (λ (s : List ℕ). set_slot m.index false 0 (out_mem x s)) (mount_front mem e none x)
+        ap (λ (s : List ℕ). set_slot m.index false 0 (out_mem x s)) (mount_front mem e None x)
         ∙ ap (set_slot m.index false 0) (out_front m₁ k₁ x)
         ∙ slot_front rest m₂ (laid_long m₂ (keeps_out x m₁ k₁)) m.index false 0 k
 

@@ -1,7 +1,9 @@
 -- The common form of the contracts of calls on an instance in bytes.
-use Rattle.std.specs.Prelude.{ℕ, cond, true, List, [], ◌≡◌}
+use Rattle.std.specs.Prelude.{ℕ, cond, true, List, [], ◌≡◌, Result, Ok, Err}
 use Rattle.le.specs.Mem.{write}
 use Rattle.rules.specs.Numbers.{DONE, SMALL}
+use Rattle.rules.specs.Codes.{code_of}
+use Rattle.rules.specs.declared.codes.VfsError.{VfsError}
 use Rattle.rules.specs.Instance.{Instance}
 use Rattle.rules.specs.Outcome.{Answer, nothing, Outcome, count}
 use Rattle.tables.specs.View.{view}
@@ -32,6 +34,11 @@ refuses code = counted code 0
 -- refused SMALL (R19)
 abbrev pub told_small : Told
 told_small = refuses SMALL
+
+-- of a call that answers a value or a refusal, by the values that stand for it (R15, R16)
+abbrev pub told_of : {T : Type 0} → (T → Answer) → Result T VfsError → Told
+told_of values (Ok x) = tells (values x)
+told_of values (Err e) = refuses (code_of e)
 
 -- by a rule on the instance that the bytes stand for; SMALL where they break the layout rule (R19, R21)
 unfoldable pub answered_by : List ℕ → (Instance → Outcome) → Told

@@ -1,106 +1,83 @@
 // A call on the lent bytes, and the line that tells its answer.
-use crate::regs::CELLS;
-use crate::{regs, sink, verbs};
-use le::runs::same_at;
+use crate::run::{BYTES, Run, VARIABLES};
+use crate::verbs::Verb;
+use crate::{calls, states};
 use test_words::numbers::least;
 
-// Where the counter stands in the storage, and what is behind it (docs/LAYOUT.md).
+// Where the counter stands in the storage (docs/LAYOUT.md).
 const COUNTER_AT: usize = 81;
 
-const BEHIND_COUNTER: usize = COUNTER_AT + 1;
+impl Run {
+    // A call, and what it left. What stood in the watched bytes is kept before.
+    pub fn call(&mut self, verb: Option<Verb>, name: &[u8], n: &[u64; 8]) {
+        let watch = self.watch;
+        test_steps::lent::copy(&mut self.before, &self.storage, watch);
+        self.sink.bytes(name);
+        self.made(verb, n);
+        self.left(verb);
+    }
 
-// A call, and what it left. What stood in the watched bytes is kept before.
-pub fn call(
-    verb: u64,
-    name: &[u8],
-    n: &[u64; 8],
-    storage: &mut [u8],
-    before: &mut [u8],
-    saved: &mut [u8],
-    text: &[u8],
-    regs: &mut [u64; CELLS],
-) {
-    test_steps::lent::copy(before, storage, regs[regs::WATCH]);
-    sink::bytes(name, regs);
-    made(verb, n, storage, saved, text, regs);
-    left(verb, storage, before, regs);
-}
-
-// The numbers of its answer.
-fn made(
-    verb: u64,
-    n: &[u64; 8],
-    storage: &mut [u8],
-    saved: &mut [u8],
-    text: &[u8],
-    regs: &mut [u64; CELLS],
-) {
-    let end = least(regs[regs::LENT], storage.len());
-    let len = least(regs[regs::TEXT_LEN], text.len());
-    match verb {
-        verbs::SAVE => crate::states::save(&storage[0..end], n, saved, regs),
-        verbs::RESTORE => crate::states::restore(&mut storage[0..end], n, saved, regs),
-        _ => crate::calls::call(verb, n, &mut storage[0..end], &text[0..len], regs),
-    }
-}
-
-// The rest of its line: the counter, what the call left, and the sum of the tables.
-fn left(verb: u64, storage: &[u8], before: &[u8], regs: &mut [u64; CELLS]) {
-    sink::number(test_words::hex::byte_at(storage, COUNTER_AT) as u64, regs);
-    if regs[regs::WATCH] != 0 {
-        sink::byte(b' ', regs);
-        watched(verb, storage, before, regs);
-    }
-    if regs[regs::VIEWS] != 0 {
-        let lent = least(regs[regs::LENT], storage.len());
-        viewed(&storage[0..lent], regs);
-    }
-    sink::byte(b'\n', regs);
-    regs[regs::CALLS] = std::num::wrapping_add_u64(regs[regs::CALLS], 1);
-}
-
-// What the call left of the watched bytes; `.` where it is done and writes.
-fn watched(verb: u64, storage: &[u8], before: &[u8], regs: &mut [u64; CELLS]) {
-    if regs[regs::CODE] != 0 {
-        marked(storage, before, regs);
-        return;
-    }
-    match verb {
-        verbs::CREATE | verbs::REMOVE | verbs::MOUNT => sink::byte(b'.', regs),
-        verbs::MOUNT_AT | verbs::UMOUNT | verbs::RESTORE => sink::byte(b'.', regs),
-        _ => marked(storage, before, regs),
-    }
-}
-
-// Against the copy: `=` all are as they were, `c` all but the counter, `*` not all.
-fn marked(storage: &[u8], before: &[u8], regs: &mut [u64; CELLS]) {
-    let n = least(regs[regs::WATCH], least(storage.len() as u64, before.len()));
-    if same_at(storage, 0, before, 0, n) {
-        sink::byte(b'=', regs);
-        return;
-    }
-    if BEHIND_COUNTER <= n {
-        if same_at(storage, 0, before, 0, COUNTER_AT) {
-            if same_at(
-                storage,
-                BEHIND_COUNTER,
-                before,
-                BEHIND_COUNTER,
-                n - BEHIND_COUNTER,
-            ) {
-                sink::byte(b'c', regs);
-                return;
+    // The numbers of its answer.
+    fn made(&mut self, verb: Option<Verb>, n: &[u64; 8]) {
+        let lent = least(self.lent, BYTES);
+        match verb {
+            Some(Verb::Save) => {
+                let s = &self.storage[..lent];
+                let written = states::save(s, n[1], &mut self.saved, &mut self.sink);
+                self.variables[n[0] as usize % VARIABLES] = written;
+            }
+            Some(Verb::Restore) => {
+                let saved = &self.saved[..least(n[0], BYTES)];
+                let storage = &mut self.storage[..];
+                states::restore(saved, &mut storage[..lent], &mut self.sink);
+            }
+            _ => {
+                let text = &self.text[..self.text_len.min(8192)];
+                let storage = &mut self.storage[..];
+                calls::call(verb, n, text, &mut storage[..lent], &mut self.sink);
             }
         }
     }
-    sink::byte(b'*', regs);
-}
 
-// The sum of the tables; 0 where the bytes break the layout rule.
-fn viewed(s: &[u8], regs: &mut [u64; CELLS]) {
-    if storage::is_laid(s) {
-        sink::number(test_view_sum::sum_of(s), regs);
-    } else {
-        sink::number(0, regs);
+    // The rest of its line: the counter, what the call left, and the sum of the tables.
+    fn left(&mut self, verb: Option<Verb>) {
+        let counter = test_words::hex::byte_at(&self.storage, COUNTER_AT);
+        self.sink.number(counter as u64);
+        if self.watch != 0 {
+            let done = self.sink.code == 0 && verb.is_some_and(|v| v.writes());
+            let mark = if done { b'.' } else { self.mark() };
+            self.sink.bytes(&[b' ', mark]);
+        }
+        if self.views {
+            let sum = self.view();
+            self.sink.number(sum);
+        }
+        self.sink.byte(b'\n');
+        self.sink.answers = self.sink.answers.wrapping_add(1);
+    }
+
+    // What a call left of the watched bytes: `=` all are as they were, `c` all but the counter, `*` not all.
+    fn mark(&self) -> u8 {
+        let n = least(self.watch, BYTES);
+        if self.storage[..n] == self.before[..n] {
+            return b'=';
+        }
+        if COUNTER_AT < n
+            && self.storage[..COUNTER_AT] == self.before[..COUNTER_AT]
+            && self.storage[COUNTER_AT + 1..n] == self.before[COUNTER_AT + 1..n]
+        {
+            return b'c';
+        }
+        b'*'
+    }
+
+    // The sum of the tables; 0 where the bytes break the layout rule.
+    fn view(&self) -> u64 {
+        let lent = &self.storage[..least(self.lent, BYTES)];
+        if storage::is_laid(lent) {
+            test_view_sum::sum_of(lent)
+        } else {
+            0
+        }
     }
 }

@@ -1,76 +1,122 @@
-// The verbs of a script, each as the number that `scan::names::key_of` makes of it: its length lowest, then its letters.
+// The verbs of a script, by their names.
 
-// loop
-pub const LOOP: u64 = 0x706f6f6c04;
-// end
-pub const END: u64 = 0x646e6503;
-// set
-pub const SET: u64 = 0x74657303;
-// add
-pub const ADD: u64 = 0x64646103;
-// random
-pub const RANDOM: u64 = 0x6d6f646e617206;
-// seed
-pub const SEED: u64 = 0x6465657304;
-// text
-pub const TEXT: u64 = 0x7478657404;
-// more
-pub const MORE: u64 = 0x65726f6d04;
-// fold
-pub const FOLD: u64 = 0x646c6f6604;
-// plain
-pub const PLAIN: u64 = 0x6e69616c7005;
-// watch
-pub const WATCH: u64 = 0x686374617705;
-// views
-pub const VIEWS: u64 = 0x737765697605;
-// length
-pub const LENGTH: u64 = 0x6874676e656c06;
-// fill
-pub const FILL: u64 = 0x6c6c696604;
-// scatter
-pub const SCATTER: u64 = 0x7265747461637307;
-// poke1
-pub const POKE1: u64 = 0x31656b6f7005;
-// poke8
-pub const POKE8: u64 = 0x38656b6f7005;
-// raise
-pub const RAISE: u64 = 0x657369617205;
-// keep
-pub const KEEP: u64 = 0x7065656b04;
-// back
-pub const BACK: u64 = 0x6b63616204;
-// same
-pub const SAME: u64 = 0x656d617304;
-// create
-pub const CREATE: u64 = 0x65746165726306;
-// laid
-pub const LAID: u64 = 0x6469616c04;
-// remove
-pub const REMOVE: u64 = 0x65766f6d657206;
-// init
-pub const INIT: u64 = 0x74696e6904;
-// options
-pub const OPTIONS: u64 = 0x736e6f6974706f07;
-// walk
-pub const WALK: u64 = 0x6b6c617704;
-// list
-pub const LIST: u64 = 0x7473696c04;
-// mount
-pub const MOUNT: u64 = 0x746e756f6d05;
-// mountat
-pub const MOUNT_AT: u64 = 0x7461746e756f6d07;
-// umount
-pub const UMOUNT: u64 = 0x746e756f6d7506;
-// route
-pub const ROUTE: u64 = 0x6574756f7205;
-// root
-pub const ROOT: u64 = 0x746f6f7204;
-// lookup
-pub const LOOKUP: u64 = 0x70756b6f6f6c06;
-// ids
-pub const IDS: u64 = 0x73646903;
-// save
-pub const SAVE: u64 = 0x6576617304;
-// restore
-pub const RESTORE: u64 = 0x65726f7473657207;
+#[derive(Clone, Copy, Debug, PartialEq, Eq)]
+pub enum Verb {
+    Loop,
+    End,
+    Set,
+    Add,
+    Random,
+    Seed,
+    Text,
+    More,
+    Fold,
+    Plain,
+    Watch,
+    Views,
+    Length,
+    Fill,
+    Scatter,
+    Poke1,
+    Poke8,
+    Raise,
+    Keep,
+    Back,
+    Same,
+    Create,
+    Laid,
+    Remove,
+    Init,
+    Options,
+    Walk,
+    List,
+    Mount,
+    MountAt,
+    Umount,
+    Route,
+    Root,
+    Lookup,
+    Ids,
+    Save,
+    Restore,
+}
+
+impl Verb {
+    // The verb of that name, of those that steer a run and that set, keep and compare bytes.
+    fn step(name: &[u8]) -> Option<Verb> {
+        Some(match name {
+            b"loop" => Verb::Loop,
+            b"end" => Verb::End,
+            b"set" => Verb::Set,
+            b"add" => Verb::Add,
+            b"random" => Verb::Random,
+            b"seed" => Verb::Seed,
+            b"text" => Verb::Text,
+            b"more" => Verb::More,
+            b"fold" => Verb::Fold,
+            b"plain" => Verb::Plain,
+            b"watch" => Verb::Watch,
+            b"views" => Verb::Views,
+            b"length" => Verb::Length,
+            b"fill" => Verb::Fill,
+            b"scatter" => Verb::Scatter,
+            b"poke1" => Verb::Poke1,
+            b"poke8" => Verb::Poke8,
+            b"raise" => Verb::Raise,
+            b"keep" => Verb::Keep,
+            b"back" => Verb::Back,
+            b"same" => Verb::Same,
+            _ => return None,
+        })
+    }
+
+    // The verb of that name, of those that make a call.
+    fn call(name: &[u8]) -> Option<Verb> {
+        Some(match name {
+            b"create" => Verb::Create,
+            b"laid" => Verb::Laid,
+            b"remove" => Verb::Remove,
+            b"init" => Verb::Init,
+            b"options" => Verb::Options,
+            b"walk" => Verb::Walk,
+            b"list" => Verb::List,
+            b"mount" => Verb::Mount,
+            b"mountat" => Verb::MountAt,
+            b"umount" => Verb::Umount,
+            b"route" => Verb::Route,
+            b"root" => Verb::Root,
+            b"lookup" => Verb::Lookup,
+            b"ids" => Verb::Ids,
+            b"save" => Verb::Save,
+            b"restore" => Verb::Restore,
+            _ => return None,
+        })
+    }
+
+    // The verb of that name, as `counted` has it.
+    pub fn from_name(name: &[u8]) -> Option<Verb> {
+        let name = counted(name);
+        Verb::step(name).or(Verb::call(name))
+    }
+
+    // Whether its call writes where it is done.
+    pub fn writes(self) -> bool {
+        matches!(
+            self,
+            Verb::Create | Verb::Remove | Verb::Mount | Verb::MountAt | Verb::Umount | Verb::Restore
+        )
+    }
+}
+
+// The part of a name that counts: all of it, but of 256 bytes or more what the cell of a name keeps, its length modulo 256 and its last seven bytes.
+fn counted(name: &[u8]) -> &[u8] {
+    if name.len() < 256 {
+        return name;
+    }
+    let len = name.len() % 256;
+    let last = &name[name.len() - 7..];
+    if len <= 7 && last[len..].iter().all(|b| *b == 0) {
+        return &last[..len];
+    }
+    &[]
+}

@@ -1,6 +1,6 @@
 -- What follows from the answers alone. Assumes nothing.
 use mathlib.Core.Path.{◌≡◌, refl, sym, ap, ◌∙◌, subst}
-use mathlib.Core.Option.{some}
+use Rattle.std.specs.Prelude.{Some}
 use Prim.Native.Nat.{ℕ}
 use lib.ListN.{length}
 use Rattle.rules.specs.Instance.{Instance, held_in, counter_of}
@@ -36,7 +36,7 @@ unfolding allocation
 first_of_bytes s a bytes k m =
     let i = view s.before in
     let told = (by_rule s a s.before refl i (record { keeps = done_laid s a m.done; is = refl })).told in
-    let found : (rule i s.call).found ≡ some k = found_told i s told k m in
+    let found : (rule i s.call).found ≡ Some k = found_told i s told k m in
     let moves = (searches i s.call k found).0 in
     let f = ((exact (held_in i) (counter_of i) (counter_in s.before bytes)).handed_out k).0 (sym moves.1 ∙ found) in
     (f.0, f.1, (λ j. (told j).count) ∙ (ap length moves.0 ∙ f.1.counted))

@@ -2,7 +2,7 @@
 use mathlib.Core.Path.{◌≡◌, refl}
 use mathlib.Core.Bool.{Bool, true, false, cond}
 use mathlib.Core.List.{List}
-use mathlib.Core.Option.{Option, none, some}
+use Rattle.std.specs.Prelude.{Option, None, Some}
 use Prim.Native.Nat.{ℕ}
 use lib.Dec.{eqb}
 use Rattle.rules.specs.Numbers.{root_number, DONE, index_of}
@@ -98,63 +98,63 @@ ids_answers = plain ids_numbers ids_read
 -- ---- values that are there or not
 
 mounted_back_lem : (k : ℕ) (t : Option ℕ) (n : ℕ) → Back mount_answers (record { code = DONE; answer = mounted k t; count = n })
-mounted_back_lem k none n = refl
-mounted_back_lem k (some t) n = refl
+mounted_back_lem k None n = refl
+mounted_back_lem k (Some t) n = refl
 
 mount_as : (i : Instance) (r : Request) (o : Option ℕ) → BackBy mount_answers (mount_by_index i r o)
 unfolding mount_by_index
-mount_as i r none = refl
-mount_as i r (some k) = each_of (BackBy mount_answers) _ _ (refl, (refl, mounted_back_lem k _ _))
+mount_as i r None = refl
+mount_as i r (Some k) = each_of (BackBy mount_answers) _ _ (refl, (refl, mounted_back_lem k _ _))
 
 restored_back_lem : (a d : Option ℕ) → Back restore_mount_answers (tells (restored_mount a d))
-restored_back_lem none none = refl
-restored_back_lem none (some d) = refl
-restored_back_lem (some a) none = refl
-restored_back_lem (some a) (some d) = refl
+restored_back_lem None None = refl
+restored_back_lem None (Some d) = refl
+restored_back_lem (Some a) None = refl
+restored_back_lem (Some a) (Some d) = refl
 
 unmounted_back_lem : (x p : ℕ) (t : Option ℕ) → Back umount_answers (tells (unmounted x p t))
-unmounted_back_lem x p none = refl
-unmounted_back_lem x p (some t) = refl
+unmounted_back_lem x p None = refl
+unmounted_back_lem x p (Some t) = refl
 
 unmount_at_lem : (i : Instance) (o : Option ℕ) (m : Option Mount) → BackBy umount_answers (unmount_at i o m)
 unfolding unmount_at unmounts
-unmount_at_lem i none m = refl
-unmount_at_lem i (some x) none = refl
-unmount_at_lem i (some x) (some m) = unmounted_back_lem x _ _
+unmount_at_lem i None m = refl
+unmount_at_lem i (Some x) None = refl
+unmount_at_lem i (Some x) (Some m) = unmounted_back_lem x _ _
 
 walked_back_lem : (o : Option ℕ) → Back walk_answers (tells (walked o))
-walked_back_lem none = refl
-walked_back_lem (some x) = refl
+walked_back_lem None = refl
+walked_back_lem (Some x) = refl
 
 root_held_lem : (i : Instance) (k : ℕ) (t : Option ℕ) → BackBy rootfs_answers (root_held i k t)
 unfolding root_held
-root_held_lem i k none = refl
-root_held_lem i k (some t) = refl
+root_held_lem i k None = refl
+root_held_lem i k (Some t) = refl
 
 root_at_lem : (i : Instance) (m : Option Mount) → BackBy rootfs_answers (root_at i m)
 unfolding root_at
-root_at_lem i none = refl
-root_at_lem i (some m) = root_held_lem i m.index _
+root_at_lem i None = refl
+root_at_lem i (Some m) = root_held_lem i m.index _
 
 route_tag_lem : (i : Instance) (k n : ℕ) (t : Option ℕ) → BackBy route_answers (route_tag i k n t)
 unfolding route_tag
-route_tag_lem i k n none = refl
-route_tag_lem i k n (some t) = refl
+route_tag_lem i k n None = refl
+route_tag_lem i k n (Some t) = refl
 
 route_tree_lem : (i : Instance) (n : ℕ) (m : Option Mount) → BackBy route_answers (route_tree i n m)
 unfolding route_tree
-route_tree_lem i n none = refl
-route_tree_lem i n (some m) = either (BackBy route_answers) (eqb n root_number) (λ e. route_tag_lem i _ _ _) (λ e. refl)
+route_tree_lem i n None = refl
+route_tree_lem i n (Some m) = either (BackBy route_answers) (eqb n root_number) (λ e. route_tag_lem i _ _ _) (λ e. refl)
 
 entry_of_lem : (i : Instance) (x : ℕ) (m : Option Mount) → BackBy lookup_answers (entry_of i x m)
 unfolding entry_of
-entry_of_lem i x none = refl
-entry_of_lem i x (some m) = refl
+entry_of_lem i x None = refl
+entry_of_lem i x (Some m) = refl
 
 entry_at_lem : (i : Instance) (o : Option ℕ) → BackBy lookup_answers (entry_at (mount_of_node i.tree) i o)
 unfolding entry_at
-entry_at_lem i none = refl
-entry_at_lem i (some x) = entry_of_lem i x _
+entry_at_lem i None = refl
+entry_at_lem i (Some x) = entry_of_lem i x _
 
 truth_back : (b : Bool) → Back initialized_answers (tells (truth b))
 truth_back true = refl
@@ -204,7 +204,7 @@ pub lookup_reads : (x : ℕ) (name : List ℕ) → Reads lookup_answers (ask (lo
 unfolding rule lookup_rule lookup_by
 lookup_reads x name = record {
   small = refl;
-  all = λ i. each_of (BackBy lookup_answers) _ _ (refl, (refl, (entry_at_lem i (some x), (entry_at_lem i (some (parent_in i.tree.nodes x)), (refl, entry_at_lem i _)))));
+  all = λ i. each_of (BackBy lookup_answers) _ _ (refl, (refl, (entry_at_lem i (Some x), (entry_at_lem i (Some (parent_in i.tree.nodes x)), (refl, entry_at_lem i _)))));
 }
 
 pub remap_reads : (out : Bool) (uid gid : ℕ) → Reads ids_answers (ask (remap_attr_id out uid gid))

@@ -2,7 +2,7 @@
 use mathlib.Core.Path.{◌≡◌, refl, sym, ap, ◌∙◌, subst}
 use mathlib.Core.Bool.{true}
 use mathlib.Core.List.{List, [], ◌∷◌, append-nil}
-use mathlib.Core.Option.{none}
+use Rattle.std.specs.Prelude.{None}
 use Prim.Native.Nat.{ℕ}
 use lib.ListN.{length, take, drop}
 use lib.Seq.{take-append_seam}
@@ -23,7 +23,7 @@ use Rattle.tables.specs.Laid.{laid}
 use Rattle.call_form.specs.Form.{tells, Writes}
 use Rattle.vfs.specs.Runs.{Step, Allowed, Run, calls_of, counts, last_of}
 use Rattle.mount_parts.proofs.MountWays.{counter_in}
-use Rattle.persist.specs.Saving.{saving, saved_told}
+use Rattle.persist.specs.Saving.{saving}
 use Rattle.persist.proofs.SaveWays.{done_holds}
 use Rattle.contracts.specs.Answers.{LastTells, NoStateRestores, WholeLaps, EveryLapOfAnswers}
 use Rattle.contracts.specs.Reads.{read_as}
@@ -71,13 +71,12 @@ restart_of_bytes s a l bytes k f ls h last =
 
 -- a done save found the layout rule kept, and wrote the state
 wrote_state : (mem d : List ℕ) (n : ℕ) (e : List ℕ) → Writes mem (saving d) d (tells (wrote n)) e → (laid mem ≡ true) × (take n e ≡ encode (saved_state (view mem)))
-unfolding saved_told
 wrote_state mem d n e w =
     let h = done_holds mem d n e w in
     (h.rule, (λ m. take (h.count m) (h.bytes m)) ∙ take-append_seam (encode (saved_state (view mem))) (drop n d))
 
 pub saved_state_lem : (mem b : List ℕ) → SavedOf mem b → (laid mem ≡ true) × (b ≡ encode (saved_state (view mem)))
-unfolding rule saved_told
+unfolding rule
 saved_state_lem _ _ (by_call κs s out n x w) = wrote_state s.now out.now n x.1.0.now w
 saved_state_lem _ _ (by_export κs s out r x w e) =
     let told = told_by_rule wrote_answers (ask (save_to_bytes (length out.now))) (save_reads (length out.now)) s.now r w.answer in
@@ -128,7 +127,7 @@ restart_of_answers s a bytes k t ss r n ls h last =
     let u = by_rule s a s.before refl i (record { keeps = l; is = refl }) in
     let all : List LifeOfBytes = record { start = s.after; steps = ss } ∷ ls in
     let f = lives_follow all s.after (after_step s a l ss r n ls h) in
-    let z = saved_restart_of_bytes s a l bytes k (found_told i s u.told k t) ss r n ls h (same_last k (steps_of_lives all) (rules_steps (lives_of all)) f last none) in
+    let z = saved_restart_of_bytes s a l bytes k (found_told i s u.told k t) ss r n ls h (same_last k (steps_of_lives all) (rules_steps (lives_of all)) f last None) in
     (z.positive, z.whole)
 
 -- the theorem: over one run

@@ -3,9 +3,8 @@ use mathlib.Core.Path.{◌≡◌, refl, sym, ap, ◌∙◌, subst}
 use mathlib.Core.Bool.{true}
 use mathlib.Core.List.{List, [], ◌∷◌}
 use mathlib.Core.Logic.{◌⊎◌, inl, inr, ⊎_elim}
-use mathlib.Core.Option.{Option, none, some, some-injective}
+use Rattle.std.specs.Prelude.{Option, None, Some}
 use Prim.Native.Nat.{ℕ, ◌<◌}
-use native.Mathlib.Omega.{arith}
 use native.Mathlib.Decide.{ℕ_discrete}
 use lib.ListN.{length}
 use Rattle.rules.specs.Numbers.{index_of, NOENT, INVAL}
@@ -38,36 +37,37 @@ use Rattle.contracts.proofs.Lives.{saved_state_lem, restarts}
 -- the path leads to a node on which a mount of that index stands, and its slot holds that tag
 record There (i : Instance) (path : List ℕ) (t k : ℕ) : Type 0 where
   node : ℕ
-  leads : reached i path ≡ some node
+  leads : reached i path ≡ Some node
   stood : IsAt k (mount_of_node i.tree node)
-  tag : tag_of i k ≡ some t
+  tag : tag_of i k ≡ Some t
 
 module _ (i : Instance) (t k : ℕ) where
   abbrev Answers : Outcome → Type 0
-  Answers o = o.answer ≡ rootfs (some (t, k))
+  Answers o = o.answer ≡ rootfs (Some (t, k))
 
-  held_there : (n : ℕ) (o : Option ℕ) → tag_of i n ≡ o → Answers (root_held i n o) → (n ≡ k) × (tag_of i k ≡ some t)
+  held_there : (n : ℕ) (o : Option ℕ) → tag_of i n ≡ o → Answers (root_held i n o) → (n ≡ k) × (tag_of i k ≡ Some t)
   unfolding root_held
-  held_there n none e q = let z : ◌≡◌ {A = ℕ} 0 1 = cc in absurd (omega arith)
-  held_there n (some u) e q =
-      let both : ◌≡◌ {A = Option (ℕ × ℕ)} (some (u, n)) (some (t, k)) = cc in
-      let same = some-injective (u, n) (t, k) both in
-      (λ m. (same m).1, ap (tag_of i) (sym (λ m. (same m).1)) ∙ (e ∙ (λ m. some (same m).0)))
+  held_there n None e q = cc
+  held_there n (Some u) e q =
+      let same : ◌≡◌ {A = ℕ × ℕ} (u, n) (t, k) = cc in
+      let tags : u ≡ t = λ m. (same m).0 in
+      let indexes : n ≡ k = λ m. (same m).1 in
+      (indexes, cc)
 
-  mount_there : (path : List ℕ) (x : ℕ) → reached i path ≡ some x → (m : Option Mount) → mount_of_node i.tree x ≡ m → Answers (root_at i m) → There i path t k
+  mount_there : (path : List ℕ) (x : ℕ) → reached i path ≡ Some x → (m : Option Mount) → mount_of_node i.tree x ≡ m → Answers (root_at i m) → There i path t k
   unfolding root_at
-  mount_there path x e none s q = let z : ◌≡◌ {A = ℕ} 0 1 = cc in absurd (omega arith)
-  mount_there path x e (some m) s q =
+  mount_there path x e None s q = cc
+  mount_there path x e (Some m) s q =
       let h = held_there m.index (tag_of i m.index) refl q in
       record { node = x; leads = e; stood = subst (IsAt k) (sym s) h.0; tag = h.1 }
 
   node_there : (path : List ℕ) (o : Option ℕ) → reached i path ≡ o → Answers (root_at i (reached_mount i o)) → There i path t k
   unfolding root_at
-  node_there path none e q = let z : ◌≡◌ {A = ℕ} 0 1 = cc in absurd (omega arith)
-  node_there path (some x) e q = mount_there path x e (mount_of_node i.tree x) refl q
+  node_there path None e q = cc
+  node_there path (Some x) e q = mount_there path x e (mount_of_node i.tree x) refl q
 
   refused_not : (code : ℕ) (path : List ℕ) → Answers (refused code i) → There i path t k
-  refused_not code path q = let z : ◌≡◌ {A = ℕ} 0 1 = cc in absurd (omega arith)
+  refused_not code path q = cc
 
   root_there : (path : List ℕ) → Answers (rule i (ask (get_rootfs path))) → There i path t k
   unfolding rule root_rule
@@ -120,8 +120,8 @@ not_done : (i : Instance) (x : ℕ) → 0 < index_of x → ((rule i (ask (route 
 not_done i x p n = go (tag_of i (index_of x)) refl
   where
     go : (o : Option ℕ) → tag_of i (index_of x) ≡ o → rule i (ask (route x)) ≡ refused NOENT i
-    go none e = leads_off i x p e
-    go (some t) e = absurd (n (λ m. (leads_on i x t p e m).code))
+    go None e = leads_off i x p e
+    go (Some t) e = absurd (n (λ m. (leads_on i x t p e m).code))
 
 has_or_not : (k : ℕ) (ks : List ℕ) → Has k ks ⊎ (Has k ks → ⊥)
 has_or_not k [] = inr (λ w. w)

@@ -3,7 +3,8 @@ use mathlib.Core.Path.{◌≡◌, refl, sym, ap, ◌∙◌}
 use mathlib.Core.Bool.{Bool, true, false, cond}
 use mathlib.Core.List.{List, [], ◌∷◌, ◌++◌}
 use mathlib.Core.Logic.{inl, inr, ⊎_elim}
-use mathlib.Core.Option.{Option, some, none-ne-some}
+use Rattle.std.specs.Prelude.{Option, Some}
+use Rattle.std.proofs.lemmas.Option.{none-some}
 use Prim.Native.Nat.{ℕ, ◌+◌}
 use native.Mathlib.Omega.{arith}
 use lib.ListN.{length}
@@ -68,17 +69,17 @@ run_stood (s ∷ ss) mem i h (b, (a, r)) =
 -- ---- what the answers tell is so
 
 module _ (i : Instance) (s : Step) (t : s.told ≡ told_by (rule i s.call)) where
-  pub found_told : (k : ℕ) → TellsIndex k s → (rule i s.call).found ≡ some k
+  pub found_told : (k : ℕ) → TellsIndex k s → (rule i s.call).found ≡ Some k
   unfolding rule
   found_told k h =
       let o : rule i s.call ≡ rule i (mount h.request) = ap (rule i) h.call in
       let m = (mounts_allocate i h.request).answers (sym (λ j. (o j).code) ∙ (sym (λ j. (t j).code) ∙ h.done)) in
       let same : m.0 ≡ k = let q = sym m.1.told.1 ∙ (sym (λ j. (o j).answer) ∙ (sym (λ j. (t j).answer) ∙ h.answer)) in cc in
-      (λ j. (o j).found) ∙ (m.1.found ∙ ap {B = Option ℕ} some same)
+      (λ j. (o j).found) ∙ (m.1.found ∙ ap {B = Option ℕ} Some same)
 
-  tells_found : (k : ℕ) → (rule i s.call).code ≡ 0 → (rule i s.call).found ≡ some k → TellsIndex k s
+  tells_found : (k : ℕ) → (rule i s.call).code ≡ 0 → (rule i s.call).found ≡ Some k → TellsIndex k s
   unfolding rule
-  tells_found k done e = ⊎_elim (λ q. absurd (none-ne-some k (sym q.found ∙ e))) (λ q. go q.0 q.1.call) (only_mounts i s.call (found_no_restore i s.call k e))
+  tells_found k done e = ⊎_elim (λ q. absurd (none-some k (sym q.found ∙ e))) (λ q. go q.0 q.1.call) (only_mounts i s.call (found_no_restore i s.call k e))
     where
       go : (r : Request) → s.call ≡ mount r → TellsIndex k s
       go r c =
@@ -109,7 +110,7 @@ ungiven k (s ∷ ss) i (t, h) (n, ns) =
 -- the count is told, and an index that is told was found
 pub record Follow (s : Step) (r : SearchStep) : Type 0 where
   pub count : s.told.count ≡ length r.visits
-  pub found : (k : ℕ) → TellsIndex k s → r.found ≡ some k
+  pub found : (k : ℕ) → TellsIndex k s → r.found ≡ Some k
 
 abbrev pub Follows : List Step → List SearchStep → Type 0
 Follows [] [] = Unit {0}
@@ -135,7 +136,7 @@ same_sum [] (r ∷ rs) f = absurd f
 same_sum (s ∷ ss) [] f = absurd f
 same_sum (s ∷ ss) (r ∷ rs) (f, fs) = λ j. f.count j + same_sum ss rs fs j
 
-pub same_last : (k : ℕ) (ss : List Step) (rs : List SearchStep) → Follows ss rs → LastTells k ss → (x : Option ℕ) → last_found x rs ≡ some k
+pub same_last : (k : ℕ) (ss : List Step) (rs : List SearchStep) → Follows ss rs → LastTells k ss → (x : Option ℕ) → last_found x rs ≡ Some k
 unfolding LastTells last_found
 same_last k [] rs f l x = absurd l
 same_last k (s ∷ ss) [] f l x = absurd f

@@ -1,6 +1,5 @@
 -- Demand 3 and a kept number from what the answers tell alone; and which number and which index a step tells, and the numbers of nodes that are gone, of bytes.
-use Rattle.std.specs.Prelude.{ℕ, ◌+◌, ◌%◌, ◌<◌, true, List, [], ◌∷◌, ◌⊎◌, ◌≡◌}
-use Rattle.std.proofs.Math.Option.{Option, none, some}
+use Rattle.std.specs.Prelude.{ℕ, ◌+◌, ◌%◌, ◌<◌, true, List, [], ◌∷◌, ◌⊎◌, ◌≡◌, Option, None, Some}
 use Rattle.rules.specs.Numbers.{DONE, NOENT, index_of, number_of}
 use Rattle.rules.specs.Bytes.{Bytes}
 use Rattle.rules.specs.Tree.{node_in}
@@ -40,7 +39,7 @@ NoStateRestores (s ∷ ss) = ((b : List ℕ) → s.call ≡ restore_from_bytes b
 
 -- a call tells that it is done, and gives k away: a mount tells k, or a restored mount names it (R75, R93)
 abbrev pub GivesAway : ℕ → Step → Type 0
-GivesAway k s = TellsIndex k s ⊎ ((s.told.code ≡ DONE) × (named s.call ≡ some k))
+GivesAway k s = TellsIndex k s ⊎ ((s.told.code ≡ DONE) × (named s.call ≡ Some k))
 
 -- no step does
 unfoldable pub NoneGives : ℕ → List Step → Type 0
@@ -85,5 +84,5 @@ EveryJudgedOfBytes = (p : Step) → Allowed p → (x t : ℕ) → 0 < index_of x
 
 -- a number below the next one that no node has is given to no node again, over any steps without a done state restore (R49)
 abbrev pub NeverAgainOfBytes : Type 0
-NeverAgainOfBytes = (mem : List ℕ) → laid mem ≡ true → (x : ℕ) → x < (view mem).tree.next → node_in (view mem).tree.nodes x ≡ none
-    → (ss : List Step) → Run mem ss → NoStateRestores ss → node_in (view (last_of mem ss)).tree.nodes x ≡ none
+NeverAgainOfBytes = (mem : List ℕ) → laid mem ≡ true → (x : ℕ) → x < (view mem).tree.next → node_in (view mem).tree.nodes x ≡ None
+    → (ss : List Step) → Run mem ss → NoStateRestores ss → node_in (view (last_of mem ss)).tree.nodes x ≡ None

@@ -1,6 +1,5 @@
 -- Demand 3 over restarts, of bytes: each life begins on bytes into which the state was restored that was saved of the bytes left before.
-use Rattle.std.specs.Prelude.{ℕ, true, List, [], ◌∷◌, ◌++◌, ◌≡◌, take}
-use Rattle.std.proofs.Math.Option.{none, some}
+use Rattle.std.specs.Prelude.{ℕ, true, List, [], ◌∷◌, ◌++◌, ◌≡◌, take, None, Some, Ok}
 use Rattle.rules.specs.Numbers.{DONE}
 use Rattle.rules.specs.Bytes.{Bytes}
 use Rattle.rules.specs.Instance.{counter_of}
@@ -12,7 +11,6 @@ use Rattle.rules.specs.claims.Restart.{Life, steps_in as rules_steps}
 use Rattle.tables.specs.View.{view}
 use Rattle.tables.specs.Laid.{laid}
 use Rattle.vfs.specs.Runs.{Step, Allowed, Run, calls_of, counts, last_of}
-use Rattle.persist.specs.declared.saving.Saved.TheVariants.{Wrote}
 use Rattle.persist.proofs.saving.save_to_bytes.Reads as persist-save
 use Rattle.flat.specs.declared.WroteAnswer.{WroteAnswer}
 use Rattle.gateway.proofs.state.galdovar_save_to_bytes.Reads as galdovar-save
@@ -47,7 +45,7 @@ Lives Begins mem (l ∷ ls) = Begins mem l.start × (Run l.start l.steps × (NoS
 
 -- bytes that a save of mem, the call or the export, which told that it is done, has written into a lent output: the first ones, as many as it told (R125)
 pub data SavedOf : List ℕ → List ℕ → Type 0 where
-  by_call : (κs : _) (s : Lent) (out : LentMut) (n : ℕ) (x : _) → persist-save.Post κs (s, (out, tt)) (Wrote n) x → SavedOf s.now (take n x.1.0.now)
+  by_call : (κs : _) (s : Lent) (out : LentMut) (n : ℕ) (x : _) → persist-save.Post κs (s, (out, tt)) (Ok n) x → SavedOf s.now (take n x.1.0.now)
   by_export : (κs : _) (s : Lent) (out : LentMut) (r : WroteAnswer) (x : _) → galdovar-save.Post κs (s, (out, tt)) r x → r.code ≡ DONE → SavedOf s.now (take r.written x.1.0.now)
 
 -- the counter is the one that was left
@@ -70,14 +68,14 @@ pub record RestartedOfBytes (mem start : List ℕ) : Type 0 where
 
 -- a step handed k out; lives follow, each with the counter that was left, and the last step of all hands k out again (R87, R88)
 abbrev pub EveryRestartOfBytes : Type 0
-EveryRestartOfBytes = (s : Step) → Allowed s → laid s.before ≡ true → Bytes s.before → (k : ℕ) → (rule (view s.before) s.call).found ≡ some k
-    → (ls : List LifeOfBytes) → Lives Carries s.after ls → last_found none (rules_steps (lives_of ls)) ≡ some k → LapsBy (counts (steps_of_lives ls)) (rules_steps (lives_of ls))
+EveryRestartOfBytes = (s : Step) → Allowed s → laid s.before ≡ true → Bytes s.before → (k : ℕ) → (rule (view s.before) s.call).found ≡ Some k
+    → (ls : List LifeOfBytes) → Lives Carries s.after ls → last_found None (rules_steps (lives_of ls)) ≡ Some k → LapsBy (counts (steps_of_lives ls)) (rules_steps (lives_of ls))
 
 -- the same over saves and restores, with steps before the first of them (R87, R88, R135)
 abbrev pub EverySavedRestartOfBytes : Type 0
-EverySavedRestartOfBytes = (s : Step) → Allowed s → laid s.before ≡ true → Bytes s.before → (k : ℕ) → (rule (view s.before) s.call).found ≡ some k
+EverySavedRestartOfBytes = (s : Step) → Allowed s → laid s.before ≡ true → Bytes s.before → (k : ℕ) → (rule (view s.before) s.call).found ≡ Some k
     → (ss : List Step) → Run s.after ss → NoStateRestores ss → (ls : List LifeOfBytes) → Lives RestartedOfBytes (last_of s.after ss) ls
-    → last_found none (steps_of (view s.after) (calls_of ss) ++ rules_steps (lives_of ls)) ≡ some k
+    → last_found None (steps_of (view s.after) (calls_of ss) ++ rules_steps (lives_of ls)) ≡ Some k
     → LapsBy (counts (ss ++ steps_of_lives ls)) (steps_of (view s.after) (calls_of ss) ++ rules_steps (lives_of ls))
 
 -- the same from what the answers tell alone: a mount tells k, and the last step of all is a mount that tells k again (R87, R135)

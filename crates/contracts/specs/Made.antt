@@ -1,5 +1,5 @@
 -- Which steps the contracts allow: one way for each call that takes storage, and one for each export; and that the theorems on bytes speak of them all.
-use Rattle.std.specs.Prelude.{ℕ, ◌^◌, ◌<◌, Bool, true, not, List, [], ◌∷◌, ◌⊎◌, ◌≡◌, eqb, length}
+use Rattle.std.specs.Prelude.{ℕ, ◌^◌, ◌<◌, Bool, true, not, List, [], ◌∷◌, ◌⊎◌, ◌≡◌, eqb, length, Option, Result}
 use Rattle.std.specs.Borrow.{Bor, MutBor}
 use Rattle.rules.specs.Numbers.{DONE}
 use Rattle.rules.specs.Calls.{Call, mount, restore_mount, umount, set_remove_pseudo_root, ask, path_walk, get_rootfs, route, lookup, readdir, remap_attr_id, options, initialized, save_to_bytes, restore_from_bytes}
@@ -12,18 +12,12 @@ use Rattle.inode.specs.declared.NodeNumber.{NodeNumber}
 use Rattle.storage.specs.Answers.{removal_told, initialized_told, options_told}
 use Rattle.storage.specs.Creation.{created_code}
 use Rattle.vfs_options.specs.declared.VfsOptions.{VfsOptions}
-use Rattle.storage.specs.declared.Created.{Created as CreatedAnswer}
-use Rattle.storage.specs.declared.Removal.{Removal}
-use Rattle.storage.specs.declared.IsInitialized.{IsInitialized}
-use Rattle.storage.specs.declared.OptionsOf.{OptionsOf}
 use Rattle.pseudo_fs.specs.Told.{path_walk_told}
-use Rattle.pseudo_fs.specs.declared.PathWalk.{PathWalk}
+use Rattle.pseudo_fs.specs.declared.Entry.{Entry}
 use Rattle.listing.specs.Listed.{listed_told}
-use Rattle.listing.specs.declared.Listed.{Listed}
 use Rattle.vfs_query.specs.Told.{routed_told, rootfs_told, remapped_told, looked_told}
 use Rattle.vfs_query.specs.declared.Routed.{Routed}
 use Rattle.vfs_query.specs.declared.Rootfs.{Rootfs}
-use Rattle.vfs_query.specs.declared.Looked.{Looked}
 use Rattle.vfs_query.specs.declared.Remapped.{Remapped}
 use Rattle.mount_parts.specs.Mounting.{request_of, mounted_told}
 use Rattle.mount_parts.specs.RestoredMounting.{restored_mount_told}
@@ -31,12 +25,12 @@ use Rattle.vfs.specs.Unmounting.{unmounted_told}
 use Rattle.vfs.specs.Runs.{Step, Allowed, Run, last_of}
 use Rattle.mount_parts.specs.declared.backend.Backend.{Backend}
 use Rattle.mount_parts.specs.declared.mounting.Mounted.{Mounted}
+use Rattle.mount_parts.specs.declared.mounting.MountRefused.{MountRefused}
 use Rattle.mount_parts.specs.declared.restored_mounting.RestoredMount.{RestoredMount}
 use Rattle.vfs.specs.declared.unmounting.Unmounted.{Unmounted}
 use Rattle.persist.specs.Saving.{saved_told}
 use Rattle.persist.specs.StateRestoring.{state_restored_told}
-use Rattle.persist.specs.declared.saving.Saved.{Saved}
-use Rattle.persist.specs.declared.state_restoring.StateRestored.{StateRestored}
+use Rattle.flat.specs.Flat.{VfsResult}
 use Rattle.flat.specs.declared.CodeAnswer.{CodeAnswer}
 use Rattle.flat.specs.declared.InitializedAnswer.{InitializedAnswer}
 use Rattle.flat.specs.declared.OptionsAnswer.{OptionsAnswer}
@@ -99,25 +93,25 @@ LentMut = MutBor (List ℕ)
 -- one way for each call. `Post` of a function is its contract, what its `ensures` says: of its arguments, with what lent bytes held, of its answer, and of what they
 -- hold then; κs are the lifetimes of the references. A call to which the storage is lent to be read leaves it
 pub data Called : Step → Type 0 where
-  by_remove : (κs : _) (s : LentMut) (r : Removal) (x : _) → storage-remove.Post κs (s, tt) r x → Called (step_by s.now set_remove_pseudo_root (removal_told r) x.0.now)
-  by_mount : (κs : _) (s : LentMut) (path : Lent) (b : Backend) (r : Mounted) (x : _) → vfs-mount.Post κs (s, (path, (b, tt))) r x
+  by_remove : (κs : _) (s : LentMut) (r : VfsResult (Unit {0})) (x : _) → storage-remove.Post κs (s, tt) r x → Called (step_by s.now set_remove_pseudo_root (removal_told r) x.0.now)
+  by_mount : (κs : _) (s : LentMut) (path : Lent) (b : Backend) (r : Result Mounted MountRefused) (x : _) → vfs-mount.Post κs (s, (path, (b, tt))) r x
       → Called (step_by s.now (mount (request_of path.now b)) (mounted_told r) x.0.now)
-  by_restore_mount : (κs : _) (s : LentMut) (k : ℕ) (path : Lent) (b : Backend) (r : RestoredMount) (x : _) → vfs-restore-mount.Post κs (s, (k, (path, (b, tt)))) r x
+  by_restore_mount : (κs : _) (s : LentMut) (k : ℕ) (path : Lent) (b : Backend) (r : VfsResult RestoredMount) (x : _) → vfs-restore-mount.Post κs (s, (k, (path, (b, tt)))) r x
       → Called (step_by s.now (restore_mount k (request_of path.now b)) (restored_mount_told r) x.0.now)
-  by_umount : (κs : _) (s : LentMut) (path : Lent) (r : Unmounted) (x : _) → vfs-umount.Post κs (s, (path, tt)) r x → Called (step_by s.now (umount path.now) (unmounted_told r) x.0.now)
-  by_restore : (κs : _) (s : LentMut) (b : Lent) (r : StateRestored) (x : _) → persist-restore.Post κs (s, (b, tt)) r x → Called (step_by s.now (restore_from_bytes b.now) (state_restored_told r) x.0.now)
-  by_walk : (κs : _) (s path : Lent) (r : PathWalk) (x : _) → tree-walk.Post κs (s, (path, tt)) r x → Called (step_by s.now (ask (path_walk path.now)) (path_walk_told r) s.now)
-  by_rootfs : (κs : _) (s path : Lent) (r : Rootfs) (x : _) → query-rootfs.Post κs (s, (path, tt)) r x → Called (step_by s.now (ask (get_rootfs path.now)) (rootfs_told r) s.now)
-  by_route : (κs : _) (s : Lent) (n : VfsInode) (r : Routed) (x : _) → query-route.Post κs (s, (n, tt)) r x → Called (step_by s.now (ask (route n.0)) (routed_told r) s.now)
-  by_lookup : (κs : _) (s : Lent) (n : NodeNumber) (name : Lent) (r : Looked) (x : _) → query-lookup.Post κs (s, (n, (name, tt))) r x
+  by_umount : (κs : _) (s : LentMut) (path : Lent) (r : VfsResult Unmounted) (x : _) → vfs-umount.Post κs (s, (path, tt)) r x → Called (step_by s.now (umount path.now) (unmounted_told r) x.0.now)
+  by_restore : (κs : _) (s : LentMut) (b : Lent) (r : VfsResult (Unit {0})) (x : _) → persist-restore.Post κs (s, (b, tt)) r x → Called (step_by s.now (restore_from_bytes b.now) (state_restored_told r) x.0.now)
+  by_walk : (κs : _) (s path : Lent) (r : VfsResult (Option NodeNumber)) (x : _) → tree-walk.Post κs (s, (path, tt)) r x → Called (step_by s.now (ask (path_walk path.now)) (path_walk_told r) s.now)
+  by_rootfs : (κs : _) (s path : Lent) (r : VfsResult (Option Rootfs)) (x : _) → query-rootfs.Post κs (s, (path, tt)) r x → Called (step_by s.now (ask (get_rootfs path.now)) (rootfs_told r) s.now)
+  by_route : (κs : _) (s : Lent) (n : VfsInode) (r : VfsResult Routed) (x : _) → query-route.Post κs (s, (n, tt)) r x → Called (step_by s.now (ask (route n.0)) (routed_told r) s.now)
+  by_lookup : (κs : _) (s : Lent) (n : NodeNumber) (name : Lent) (r : VfsResult Entry) (x : _) → query-lookup.Post κs (s, (n, (name, tt))) r x
       → Called (step_by s.now (ask (lookup n.0 name.now)) (looked_told r) s.now)
-  by_remap : (κs : _) (s : Lent) (uid gid : ℕ) (out : Bool) (r : Remapped) (x : _) → query-remap.Post κs (s, (uid, (gid, (out, tt)))) r x
+  by_remap : (κs : _) (s : Lent) (uid gid : ℕ) (out : Bool) (r : VfsResult Remapped) (x : _) → query-remap.Post κs (s, (uid, (gid, (out, tt)))) r x
       → Called (step_by s.now (ask (remap_attr_id out uid gid)) (remapped_told r) s.now)
-  by_options : (κs : _) (s : Lent) (r : OptionsOf) (x : _) → storage-options.Post κs (s, tt) r x → Called (step_by s.now (ask options) (options_told r) s.now)
-  by_initialized : (κs : _) (s : Lent) (r : IsInitialized) (x : _) → storage-initialized.Post κs (s, tt) r x → Called (step_by s.now (ask initialized) (initialized_told r) s.now)
-  by_readdir : (κs : _) (s : Lent) (n : NodeNumber) (size offset : ℕ) (out : LentMut) (r : Listed) (x : _) → listing-readdir.Post κs (s, (n, (size, (offset, (out, tt))))) r x
+  by_options : (κs : _) (s : Lent) (r : VfsResult VfsOptions) (x : _) → storage-options.Post κs (s, tt) r x → Called (step_by s.now (ask options) (options_told r) s.now)
+  by_initialized : (κs : _) (s : Lent) (r : VfsResult Bool) (x : _) → storage-initialized.Post κs (s, tt) r x → Called (step_by s.now (ask initialized) (initialized_told r) s.now)
+  by_readdir : (κs : _) (s : Lent) (n : NodeNumber) (size offset : ℕ) (out : LentMut) (r : VfsResult ℕ) (x : _) → listing-readdir.Post κs (s, (n, (size, (offset, (out, tt))))) r x
       → Called (step_by s.now (ask (readdir (record { node = n.0; size = size; offset = offset; buffer = length out.now }))) (listed_told r) s.now)
-  by_save : (κs : _) (s : Lent) (out : LentMut) (r : Saved) (x : _) → persist-save.Post κs (s, (out, tt)) r x → Called (step_by s.now (ask (save_to_bytes (length out.now))) (saved_told r) s.now)
+  by_save : (κs : _) (s : Lent) (out : LentMut) (r : VfsResult ℕ) (x : _) → persist-save.Post κs (s, (out, tt)) r x → Called (step_by s.now (ask (save_to_bytes (length out.now))) (saved_told r) s.now)
 
 -- ---- the exports
 
@@ -166,7 +160,7 @@ EveryRunBy = (mem : List ℕ) (ss : List Step) → RunBy mem ss → Run mem ss
 
 -- bytes that a creation left, the call or the export, which told that it is done; its mask is a number of 64 bits (R26)
 pub data CreatedBytes : List ℕ → Type 0 where
-  by_create : (κs : _) (s : LentMut) (n known : ℕ) (o : VfsOptions) (r : CreatedAnswer) (x : _) → storage-create.Post κs (s, (n, (known, (o, tt)))) r x
+  by_create : (κs : _) (s : LentMut) (n known : ℕ) (o : VfsOptions) (r : VfsResult (Unit {0})) (x : _) → storage-create.Post κs (s, (n, (known, (o, tt)))) r x
       → known < 2 ^ 64 → created_code r ≡ DONE → CreatedBytes x.0.now
   by_export : (κs : _) (s : LentMut) (n known ins outs flags internal external range : ℕ) (r : CodeAnswer) (x : _)
       → galdovar-create.Post κs (s, (n, (known, (ins, (outs, (flags, (internal, (external, (range, tt))))))))) r x

@@ -1,6 +1,5 @@
 -- A kept number over a restart, of bytes: where its mount is put back as a root query told it before the save, a route of the number tells what it told then.
-use Rattle.std.specs.Prelude.{ℕ, ◌<◌, List, [], ◌∷◌, ◌⊎◌, ◌≡◌}
-use Rattle.std.proofs.Math.Option.{some}
+use Rattle.std.specs.Prelude.{ℕ, ◌<◌, List, [], ◌∷◌, ◌⊎◌, ◌≡◌, Some}
 use Rattle.rules.specs.Numbers.{DONE, NOENT, index_of, number_of}
 use Rattle.rules.specs.Outcome.{rootfs, to_backend}
 use Rattle.rules.specs.Mount.{Request}
@@ -22,7 +21,7 @@ pub record Queried (mem path : List ℕ) (t k : ℕ) : Type 0 where
   pub allowed : Allowed step
   pub on : step.before ≡ mem
   pub call : step.call ≡ ask (get_rootfs path)
-  pub told : step.told ≡ tells (rootfs (some (t, k)))
+  pub told : step.told ≡ tells (rootfs (Some (t, k)))
 
 -- a restored mount at k tells that it is done; of its path a root query on mem told its tag and k (R91, R93)
 pub record PutsBackOfBytes (mem : List ℕ) (k : ℕ) (s : Step) : Type 0 where

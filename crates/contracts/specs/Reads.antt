@@ -1,6 +1,5 @@
 -- What a host reads in the plain numbers of an answer: its number, and its values where it is done.
-use Rattle.std.specs.Prelude.{ℕ, cond, not, eqb}
-use Rattle.std.proofs.Math.Option.{Option, none, some}
+use Rattle.std.specs.Prelude.{ℕ, cond, not, eqb, Option, None, Some}
 use Rattle.rules.specs.Numbers.{DONE}
 use Rattle.rules.specs.Outcome.{Answer, nothing, mounted, restored_mount, unmounted, walked, rootfs, to_tree, to_backend, entry, ids, wrote, settings, truth}
 use Rattle.call_form.specs.Form.{Told}
@@ -20,7 +19,7 @@ use Rattle.rules.specs.Ids.{mapping_by}
 
 -- a value where the field before it is not 0, else none (R16)
 abbrev pub value_if : {A : Type 0} → ℕ → A → Option A
-value_if has x = cond (eqb has 0) none (some x)
+value_if has x = cond (eqb has 0) None (Some x)
 
 -- the number, the values where it is DONE and none else, and the count (R15, R16)
 abbrev pub read_as : ℕ → Answer → ℕ → Told

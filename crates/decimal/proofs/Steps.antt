@@ -1,23 +1,22 @@
 -- Reading a number digit by digit: `read_from` goes by `more`, one digit at a time; and the rule's widths. Assumes nothing.
 use Prim.Native.Nat.{ℕ, ◌+◌, ◌-◌, ◌*◌, ◌^◌, ◌≤◌, ◌<◌}
 use native.Mathlib.Omega.{arith}
-use mathlib.Core.Path.{◌≡◌, refl, sym, ap, ◌∙◌}
+use mathlib.Core.Path.{◌≡◌, refl, sym, ◌∙◌}
 use mathlib.Core.Bool.{Bool, true, false, cond, ◌&&◌, and-false}
 use mathlib.Core.List.{List, [], ◌∷◌}
-use mathlib.Core.Option.{Option, none, some, none-ne-some, some-ne-none}
+use Rattle.std.specs.Prelude.{Option, None, Some}
+use Rattle.std.proofs.lemmas.Option.{none-some}
 use lib.Dec.{leb, ltb}
 use lib.ListN.{length}
 use borrow.Author.Tests.{le-leb, lt-leb, leb-true, leb-false, lt-ltb, le-ltb}
 use Rattle.rules.specs.Bytes.{same}
 use Rattle.rules.proofs.Tests.{and_both}
 use Rattle.rules.specs.Session.{is_digit, all_digits, spelt, number}
-use Rattle.decimal.specs.declared.Number.{Number}
-use Rattle.decimal.specs.declared.Number.TheVariants.{Value, Bad}
-use Rattle.decimal.specs.Read.{value_in, number_to, OfWidth, more}
+use Rattle.decimal.specs.Read.{number_to, OfWidth, more}
 
 -- reading goes on behind n
 unfoldable pub read_from : ℕ → ℕ → List ℕ → Option ℕ
-read_from max n s = cond (all_digits s && leb (spelt n s) max) (some (spelt n s)) none
+read_from max n s = cond (all_digits s && leb (spelt n s) max) (Some (spelt n s)) None
 
 -- what is spelt later only grows
 spelt_le : (s : List ℕ) (n : ℕ) → n ≤ spelt n s
@@ -25,12 +24,12 @@ unfolding spelt
 spelt_le [] n = omega arith
 spelt_le (b ∷ s) n = omega (arith, spelt_le s (n * 10 + (b - 48)))
 
-pub from_nil : (max n : ℕ) → n ≤ max → read_from max n [] ≡ value_in (Value n)
-unfolding read_from all_digits spelt value_in
+pub from_nil : (max n : ℕ) → n ≤ max → read_from max n [] ≡ Some n
+unfolding read_from all_digits spelt
 from_nil max n h = simp (le-leb _ _ h)
 
-pub from_none : (max : ℕ) (s : List ℕ) → length s ≡ 0 → number_to max s ≡ value_in Bad
-unfolding number_to same value_in
+pub from_none : (max : ℕ) (s : List ℕ) → length s ≡ 0 → number_to max s ≡ None
+unfolding number_to same
 from_none max [] h = refl
 from_none max (b ∷ s) h = absurd (let z : ⊥ = omega arith in z)
 
@@ -40,13 +39,13 @@ from_start max [] h = absurd (h refl)
 from_start max (b ∷ s) h = refl
 
 -- a value under a test says that the test passed, and which value it is
-pub some_by : (t : Bool) (n v : ℕ) → cond t (some n) none ≡ some v → (t ≡ true) × (n ≡ v)
+pub some_by : (t : Bool) (n v : ℕ) → cond t (Some n) None ≡ Some v → (t ≡ true) × (n ≡ v)
 some_by true n v e = (refl, cc)
-some_by false n v e = absurd (none-ne-some v e)
+some_by false n v e = absurd (none-some v e)
 
 -- the next digit
-pub next_value : (max n b v : ℕ) (s : List ℕ) → more max n b ≡ value_in (Value v) → (v ≤ max) × (read_from max n (b ∷ s) ≡ read_from max v s)
-unfolding more value_in read_from all_digits spelt
+pub next_value : (max n b v : ℕ) (s : List ℕ) → more max n b ≡ Some v → (v ≤ max) × (read_from max n (b ∷ s) ≡ read_from max v s)
+unfolding more read_from all_digits spelt
 next_value max n b v s e =
     let found = some_by (is_digit b && leb (n * 10 + (b - 48)) max) (n * 10 + (b - 48)) v e in
     let same : n * 10 + (b - 48) ≡ v = found.1 in
@@ -55,32 +54,15 @@ next_value max n b v s e =
     (omega (arith, leb-true (n * 10 + (b - 48)) max both.1), simp (hd, same))
 
 stop : (max n b : ℕ) (s : List ℕ) (d t : Bool) → is_digit b ≡ d → leb (n * 10 + (b - 48)) max ≡ t
-    → ◌≡◌ {A = Option ℕ} (cond (d && t) (some (n * 10 + (b - 48))) none) none → read_from max n (b ∷ s) ≡ none
+    → ◌≡◌ {A = Option ℕ} (cond (d && t) (Some (n * 10 + (b - 48))) None) None → read_from max n (b ∷ s) ≡ None
 unfolding read_from all_digits spelt
-stop max n b s true true hd ht e = absurd (some-ne-none _ e)
+stop max n b s true true hd ht e = absurd (none-some _ (sym e))
 stop max n b s true false hd ht e = simp (hd, lt-leb _ _ (let y : max < spelt (n * 10 + (b - 48)) s = omega (arith, leb-false (n * 10 + (b - 48)) max ht, spelt_le s (n * 10 + (b - 48))) in y), and-false)
 stop max n b s false t hd ht e = simp hd
 
-pub next_bad : (max n b : ℕ) (s : List ℕ) → more max n b ≡ value_in Bad → read_from max n (b ∷ s) ≡ value_in Bad
-unfolding more value_in
+pub next_bad : (max n b : ℕ) (s : List ℕ) → more max n b ≡ None → read_from max n (b ∷ s) ≡ None
+unfolding more
 next_bad max n b s e = stop max n b s _ _ refl refl e
-
--- one step, by where the byte and the sum lie
-pub more_low : (max n b : ℕ) → b < 48 → value_in Bad ≡ more max n b
-unfolding more is_digit value_in
-more_low max n b h = simp (lt-leb _ _ h)
-
-pub more_high : (max n b : ℕ) → 57 < b → value_in Bad ≡ more max n b
-unfolding more is_digit value_in
-more_high max n b h = simp (lt-leb _ _ h, and-false)
-
-pub more_big : (max n b : ℕ) → max < n * 10 + (b - 48) → value_in Bad ≡ more max n b
-unfolding more value_in
-more_big max n b h = simp (lt-leb _ _ h, and-false)
-
-pub more_good : (max n b : ℕ) → 48 ≤ b → b ≤ 57 → n * 10 + (b - 48) ≤ max → value_in (Value (n * 10 + (b - 48))) ≡ more max n b
-unfolding more is_digit value_in
-more_good max n b h k l = simp (le-leb _ _ h, le-leb _ _ k, le-leb _ _ l)
 
 -- ---- widths
 
@@ -94,16 +76,6 @@ of_width bits max e s = rw (up_to max (2 ^ bits) (spelt 0 s) e _ refl)
 
 -- ---- answers
 
--- the answer that tells so
-abbrev number_from : Option ℕ → Number
-number_from (some n) = Value n
-number_from none = Bad
-
-back : (r : Number) → number_from (value_in r) ≡ r
-unfolding value_in
-back (Value n) = refl
-back Bad = refl
-
--- two answers that tell the same are equal
-pub value_in_injective : (r q : Number) → value_in r ≡ value_in q → r ≡ q
-value_in_injective r q e = sym (back r) ∙ ap number_from e ∙ back q
+-- two answers of a reading of which the same is said are equal
+pub value_in_injective : (x r q : Option ℕ) → r ≡ x → q ≡ x → r ≡ q
+value_in_injective x r q a b = a ∙ sym b

@@ -2,16 +2,18 @@
 use Prim.Native.Nat.{ℕ, zero, suc, ◌+◌, ◌/◌, ◌%◌, ◌^◌, ◌≤◌, ◌<◌}
 use native.Mathlib.Omega.{arith}
 use native.Mathlib.Nat.{div-lt_iff_lt-mul, pow-suc}
-use mathlib.Core.Path.{◌≡◌, refl, sym, ap, ◌∙◌}
+use mathlib.Core.Path.{◌≡◌, refl, sym, ap, ◌∙◌, subst}
 use mathlib.Core.Bool.{Bool, true, false}
 use mathlib.Core.List.{List, [], ◌∷◌, ◌++◌}
 use lib.Dec.{ltb}
-use lib.ListN.{length, set, length-append}
+use lib.ListN.{length, length-append}
 use borrow.Author.Tests.{lt-ltb, le-ltb, ltb-true, ltb-false}
 use Rattle.rules.specs.Session.{digits, decimal}
 use Rattle.le.specs.Mem.{write}
 use Rattle.le.proofs.Lens.{write_append}
+use Rattle.decimal.specs.declared.inner.Text.{Text}
 use Rattle.decimal.specs.Wrote.{Wrote}
+use Rattle.decimal.specs.Text.{Appended}
 
 -- one digit at a time
 pub small : (k n : ℕ) → n < 10 → digits (suc k) n ≡ (48 + n) ∷ []
@@ -68,14 +70,6 @@ length_one n h = rw (decimal_small n h)
 
 -- ---- texts, one behind the other
 
--- the last digit alone, or behind those before it
-pub put_first : (n i : ℕ) (l : List ℕ) → n < 10 → set l i (48 + n) ≡ write l i (decimal n)
-put_first n i l h = rw (decimal_small n h)
-
-pub put_next : (n i k : ℕ) (l m : List ℕ) → 10 ≤ n → n < 10 ^ 20 → k ≡ i + length (decimal (n / 10)) → m ≡ write l i (decimal (n / 10))
-    → set m k (48 + n % 10) ≡ write l i (decimal n)
-put_next n i k l m h b e o = rw (e, o, decimal_step n h b) (sym (write_append l i (decimal (n / 10)) ((48 + n % 10) ∷ [])))
-
 -- two writers, one behind the other, are one
 pub wrote_more : {l m k : List ℕ} {at a b : ℕ} {xs ys : List ℕ} {r q : ℕ} → Wrote l at a xs r m → Wrote m r b ys q k → Wrote l at (a + b) (xs ++ ys) q k
 wrote_more {l} {m} {k} {at} {a} {b} {xs} {ys} {r} {q} f g = record {
@@ -87,3 +81,25 @@ wrote_more {l} {m} {k} {at} {a} {b} {xs} {ys} {r} {q} f g = record {
 -- a wider bound holds too
 pub wrote_wider : {l m : List ℕ} {at a b : ℕ} {xs : List ℕ} {r : ℕ} → a ≤ b → Wrote l at a xs r m → Wrote l at b xs r m
 wrote_wider h f = record { end = f.end; within = omega arith; bytes = f.bytes }
+
+-- ---- a writer, one text behind another
+
+pub none_appended : (t : Text) → Appended t 0 [] t
+none_appended t = record { same_slice = refl; same_length = refl; wrote = record { end = omega arith; within = omega arith; bytes = refl } }
+
+pub appended_more : {l m k : Text} {a b : ℕ} {xs ys : List ℕ} → Appended l a xs m → Appended m b ys k → Appended l (a + b) (xs ++ ys) k
+appended_more f g = record { same_slice = g.same_slice ∙ f.same_slice; same_length = g.same_length ∙ f.same_length; wrote = wrote_more f.wrote g.wrote }
+
+-- the same text by another name, and a wider bound
+pub appended_as : {l m : Text} {a b : ℕ} {xs ys : List ℕ} → a ≤ b → xs ≡ ys → Appended l a xs m → Appended l b ys m
+appended_as {l} {m} {a} {b} h e f = record { same_slice = f.same_slice; same_length = f.same_length; wrote = subst (λ (xs : List ℕ). Wrote l.out.now l.at b xs m.at m.out.now) e (wrote_wider h f.wrote) }
+
+-- a number: its one digit, or its last one behind the others
+pub appended_one : {l m : Text} (n : ℕ) → n < 10 → Appended l 1 ((48 + n % 10) ∷ []) m → Appended l (length (decimal n)) (decimal n) m
+appended_one n h f =
+    let k : n % 10 ≡ n = omega arith in
+    rw (decimal_small n h, ← k) f
+
+pub appended_next : {l m k : Text} (n : ℕ) → 10 ≤ n → n < 10 ^ 20 → Appended l (length (decimal (n / 10))) (decimal (n / 10)) m → Appended m 1 ((48 + n % 10) ∷ []) k
+    → Appended l (length (decimal n)) (decimal n) k
+appended_next n h b f g = appended_as (omega (arith, length_step n h b)) (sym (decimal_step n h b)) (appended_more f g)

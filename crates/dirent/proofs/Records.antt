@@ -160,13 +160,15 @@ module _ (d : List ℕ) (ino off : ℕ) (name : List ℕ) where
       lays_in d (length d) (dirent ino off name) n e₂ (record { fits = omega (arith, entry_whole); count = q ∙ sym entry_whole; bytes = parts d front name e₁ e₂ a t })
 
   -- the name length in its four bytes; the name, and then the zeros
-  pub entry_run : (e₁ e₂ e₃ : List ℕ) → 24 + length name + padding (24 + length name) ≤ length d → e₁ ≡ write d 0 (fields dirent_row (ino ∷ off ∷ length name % 256 ^ 4 ∷ 0 ∷ []))
-      → e₂ ≡ write e₁ 24 name → e₃ ≡ write e₂ (24 + length name) (replicate (padding (24 + length name)) 0)
-      → Lays d (length d) (dirent ino off name ∷ []) (24 + length name + padding (24 + length name)) e₃
-  entry_run e₁ e₂ e₃ h a b c =
-      let zs : List ℕ = replicate (padding (24 + length name)) 0 in
-      entry_in (24 + length name + padding (24 + length name)) e₁ e₃ (omega arith) h (a ∙ ap (write d 0) (front_low ino off (length name)))
-      (c ∙ ap (λ (m : List ℕ). write m (24 + length name) zs) b ∙ sym (write_append e₁ 24 name zs) ∙ ap (write e₁ 24) (sym (name_zeros 24 name refl)))
+  pub entry_run : (n : ℕ) (e₁ e₂ e₃ : List ℕ) → n ≡ 24 + (length name + 7) / 8 * 8 → n ≤ length d → e₁ ≡ write d 0 (fields dirent_row (ino ∷ off ∷ length name % 256 ^ 4 ∷ 0 ∷ []))
+      → e₂ ≡ write e₁ 24 name → e₃ ≡ write e₂ (24 + length name) (replicate (n - (24 + length name)) 0)
+      → Lays d (length d) (dirent ino off name ∷ []) n e₃
+  unfolding name_field
+  entry_run n e₁ e₂ e₃ q h a b c =
+      let zs : List ℕ = replicate (n - (24 + length name)) 0 in
+      let k : n - (24 + length name) ≡ padding (length name) = omega arith in
+      entry_in n e₁ e₃ q h (a ∙ ap (write d 0) (front_low ino off (length name)))
+      (c ∙ ap (λ (m : List ℕ). write m (24 + length name) zs) b ∙ sym (write_append e₁ 24 name zs) ∙ ap (λ (z : ℕ). write e₁ 24 (name ++ replicate z 0)) k)
 
 -- the same, by another spelling of the length of the name
 module _ (d : List ℕ) (ino off : ℕ) (name : List ℕ) (l : ℕ) (size : l ≡ length name) where

@@ -41,7 +41,7 @@ pub fn put_short(out: &mut [u8], at: usize, len: u64, word: u64)
     le::fields::put_u64(out, at, word % (1 << (8 * len)));
 }
 
-// Copies n words of src at `from` into dst at a place, the first of them outside the loop.
+// Copies n words of src at `from` into dst at a place, the first of them outside the loop: most names have no other.
 fn copy_words(dst: &mut [u8], at: usize, src: &[u8], from: usize, n: usize)
     requires le_n { 1 ≤ n }
     requires n_in_bounds { at + 8 * n ≤ length dst.old }
@@ -49,10 +49,8 @@ fn copy_words(dst: &mut [u8], at: usize, src: &[u8], from: usize, n: usize)
     ensures { dst.new ≡ write dst.old at (read src.now from (8 * n)) }
 {
     le::fields::put_u64(dst, at, le::fields::get_u64(src, from));
-    let mut i = 1;
-    while i < n {
+    for i in 1..n {
         le::fields::put_u64(dst, at + 8 * i, le::fields::get_u64(src, from + 8 * i));
-        i += 1;
     }
 }
 

@@ -17,20 +17,13 @@ const TWO_32: usize = 4294967296;
 pub fn write_dirent(out: &mut [u8], ino: u64, off: u64, name: &[u8]) -> usize
     ensures { Lays out.old (length out.old) (dirent ino off name.now ∷ []) result out.new }
 {
-    if out.len() < FRONT {
-        return 0;
-    }
-    if out.len() - FRONT < name.len() {
-        return 0;
-    }
     let end = FRONT + name.len();
-    let room = out.len() - end;
-    let pad = (8 - end % 8) % 8;
-    if room < pad {
+    let size = inner::whole(FRONT, name.len());
+    if out.len() < size {
         return 0;
     }
     inner::put_front(out, 0, ino, off, (name.len() % TWO_32) as u32);
     le::runs::copy_at(out, FRONT, name);
-    le::runs::fill_at(out, end, pad, 0);
-    end + pad
+    le::runs::fill_at(out, end, size - end, 0);
+    size
 }

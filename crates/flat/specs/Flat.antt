@@ -1,10 +1,10 @@
 -- The plain numbers of each answer: its number, its values in a fixed order with zeros where it has none, and the count.
-use Rattle.std.specs.Prelude.{ℕ, List, [], ◌∷◌, get_or}
-use Rattle.std.proofs.Math.Option.{Option, none, some}
+use Rattle.std.specs.Prelude.{ℕ, List, [], ◌∷◌, get_or, Option, None, Some, Result}
 use Rattle.rules.specs.Numbers.{or_zero}
 use Rattle.rules.specs.Outcome.{Answer, nothing, mounted, restored_mount, unmounted, walked, rootfs, to_tree, to_backend, entry, ids, wrote, settings, truth}
 use Rattle.tables.specs.Write.{yes_byte}
-use Rattle.call_form.specs.Form.{Told}
+use Rattle.rules.specs.declared.codes.VfsError.{VfsError}
+use Rattle.call_form.specs.Form.{Told, told_of}
 use Rattle.flat.specs.declared.CodeAnswer.{CodeAnswer}
 use Rattle.flat.specs.declared.InitializedAnswer.{InitializedAnswer}
 use Rattle.flat.specs.declared.OptionsAnswer.{OptionsAnswer}
@@ -23,8 +23,8 @@ use Rattle.flat.specs.declared.InodeAnswer.{InodeAnswer}
 
 -- whether there is one: "none" is told from 0 by this (R16)
 abbrev pub has : Option ℕ → ℕ
-has none = 0
-has (some x) = 1
+has None = 0
+has (Some x) = 1
 
 -- the numbers of each answer's values, in order; a refusal has none, and a place behind the last counts as 0 (R16)
 abbrev pub plain_numbers : Answer → List ℕ
@@ -33,8 +33,8 @@ plain_numbers (mounted k t) = k ∷ has t ∷ or_zero t ∷ []
 plain_numbers (restored_mount a d) = has a ∷ or_zero a ∷ has d ∷ or_zero d ∷ []
 plain_numbers (unmounted x p t) = x ∷ p ∷ has t ∷ or_zero t ∷ []
 plain_numbers (walked x) = has x ∷ or_zero x ∷ []
-plain_numbers (rootfs none) = []
-plain_numbers (rootfs (some b)) = 1 ∷ b.0 ∷ b.1 ∷ []
+plain_numbers (rootfs None) = []
+plain_numbers (rootfs (Some b)) = 1 ∷ b.0 ∷ b.1 ∷ []
 plain_numbers (to_tree x) = 0 ∷ 0 ∷ 0 ∷ x ∷ []
 plain_numbers (to_backend t k x) = 1 ∷ t ∷ k ∷ x ∷ []
 plain_numbers (entry x m u g b) = x ∷ m ∷ u ∷ g ∷ b ∷ []
@@ -46,6 +46,16 @@ plain_numbers (truth b) = yes_byte b ∷ []
 -- the value at a place
 abbrev pub plain_number : Told → ℕ → ℕ
 plain_number t k = get_or (plain_numbers t.answer) k 0
+
+-- ---- calls that are done or refused
+
+-- what it answers: a value, or why it is refused
+abbrev pub VfsResult : Type 0 → Type 0
+VfsResult T = Result T VfsError
+
+-- what one tells that writes bytes: how many (R66, R125)
+abbrev pub wrote_told : VfsResult ℕ → Told
+wrote_told = told_of wrote
 
 -- ---- answers
 

@@ -2,62 +2,31 @@
 #![tactic(auto)]
 
 ghost use Rattle.std.specs.Prelude.{◌≡◌};
-ghost use Rattle.call_form.specs.Form.{refuses};
 ghost use Rattle.listing.specs.Listed.{listed_told};
 ghost use Rattle.persist.specs.Saving.{saved_told};
 ghost use Rattle.persist.specs.StateRestoring.{state_restored_told};
 ghost use Rattle.flat.specs.Flat.{code_numbers, wrote_numbers};
 
 use flat::{CodeAnswer, WroteAnswer};
-use listing::Listed;
-use persist::saving::Saved;
-use persist::state_restoring::StateRestored;
-use rules::codes::{BADOPT, BADSAVE, DONE, NOENT, NOROOM, NOTFRESH, SMALL};
-
-// Refused, with nothing written: zeros (R16, R17).
-fn no_bytes(code: u32) -> WroteAnswer
-    ensures { result ≡ wrote_numbers (refuses code) }
-{
-    WroteAnswer { code, written: 0 }
-}
+use rules::codes::VfsResult;
 
 // What a listing answers, as numbers (R63, R66).
-pub fn listed(a: Listed) -> WroteAnswer
-    ensures { result ≡ wrote_numbers (listed_told a) }
+pub fn listed(listing: VfsResult<usize>) -> WroteAnswer
+    ensures { result ≡ wrote_numbers (listed_told listing) }
 {
-    match a {
-        Listed::Wrote(n) => WroteAnswer {
-            code: DONE,
-            written: n as u64,
-        },
-        Listed::NoEnt => no_bytes(NOENT),
-        Listed::Small => no_bytes(SMALL),
-    }
+    WroteAnswer::from(listing)
 }
 
 // What a save answers, as numbers (R125).
-pub fn saved(a: Saved) -> WroteAnswer
-    ensures { result ≡ wrote_numbers (saved_told a) }
+pub fn saved(save: VfsResult<usize>) -> WroteAnswer
+    ensures { result ≡ wrote_numbers (saved_told save) }
 {
-    match a {
-        Saved::Wrote(n) => WroteAnswer {
-            code: DONE,
-            written: n as u64,
-        },
-        Saved::Small => no_bytes(SMALL),
-    }
+    WroteAnswer::from(save)
 }
 
 // What a state restore answers, as its number (R128).
-pub fn state_restored(a: StateRestored) -> CodeAnswer
-    ensures { result ≡ code_numbers (state_restored_told a) }
+pub fn state_restored(restore: VfsResult<()>) -> CodeAnswer
+    ensures { result ≡ code_numbers (state_restored_told restore) }
 {
-    match a {
-        StateRestored::Done => CodeAnswer { code: DONE },
-        StateRestored::NotFresh => CodeAnswer { code: NOTFRESH },
-        StateRestored::BadSave => CodeAnswer { code: BADSAVE },
-        StateRestored::BadOpt => CodeAnswer { code: BADOPT },
-        StateRestored::NoRoom => CodeAnswer { code: NOROOM },
-        StateRestored::Small => CodeAnswer { code: SMALL },
-    }
+    CodeAnswer::from(restore)
 }

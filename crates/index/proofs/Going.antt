@@ -2,8 +2,7 @@
 -- What is to be found from the start is what is to be found from `next` on.
 -- Assumes nothing.
 use Rattle.std.proofs.Common.{◌≡◌, ℕ, suc, ◌+◌, ◌-◌, ◌%◌, ◌<◌, ◌≤◌, Bool, true, false, length, refl, ap, ◌∙◌, ⊎_elim, eq-zero-or-pos, eq-or-lt_of_le, arith}
-use mathlib.Core.Option.{none, some}
-use Rattle.rules.specs.Numbers.{DONE, FULL}
+use Rattle.std.specs.Prelude.{None, Some}
 use Rattle.rules.specs.Round.{after, going_round, until_twice, visited, first_free, free_of, allocate}
 use Rattle.index.specs.Search.{search_told}
 
@@ -53,7 +52,7 @@ module _ (free : ℕ → Bool) (start count next : ℕ) (g : Going free start co
       start_passed = ⊎_elim (λ h. ap free (omega arith) ∙ e) (λ h. g.passed h) (eq-zero-or-pos count)
 
   -- one that is free is found
-  found_here : free next ≡ true → first_free free (until_twice start) ≡ some next
+  found_here : free next ≡ true → first_free free (until_twice start) ≡ Some next
   unfolding going_round first_free
   found_here e = g.finds ∙ rw (left, e)
 
@@ -65,7 +64,7 @@ module _ (free : ℕ → Bool) (start count next : ℕ) (g : Going free start co
   last_left : next ≡ start → 0 < count → 257 - count ≡ 1
   last_left e p = omega arith
 
-  none_left : next ≡ start → 0 < count → first_free free (until_twice start) ≡ none
+  none_left : next ≡ start → 0 < count → first_free free (until_twice start) ≡ None
   unfolding going_round first_free
   none_left e p = g.finds ∙ rw (last_left e p, e, g.passed p)
 
@@ -78,10 +77,10 @@ module _ (held : ℕ → Bool) (start count next : ℕ) (g : Going (free_of held
   moved : (start + (count + 1)) % 256 ≡ (next + 1) % 256
   moved = omega arith
 
-  pub ends_found : free_of held next ≡ true → (last : ℕ) → last ≡ (next + 1) % 256 → record { code = DONE; found = some next; count = count + 1; counter = last } ≡ search_told (allocate held start)
+  pub ends_found : free_of held next ≡ true → (last : ℕ) → last ≡ (next + 1) % 256 → record { answer = Some next; count = count + 1; next_super = last } ≡ search_told (allocate held start)
   unfolding search_told allocate
   ends_found e last l = rw (l, found_here _ _ _ _ g e, counted_here _ _ _ _ g e, moved)
 
-  pub ends_full : next ≡ start → 0 < count → (last : ℕ) → last ≡ (next + 1) % 256 → record { code = FULL; found = none; count = count + 1; counter = last } ≡ search_told (allocate held start)
+  pub ends_full : next ≡ start → 0 < count → (last : ℕ) → last ≡ (next + 1) % 256 → record { answer = None; count = count + 1; next_super = last } ≡ search_told (allocate held start)
   unfolding search_told allocate
   ends_full e p last l = rw (l, none_left _ _ _ _ g e p, all_counted _ _ _ _ g e p, moved)

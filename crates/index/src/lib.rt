@@ -4,10 +4,10 @@
 ghost use Rattle.std.specs.Prelude.{◌≡◌};
 ghost use Rattle.rules.specs.Round.{free_of, allocate};
 ghost use Rattle.index.specs.Slots.{held_in_column, New};
-ghost use Rattle.index.specs.Search.{read_of, search_told};
+ghost use Rattle.index.specs.Search.{search_told};
 ghost use Rattle.index.specs.Take.{table_of, Steps};
 
-use rules::codes::{DONE, FULL};
+use rules::codes::{DONE, VfsError};
 
 // The slots and the counter, of numbers alone, as a host lends them: a slot is held where its occupancy byte is not 0 (R56, R90).
 #[repr(C)]
@@ -18,17 +18,10 @@ pub struct FsIndexes {
     pub next_super: u8,
 }
 
-// What a search finds: an index, or FULL.
-#[derive(Clone, Copy)]
-pub enum FsIndex {
-    Index(u8),
-    Full,
-}
-
-// What a search gives: what it found, how many indexes it visited, and the counter after it.
-#[derive(Clone, Copy)]
+// What a search gives: the index found, none where all are held, how many indexes it visited, and the counter after it.
+#[derive(Clone, Copy, Debug, PartialEq, Eq)]
 pub struct Allocated {
-    pub answer: FsIndex,
+    pub answer: Option<u8>,
     pub count: u32,
     pub next_super: u8,
 }
@@ -62,37 +55,30 @@ pub fn new() -> FsIndexes
     }
 }
 
-// An index can be handed out: it is not 0, and its slot is empty (R11, R81).
+// An index can be handed out: it is not 0, and its slot is empty; past the end a slot counts as empty (R11, R56, R81).
 fn is_free(used: &[u8], index: u8) -> bool
     ensures { result ≡ free_of (held_in_column used.now) index }
 {
-    if index == rules::VFS_PSEUDO_FS_IDX {
-        return false;
-    }
-    let at = index as usize;
-    if at < used.len() {
-        return used[at] == EMPTY;
-    }
-    true
+    let occupancy = used.get(index as usize).copied().unwrap_or(EMPTY);
+    index != rules::VFS_PSEUDO_FS_IDX && occupancy == EMPTY
 }
 
-// The first free index by the occupancy bytes, going round from the counter on, until the start is met twice (R80 to R84).
+// The first free index by the occupancy bytes, going round from the counter on, until the start is met twice (R80 to R84). The loop breaks
+// with its answer (R173).
 pub fn allocate_fs_idx(used: &[u8], next_super: u8) -> Allocated
-    ensures { read_of result ≡ search_told (allocate (held_in_column used.now) next_super) }
+    ensures { result ≡ search_told (allocate (held_in_column used.now) next_super) }
 {
     let mut next = next_super;
     let mut count: u32 = 0;
     let answer = loop {
         let index = next;
-        next = std::num::wrapping_add_u8(next, 1);
+        next = next.wrapping_add(1);
         count += 1;
-        if index == next_super {
-            if 1 < count {
-                break FsIndex::Full;
-            }
+        if index == next_super && 1 < count {
+            break None;
         }
         if is_free(used, index) {
-            break FsIndex::Index(index);
+            break Some(index);
         }
     };
     Allocated {
@@ -115,9 +101,8 @@ pub fn take<'a>(
     let start = *next_super;
     let a = allocate_fs_idx(used, start);
     *next_super = a.next_super;
-    let answer = a.answer;
-    match answer {
-        FsIndex::Index(i) => {
+    match a.answer {
+        Some(i) => {
             let at = i as usize;
             used[at] = HELD;
             tags[at] = tag;
@@ -127,8 +112,8 @@ pub fn take<'a>(
                 count: a.count,
             }
         }
-        FsIndex::Full => AllocateAnswer {
-            code: FULL,
+        None => AllocateAnswer {
+            code: VfsError::Full.code(),
             fs_idx: 0,
             count: a.count,
         },

@@ -5,50 +5,45 @@ ghost use Rattle.std.specs.Prelude.{◌≡◌, eqb};
 ghost use Rattle.rules.specs.Numbers.{or_zero, index_of, number_of};
 ghost use Rattle.inode.specs.Converted.{full_of, Converts};
 
+use rules::codes::{VfsError, VfsResult};
+
 // A full inode number: an index and a number below 2^56.
-#[derive(Clone, Copy)]
+#[derive(Clone, Copy, Debug, PartialEq, Eq)]
 pub struct VfsInode(pub u64);
 
 // The number of a node of the tree.
-#[derive(Clone, Copy)]
+#[derive(Clone, Copy, Debug, PartialEq, Eq)]
 pub struct NodeNumber(pub u64);
 
 // A number as a backend has it.
-#[derive(Clone, Copy)]
+#[derive(Clone, Copy, Debug, PartialEq, Eq)]
 pub struct BackendNumber(pub u64);
-
-// What a conversion gives: a full number, or INODE.
-#[derive(Clone, Copy)]
-pub enum Converted {
-    Full(VfsInode),
-    Inode,
-}
 
 // The index stands above so many bits (R6).
 const VFS_INDEX_SHIFT: u64 = 56;
 
 // The full number of an index and a number (R6, R7).
-fn joined(fs_idx: u8, number: u64) -> Converted
+fn joined(fs_idx: u8, number: u64) -> VfsResult<VfsInode>
     ensures { Converts fs_idx number result }
 {
     if rules::VFS_MAX_INO < number {
-        return Converted::Inode;
+        return Err(VfsError::Inode);
     }
     if number == 0 {
-        return Converted::Full(VfsInode(0));
+        return Ok(VfsInode(0));
     }
-    Converted::Full(VfsInode(((fs_idx as u64) << VFS_INDEX_SHIFT) + number))
+    Ok(VfsInode(((fs_idx as u64) << VFS_INDEX_SHIFT) + number))
 }
 
 // The full number of a backend's number under its index, or INODE (R7).
-pub fn convert_inode(fs_idx: u8, number: BackendNumber) -> Converted
+pub fn convert_inode(fs_idx: u8, number: BackendNumber) -> VfsResult<VfsInode>
     ensures { Converts fs_idx number.0 result }
 {
     joined(fs_idx, number.0)
 }
 
 // The full number of a node of the tree, which has index 0, or INODE (R7, R11).
-pub fn pseudo_inode(number: NodeNumber) -> Converted
+pub fn pseudo_inode(number: NodeNumber) -> VfsResult<VfsInode>
     ensures { Converts 0 number.0 result }
 {
     joined(rules::VFS_PSEUDO_FS_IDX, number.0)
@@ -78,11 +73,8 @@ impl VfsInode {
 }
 
 // The full number of a conversion, or 0 for INODE (R7, R16).
-pub fn or_zero(c: Converted) -> VfsInode
+pub fn or_zero(c: VfsResult<VfsInode>) -> VfsInode
     ensures { result.0 ≡ or_zero (full_of c) }
 {
-    match c {
-        Converted::Full(full) => full,
-        Converted::Inode => VfsInode(0),
-    }
+    c.unwrap_or(VfsInode(0))
 }

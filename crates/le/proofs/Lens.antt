@@ -76,10 +76,6 @@ put_add k j mem at v =
     ap (write mem at) (bytes_add k j v) ∙ write_append mem at b (bytes_of j (v / 256 ^ k))
     ∙ ap (λ (n : ℕ). write (write mem at b) (at + n) (bytes_of j (v / 256 ^ k))) (length_bytes_of k (v % 256 ^ k))
 
--- the same of two writes, the second behind the first
-pub put_both : (k j : ℕ) (mem mid after : List ℕ) (at v : ℕ) → mid ≡ put k mem at (v % 256 ^ k) → after ≡ put j mid (at + k) (v / 256 ^ k) → after ≡ put (k + j) mem at v
-put_both k j mem mid after at v e f = f ∙ ap (λ (m : List ℕ). put j m (at + k) (v / 256 ^ k)) e ∙ sym (put_add k j mem at v)
-
 -- one byte: where the widths begin
 pub get_one : (mem : List ℕ) (at : ℕ) → get_or mem at 0 ≡ get 1 mem at
 unfolding get value read

@@ -2,36 +2,13 @@
 ghost use Rattle.std.specs.Prelude.{◌≡◌, ◌+◌, ◌≤◌, length, replicate};
 ghost use Rattle.le.specs.Mem.{read, write, same};
 
-// Whether `len` bytes of a at p and of b at q are equal, a byte at a time.
-fn same_bytes(a: &[u8], p: usize, b: &[u8], q: usize, len: usize) -> bool
-    requires len_in_bounds { p + len ≤ length a.now }
-    requires len_in_bounds_2 { q + len ≤ length b.now }
-    ensures { result ≡ same (read a.now p len) (read b.now q len) }
-{
-    let mut i = 0;
-    while i < len {
-        if a[p + i] != b[q + i] {
-            return false;
-        }
-        i += 1;
-    }
-    true
-}
-
-// Whether `len` bytes of a at p and of b at q are equal (R45), eight bytes at a time and the rest by one.
+// Whether `len` bytes of a at p and of b at q are equal (R45).
 pub fn same_at(a: &[u8], p: usize, b: &[u8], q: usize, len: usize) -> bool
     requires len_in_bounds { p + len ≤ length a.now }
     requires len_in_bounds_2 { q + len ≤ length b.now }
     ensures { result ≡ same (read a.now p len) (read b.now q len) }
 {
-    let mut i = 0;
-    while 8 <= len - i {
-        if crate::fields::get_u64(a, p + i) != crate::fields::get_u64(b, q + i) {
-            return false;
-        }
-        i += 8;
-    }
-    same_bytes(a, p + i, b, q + i, len - i)
+    a[p..p + len] == b[q..q + len]
 }
 
 // Copies `len` bytes of src at `from` into dst at a place (R48, R64, R120).
@@ -40,11 +17,7 @@ pub fn copy_run(dst: &mut [u8], at: usize, src: &[u8], from: usize, len: usize)
     requires len_in_bounds_2 { from + len ≤ length src.now }
     ensures { dst.new ≡ write dst.old at (read src.now from len) }
 {
-    let mut i = 0;
-    while i < len {
-        dst[at + i] = src[from + i];
-        i += 1;
-    }
+    dst[at..at + len].copy_from_slice(&src[from..from + len]);
 }
 
 // Copies all of src into dst at a place (R31, R64).
@@ -52,7 +25,7 @@ pub fn copy_at(dst: &mut [u8], at: usize, src: &[u8])
     requires { at + length src.now ≤ length dst.old }
     ensures { dst.new ≡ write dst.old at src.now }
 {
-    copy_run(dst, at, src, 0, src.len())
+    dst[at..at + src.len()].copy_from_slice(src);
 }
 
 // Moves `len` bytes down to a place, in their order (R44), from `by` bytes above it.
@@ -61,11 +34,7 @@ pub fn shift_down(s: &mut [u8], to: usize, by: usize, len: usize)
     ensures { s.new ≡ write s.old to (read s.old (to + by) len) }
 {
     let from = to + by;
-    let mut i = 0;
-    while i < len {
-        s[to + i] = s[from + i];
-        i += 1;
-    }
+    s.copy_within(from..from + len, to);
 }
 
 // Writes one byte `len` times at a place (R64).
@@ -73,9 +42,5 @@ pub fn fill_at(dst: &mut [u8], at: usize, len: usize, v: u8)
     requires { at + len ≤ length dst.old }
     ensures { dst.new ≡ write dst.old at (replicate len v) }
 {
-    let mut i = 0;
-    while i < len {
-        dst[at + i] = v;
-        i += 1;
-    }
+    dst[at..at + len].fill(v);
 }

@@ -1,7 +1,7 @@
 // The listing of a directory of the tree: records of its children into lent bytes, each behind the one before it.
 #![tactic(auto)]
 
-ghost use Rattle.std.specs.Prelude.{◌≡◌, [], ◌∷◌, ◌≤◌, ◌<◌, min, length, drop};
+ghost use Rattle.std.specs.Prelude.{◌≡◌, [], ◌∷◌, ◌≤◌, ◌<◌, length, drop};
 ghost use Rattle.rules.specs.Tree.{children_in};
 ghost use Rattle.rules.specs.Listing.{dirent, dirents_from};
 ghost use Rattle.tables.specs.Layout.{capacity_of, count_of};
@@ -10,13 +10,7 @@ ghost use Rattle.tables.specs.Laid.{Bounds};
 ghost use Rattle.dirent.specs.Lays.{Lays};
 ghost use Rattle.listing.specs.Listed.{Lists};
 
-// What a listing answers: how many bytes were written, NOENT or SMALL.
-#[derive(Clone, Copy)]
-pub enum Listed {
-    Wrote(usize),
-    NoEnt,
-    Small,
-}
+use rules::codes::{VfsError, VfsResult};
 
 // Lays the record of row i with that offset at the start of the lent bytes: its length, or 0 and all as it was where it does not fit. The last
 // seven bytes of the name go over as a number (R64, R65).
@@ -44,11 +38,10 @@ fn lay_children(s: &[u8], x: u64, offset: u64, end: usize, out: &mut [u8]) -> us
     requires end_in_bounds { end ≤ length out.old }
     ensures { Lays out.old end (dirents_from offset (drop offset (children_in (nodes_of s.now) x))) result out.new }
 {
-    let c = tables::header::count(s);
+    let count = tables::header::count(s);
     let mut place: u64 = 0;
     let mut at = 0;
-    let mut i = 0;
-    while i < c {
+    for i in 0..count {
         if tables::rows::parent(s, i) == x {
             place += 1;
             if offset < place {
@@ -59,31 +52,27 @@ fn lay_children(s: &[u8], x: u64, offset: u64, end: usize, out: &mut [u8]) -> us
                 at += n;
             }
         }
-        i += 1;
     }
     at
 }
 
-// The smaller of two.
-fn least(a: usize, b: usize) -> usize
-    ensures { result ≡ min a b }
-{
-    if a < b { a } else { b }
-}
-
 // Lists the children of a node from an offset on into the lent bytes, whole records within `size` only: SMALL, then size 0, then NOENT (R19, R60, R63 to R66).
-pub fn readdir(s: &[u8], node: inode::NodeNumber, size: u32, offset: u64, out: &mut [u8]) -> Listed
+pub fn readdir(
+    s: &[u8],
+    node: inode::NodeNumber,
+    size: u32,
+    offset: u64,
+    out: &mut [u8],
+) -> VfsResult<usize>
     ensures { Lists s.now node.0 size offset out.old result out.new }
 {
-    if !storage::is_laid(s) {
-        return Listed::Small;
-    }
+    storage::check_laid(s)?;
     if size == 0 {
-        return Listed::Wrote(0);
+        return Ok(0);
     }
     if !tables::rows::is_known(s, node.0) {
-        return Listed::NoEnt;
+        return Err(VfsError::NoEnt);
     }
-    let end = least(size as usize, out.len());
-    Listed::Wrote(lay_children(s, node.0, offset, end, out))
+    let end = out.len().min(size as usize);
+    Ok(lay_children(s, node.0, offset, end, out))
 }

@@ -1,40 +1,35 @@
 -- Mount: what its answer tells, and the bytes that it leaves; and what restored mount shares with it.
-use Rattle.std.specs.Prelude.{ℕ, ◌≤◌, Bool, true, cond, not, ◌||◌, List, [], ◌≡◌, ltb}
-use Rattle.std.proofs.Math.Option.{Option, none, some}
-use Rattle.rules.specs.Numbers.{max_ino, DONE, INVAL, TOOLONG, INODE, FULL, NOROOM}
+use Rattle.std.specs.Prelude.{ℕ, ◌≤◌, Bool, true, cond, not, ◌||◌, List, [], ◌≡◌, ltb, Option, None, Some, Result, Ok, Err}
+use Rattle.rules.specs.Numbers.{max_ino, DONE, INVAL, INODE, FULL, NOROOM}
+use Rattle.rules.specs.Codes.{code_of}
+use Rattle.rules.specs.declared.codes.VfsError.{VfsError}
+use Rattle.rules.specs.declared.codes.VfsError.TheVariants.{Inode}
 use Rattle.rules.specs.Utf8.{well_formed}
 use Rattle.rules.specs.Path.{rooted, too_long}
 use Rattle.rules.specs.Instance.{Instance, mount_of_node, tag_of}
 use Rattle.rules.specs.Outcome.{Answer, nothing, mounted, Outcome, refused}
 use Rattle.rules.specs.Mount.{Request, planned, no_room, ended, freed, requested_mount, tag_at, placed, allocation, stepped, allocated, mount_by_index}
-use Rattle.index.specs.Search.{read_of, search_told}
-use Rattle.index.specs.declared.FsIndex.TheVariants.{Index}
+use Rattle.index.specs.Search.{search_told}
 use Rattle.index.specs.declared.Allocated.{Allocated}
 use Rattle.tables.specs.View.{view}
 use Rattle.tables.specs.Laid.{laid}
 use Rattle.tables.specs.Write.{set_counter}
-use Rattle.tables.specs.Answer.{tag_in}
-use Rattle.call_form.specs.Form.{Told, counted, refuses, told_small}
+use Rattle.call_form.specs.Form.{Told, counted}
 use Rattle.placing.specs.Place.{place_mem}
 use Rattle.placing.specs.declared.Tags.{Tags}
 use Rattle.plan.specs.Apply.{append_all}
 use Rattle.mount_parts.specs.declared.backend.Backend.{Backend}
 use Rattle.mount_parts.specs.declared.mounting.Mounted.{Mounted}
-use Rattle.mount_parts.specs.declared.mounting.Mounted.TheVariants.{Done, TooLong, Inval, Inode, NoRoom, Full, Small}
+use Rattle.mount_parts.specs.declared.mounting.MountRefused.{MountRefused}
 
 -- the request of a path and a backend (R3)
 abbrev pub request_of : List ℕ → Backend → Request
 request_of path b = record { path = path; tag = b.tag; root = b.root.0; largest = b.largest; uid = b.uid; gid = b.gid; mode = b.mode }
 
--- the number and the values of each answer (R75, R79)
-unfoldable pub mounted_told : Mounted → Told
-mounted_told (Done k n t) = record { code = DONE; answer = mounted k (tag_in t); count = n }
-mounted_told TooLong = refuses TOOLONG
-mounted_told (Inval n) = counted INVAL n
-mounted_told (Inode n) = counted INODE n
-mounted_told NoRoom = refuses NOROOM
-mounted_told (Full n) = counted FULL n
-mounted_told Small = told_small
+-- the number and the values of each answer, with the count (R75, R79)
+abbrev pub mounted_told : Result Mounted MountRefused → Told
+mounted_told (Ok m) = record { code = DONE; answer = mounted m.fs_idx m.replaced; count = m.count }
+mounted_told (Err r) = counted (code_of r.why) r.count
 
 -- ---- bytes
 
@@ -56,8 +51,8 @@ planned_mem k r mem = end_mem k r (ended (view mem) r.path) (walk_mem r.path mem
 
 -- rows 5, 7 and 8, by what the allocation finds
 unfoldable pub found_mem : Option ℕ → Request → List ℕ → List ℕ
-found_mem none r mem = alloc_mem mem
-found_mem (some k) r mem = planned_mem k r (alloc_mem mem)
+found_mem None r mem = alloc_mem mem
+found_mem (Some k) r mem = planned_mem k r (alloc_mem mem)
 
 -- from row 4 on, of a path with leading slash
 unfoldable pub rooted_mem : Request → List ℕ → List ℕ
@@ -73,12 +68,18 @@ mount_mem r mem = cond (laid mem) (cond (early r) mem (cond (rooted r.path) (roo
 
 -- ---- what is told on the way
 
--- row 8 on the node x: the tags replaced and displaced, and the bytes (R76, R78, R93)
-pub record Inserts (mem : List ℕ) (k x : ℕ) (b : Backend) (r : Tags) (after : List ℕ) : Type 0 where
-  pub replaced : tag_in r.replaced ≡ tag_at (mount_of_node (view mem).tree x) (view mem)
-  pub displaced : tag_in r.displaced ≡ tag_of (freed (mount_of_node (view mem).tree x) (view mem)) k
-  pub bytes : after ≡ place_mem (requested_mount k (request_of [] b)) b.tag x mem
-  pub stands : view after ≡ placed k (request_of [] b) x (view mem)
+-- the tags that a mount on the node x replaces and displaces (R78, R93)
+abbrev pub tags_placed : List ℕ → ℕ → ℕ → Tags
+tags_placed mem k x = record {
+  replaced = tag_at (mount_of_node (view mem).tree x) (view mem);
+  displaced = tag_of (freed (mount_of_node (view mem).tree x) (view mem)) k;
+}
+
+-- rows 7 and 8 on the node x: the root number is too large, or the tags replaced and displaced; and the bytes (R74, R76, R78, R93)
+pub record Inserts (mem : List ℕ) (k x : ℕ) (b : Backend) (r : Result Tags VfsError) (after : List ℕ) : Type 0 where
+  pub answer : r ≡ cond (ltb max_ino b.root.0) (Err Inode) (Ok (tags_placed mem k x))
+  pub bytes : after ≡ end_mem k (request_of [] b) x mem
+  pub stands : view after ≡ cond (ltb max_ino b.root.0) (view mem) (placed k (request_of [] b) x (view mem))
   pub keeps : laid after ≡ true
 
 -- rows 7 and 8 on the node x, as they are told: the root number is too large, or the values given; with a count (R74, R75)
@@ -89,21 +90,21 @@ pub record EndsAt (mem : List ℕ) (k x : ℕ) (b : Backend) (values : Answer) (
   pub keeps : laid after ≡ true
 
 -- of a mount: the index and the tag replaced
-abbrev pub MountsAt : List ℕ → ℕ → ℕ → ℕ → Backend → Mounted → List ℕ → Type 0
-MountsAt mem k n x b r after = EndsAt mem k x b (mounted k (tag_at (mount_of_node (view mem).tree x) (view mem))) n (mounted_told r) after
+abbrev pub MountsAt : List ℕ → ℕ → ℕ → ℕ → Backend → Result Mounted MountRefused → List ℕ → Type 0
+MountsAt mem k n x b r after = EndsAt mem k x b (mounted k (tags_placed mem k x).replaced) n (mounted_told r) after
 
 -- the search and the counter moved by it (R80 to R84)
 pub record Allocates (mem : List ℕ) (a : Allocated) (after : List ℕ) : Type 0 where
-  pub answer : read_of a ≡ search_told (allocation (view mem))
-  pub least : (k : ℕ) → a.answer ≡ Index k → 1 ≤ k
+  pub answer : a ≡ search_told (allocation (view mem))
+  pub least : (k : ℕ) → a.answer ≡ Some k → 1 ≤ k
   pub bytes : after ≡ alloc_mem mem
   pub stands : view after ≡ stepped (view mem)
   pub keeps : laid after ≡ true
 
 -- FULL where the allocation finds none, else INVAL (R72, R73)
 abbrev pub by_found : Option ℕ → ℕ
-by_found none = FULL
-by_found (some k) = INVAL
+by_found None = FULL
+by_found (Some k) = INVAL
 
 -- rows 5 and 6, of a path without leading slash: the counter has moved (R72, R73)
 abbrev pub unrooted_rule : Instance → Outcome

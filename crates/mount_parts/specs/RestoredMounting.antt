@@ -1,34 +1,27 @@
 -- Restored mount: what its answer tells, and the bytes that it leaves.
-use Rattle.std.specs.Prelude.{ℕ, Bool, cond, not, ◌||◌, List, eqb, ltb}
-use Rattle.rules.specs.Numbers.{max_ino, INVAL, TOOLONG, INODE, NOROOM, BADINDEX}
+use Rattle.std.specs.Prelude.{ℕ, Bool, cond, not, ◌||◌, List, eqb, ltb, Result}
+use Rattle.rules.specs.Numbers.{max_ino, NOROOM}
+use Rattle.rules.specs.declared.codes.VfsError.{VfsError}
 use Rattle.rules.specs.Utf8.{well_formed}
 use Rattle.rules.specs.Path.{rooted, too_long}
-use Rattle.rules.specs.Instance.{Instance, mount_of_node, tag_of}
+use Rattle.rules.specs.Instance.{Instance}
 use Rattle.rules.specs.Outcome.{restored_mount, Outcome, refused}
-use Rattle.rules.specs.Mount.{Request, no_room, freed, tag_at, restore_mount_by_index}
+use Rattle.rules.specs.Mount.{Request, no_room, restore_mount_by_index}
 use Rattle.tables.specs.View.{view}
 use Rattle.tables.specs.Laid.{laid}
-use Rattle.tables.specs.Answer.{tag_in}
-use Rattle.call_form.specs.Form.{Told, tells, refuses, told_small}
-use Rattle.mount_parts.specs.Mounting.{planned_mem, EndsAt}
+use Rattle.call_form.specs.Form.{Told, told_of}
+use Rattle.mount_parts.specs.Mounting.{planned_mem, tags_placed, EndsAt}
 use Rattle.mount_parts.specs.declared.backend.Backend.{Backend}
 use Rattle.mount_parts.specs.declared.restored_mounting.RestoredMount.{RestoredMount}
-use Rattle.mount_parts.specs.declared.restored_mounting.RestoredMount.TheVariants.{Done, TooLong, Inval, BadIndex, Inode, NoRoom, Small}
 
 -- the number and the values of each answer (R91 to R95)
-unfoldable pub restored_mount_told : RestoredMount → Told
-restored_mount_told (Done a d) = tells (restored_mount (tag_in a) (tag_in d))
-restored_mount_told TooLong = refuses TOOLONG
-restored_mount_told Inval = refuses INVAL
-restored_mount_told BadIndex = refuses BADINDEX
-restored_mount_told Inode = refuses INODE
-restored_mount_told NoRoom = refuses NOROOM
-restored_mount_told Small = told_small
+abbrev pub restored_mount_told : Result RestoredMount VfsError → Told
+restored_mount_told = told_of (λ (r : RestoredMount). restored_mount r.replaced r.displaced)
 
 -- rows 7 and 8 on the node x: the tag replaced, and the tag displaced (R93)
-abbrev pub RestoresMountAt : List ℕ → ℕ → ℕ → Backend → RestoredMount → List ℕ → Type 0
+abbrev pub RestoresMountAt : List ℕ → ℕ → ℕ → Backend → Result RestoredMount VfsError → List ℕ → Type 0
 RestoresMountAt mem k x b r after =
-    EndsAt mem k x b (restored_mount (tag_at (mount_of_node (view mem).tree x) (view mem)) (tag_of (freed (mount_of_node (view mem).tree x) (view mem)) k)) 0 (restored_mount_told r) after
+    EndsAt mem k x b (restored_mount (tags_placed mem k x).replaced (tags_placed mem k x).displaced) 0 (restored_mount_told r) after
 
 -- from row 4 on, of a path with leading slash (R71, R92 to R95)
 abbrev pub restore_mount_rest : Instance → ℕ → Request → Outcome

@@ -1,38 +1,17 @@
 -- Laws of `.`, `..`, a byte in a name, and the component check. Assumes nothing.
-use mathlib.Core.Path.{◌≡◌}
-use mathlib.Core.Bool.{true, false, ◌&&◌, and-true, or-true}
+use mathlib.Core.Path.{◌≡◌, refl, ap}
+use mathlib.Core.Bool.{Bool, true, false, ◌||◌, or-true}
 use mathlib.Core.List.{List, [], ◌∷◌}
 use Prim.Native.Nat.{ℕ, ◌+◌, ◌≤◌, ◌<◌}
-use native.Mathlib.Omega.{arith}
 use lib.ListN.{length, get_or, drop, drop_of_length-le}
 use lib.Dec.{eqb}
 use borrow.Author.Tests.{eq-eqb, ne_eqb}
-use Rattle.rules.specs.Bytes.{same, holds}
+use Rattle.std.specs.List.{list_any}
+use Rattle.rules.specs.Bytes.{holds}
 use Rattle.rules.specs.Numbers.{DONE, INVAL}
-use Rattle.rules.specs.Path.{slash, dot, is_dot, is_dots, bad_component}
+use Rattle.rules.specs.Path.{slash, is_dot, is_dots, bad_component}
 use Rattle.path.specs.Checks.{check_code}
 use Rattle.path.proofs.Places.{here}
-
--- ---- `.` and `..`, by the tests of their bytes
-
-pub dot_one : (p : List ℕ) → length p ≡ 1 → eqb (get_or p 0 0) dot ≡ is_dot p
-unfolding same
-dot_one [] h = absurd (omega arith)
-dot_one (a ∷ []) h = rw and-true
-dot_one (a ∷ b ∷ p) h = absurd (omega arith)
-
-dots_two : (p : List ℕ) → length p ≡ 2 → (eqb (get_or p 0 0) dot && eqb (get_or p 1 0) dot) ≡ is_dots p
-unfolding same
-dots_two [] h = absurd (omega arith)
-dots_two (a ∷ []) h = absurd (omega arith)
-dots_two (a ∷ b ∷ []) h = rw and-true
-dots_two (a ∷ b ∷ d ∷ p) h = absurd (omega arith)
-
-pub dots_first : (p : List ℕ) → length p ≡ 2 → (get_or p 0 0 ≡ dot → ⊥) → false ≡ is_dots p
-dots_first p h e = rw (← dots_two p h, ne_eqb (get_or p 0 0) dot e)
-
-pub dots_second : (p : List ℕ) → length p ≡ 2 → get_or p 0 0 ≡ dot → eqb (get_or p 1 0) dot ≡ is_dots p
-dots_second p h e = rw (← dots_two p h, eq-eqb (get_or p 0 0) dot e)
 
 -- ---- a byte in a name, from a place on
 
@@ -48,6 +27,12 @@ module _ (b : ℕ) (s : List ℕ) (i : ℕ) where
   pub holds_more : i < length s → (get_or s i 0 ≡ b → ⊥) → holds b (drop i s) ≡ holds b (drop (i + 1) s)
   unfolding holds
   holds_more h e = rw (here s i h, ne_eqb (get_or s i 0) b e)
+
+-- one of the bytes is b
+pub any_holds : (b : ℕ) (s : List ℕ) → list_any (λ y. eqb y b) s ≡ holds b s
+unfolding holds
+any_holds b [] = refl
+any_holds b (x ∷ s) = ap (λ (t : Bool). eqb x b || t) (any_holds b s)
 
 -- ---- the check
 

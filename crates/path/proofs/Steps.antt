@@ -1,6 +1,6 @@
 -- Stepping from place to place with the next component gives the components of the path. Assumes nothing.
 use mathlib.Core.Path.{◌≡◌, refl, ap, sym, ◌∙◌, subst}
-use mathlib.Core.Bool.{Bool, true, false, cond, true≢false, false≢true}
+use mathlib.Core.Bool.{Bool, true, false, cond}
 use mathlib.Core.List.{List, [], ◌∷◌}
 use Prim.Native.Nat.{ℕ, zero, suc, ◌+◌, ◌-◌, ◌≤◌, ◌<◌}
 use native.Mathlib.Nat.{add-zero}
@@ -13,7 +13,9 @@ use Rattle.rules.specs.Bytes.{same}
 use Rattle.rules.specs.Path.{slash, dot, is_dot, is_dots, Part, Normal, ParentDir, onto, parts_by, pieces, sorted, kept_parts, components}
 use Rattle.rules.proofs.Same.{some_byte, same_eq, same_length}
 use Rattle.path.specs.declared.components.Component.{Component}
-use Rattle.path.specs.declared.components.Component.TheVariants.{Normal as NormalStep, ParentDir as ParentDirStep, End}
+use Rattle.path.specs.declared.components.Component.TheVariants.{Normal as NormalStep, ParentDir as ParentDirStep}
+use Rattle.std.proofs.lemmas.Option.{none-some}
+use Rattle.std.specs.Prelude.{Option, None, Some}
 use Rattle.path.specs.Steps.{part, between, first_component, next_component, on_step, stepped_parts, StepsOver, ComponentStep, EveryStep, SteppedAll}
 use Rattle.path.proofs.Places.{here, between_length}
 use Rattle.path.proofs.Words.{part_nil, part_cons, part_le, end_here, end_length, behind, first_part, word_length, word_end}
@@ -87,18 +89,18 @@ module _ (s : List ℕ) (at end : ℕ) (h : (at < end) × (end ≤ length s)) wh
   bytes : length (between s at end) ≡ end - at
   bytes = between_length s at end (omega arith) h.1
 
-  pub is_single : is_dot (between s at end) ≡ true → End ≡ first_component (sorted at (between s at end) [])
+  pub is_single : is_dot (between s at end) ≡ true → None ≡ first_component (sorted at (between s at end) [])
   unfolding first_component sorted same
   is_single e = rw (same_eq (between s at end) (dot ∷ []) e)
 
-  pub is_double : is_dots (between s at end) ≡ true → ParentDirStep at end ≡ first_component (sorted at (between s at end) [])
+  pub is_double : is_dots (between s at end) ≡ true → Some (ParentDirStep at end) ≡ first_component (sorted at (between s at end) [])
   unfolding first_component sorted same
   is_double e =
       let q = same_eq (between s at end) (dot ∷ dot ∷ []) e in
       let n : end ≡ at + 2 = omega (arith, bytes, ap length q) in
-      rw q (ap (ParentDirStep at) n)
+      rw q (ap (λ (e : ℕ). Some (ParentDirStep at e)) n)
 
-  pub is_plain : is_dot (between s at end) ≡ false → is_dots (between s at end) ≡ false → NormalStep at (end - at) end ≡ first_component (sorted at (between s at end) [])
+  pub is_plain : is_dot (between s at end) ≡ false → is_dots (between s at end) ≡ false → Some (NormalStep at (end - at) end) ≡ first_component (sorted at (between s at end) [])
   unfolding first_component sorted
   is_plain x y =
       let z : same (between s at end) [] ≡ false = same_length (between s at end) [] (λ e. omega (arith, bytes)) in
@@ -107,13 +109,8 @@ module _ (s : List ℕ) (at end : ℕ) (h : (at < end) × (end ≤ length s)) wh
 
 -- ---- one turn of the code: from the place i, by the part that stands there
 
-abbrev pub is_end : Component → Bool
-is_end End = true
-is_end (ParentDirStep start next) = false
-is_end (NormalStep start n next) = false
-
 module _ (s : List ℕ) (i : ℕ) (h : i < length s) where
-  dropped : first_component (sorted i (word s i) []) ≡ End → components i (drop i s) ≡ components (i + 1) (drop (i + 1) s)
+  dropped : first_component (sorted i (word s i) []) ≡ None → components i (drop i s) ≡ components (i + 1) (drop (i + 1) s)
   unfolding first_component sorted same
   dropped e = go (sort (word s i))
     where
@@ -122,10 +119,10 @@ module _ (s : List ℕ) (i : ℕ) (h : i < length s) where
       go (single q) =
           let n : word_length (drop i s) ≡ 1 = sym (word_length_lem s i) ∙ ap length q in
           part_first s i ∙ rw (q, n)
-      go (double q) = absurd (false≢true (ap is_end (rw q at e)))
-      go (plain l p) = absurd (false≢true (ap is_end (rw (p i []) at e)))
+      go (double q) = absurd (none-some _ (sym (rw q at e)))
+      go (plain l p) = absurd (none-some _ (sym (rw (p i []) at e)))
 
-  found : (first_component (sorted i (word s i) []) ≡ End → ⊥) → next_component s i ≡ first_component (sorted i (word s i) [])
+  found : (first_component (sorted i (word s i) []) ≡ None → ⊥) → next_component s i ≡ first_component (sorted i (word s i) [])
   unfolding next_component first_component sorted same
   found e = rw (part_first s i) (go (sort (word s i)))
     where
@@ -135,16 +132,16 @@ module _ (s : List ℕ) (i : ℕ) (h : i < length s) where
       go (double q) = rw q
       go (plain l p) = rw (p i (after s i), p i [])
 
-  module _ {end : ℕ} {c : Component} (w : end ≡ word_end s i) (k : c ≡ first_component (sorted i (between s i end) [])) where
+  module _ {end : ℕ} {c : Option Component} (w : end ≡ word_end s i) (k : c ≡ first_component (sorted i (between s i end) [])) where
     told : c ≡ first_component (sorted i (word s i) [])
     told = k ∙ ap (λ (p : List ℕ). first_component (sorted i p [])) (word_between s i w)
 
-    pub next_dropped : c ≡ End → next_component s i ≡ next_component s (i + 1)
+    pub next_dropped : c ≡ None → next_component s i ≡ next_component s (i + 1)
     unfolding next_component
     next_dropped e = ap first_component (dropped (sym told ∙ e))
 
-    pub next_kept : {q : Component} → c ≡ q → is_end q ≡ false → next_component s i ≡ c
-    next_kept e n = found (λ z. true≢false (ap is_end (sym (told ∙ z) ∙ e) ∙ n)) ∙ sym told
+    pub next_kept : {q : Component} → c ≡ Some q → next_component s i ≡ Some q
+    next_kept {q} e = found (λ z. none-some q (sym (told ∙ z) ∙ e)) ∙ sym told ∙ e
 
 pub next_slash : (s : List ℕ) (i : ℕ) → i < length s → get_or s i 0 ≡ slash → next_component s i ≡ next_component s (i + 1)
 unfolding next_component
@@ -152,7 +149,7 @@ next_slash s i h e =
     let z : word_length (drop i s) ≡ 0 = omega (arith, end_here slash s i h e, end_length slash s i) in
     ap first_component (slash_first s i h z)
 
-pub next_end : (s : List ℕ) (i : ℕ) → length s ≤ i → next_component s i ≡ End
+pub next_end : (s : List ℕ) (i : ℕ) → length s ≤ i → next_component s i ≡ None
 unfolding next_component first_component components kept_parts sorted parts_by same
 next_end s i h = rw (drop_of_length-le s h)
 
@@ -162,10 +159,10 @@ next_end s i h = rw (drop_of_length-le s h)
 earlier : (s : List ℕ) (at : ℕ) (p : Part) (start n next : ℕ) → components at (drop at s) ≡ components (at + 1) (drop (at + 1) s) → StepsOver s (at + 1) p start n next → StepsOver s at p start n next
 earlier s at p start n next e g = record { parts = e ∙ g.parts; from = omega arith; some = g.some; end = g.end; further = omega arith; within = g.within }
 
-step_earlier : (s : List ℕ) (at : ℕ) (r : Component) → components at (drop at s) ≡ components (at + 1) (drop (at + 1) s) → ComponentStep s (at + 1) r → ComponentStep s at r
-step_earlier s at End e g = e ∙ g
-step_earlier s at (ParentDirStep start next) e g = earlier s at (ParentDir start) start 2 next e g
-step_earlier s at (NormalStep start n next) e g = earlier s at (Normal start (part s start n)) start n next e g
+step_earlier : (s : List ℕ) (at : ℕ) (r : Option Component) → components at (drop at s) ≡ components (at + 1) (drop (at + 1) s) → ComponentStep s (at + 1) r → ComponentStep s at r
+step_earlier s at None e g = e ∙ g
+step_earlier s at (Some (ParentDirStep start next)) e g = earlier s at (ParentDir start) start 2 next e g
+step_earlier s at (Some (NormalStep start n next)) e g = earlier s at (Normal start (part s start n)) start n next e g
 
 module _ (s : List ℕ) (at : ℕ) (h : at < length s) where
   step_here : ComponentStep s (at + 1) (next_component s (at + 1)) → ComponentStep s at (next_component s at)
@@ -211,7 +208,7 @@ pub steps : EveryStep
 steps s at = steps_by (length s) s at (omega arith)
 
 -- the same of an answer of the code, known by its variant
-pub step_of : (s : List ℕ) (at : ℕ) {r q : Component} → r ≡ next_component s at → r ≡ q → ComponentStep s at q
+pub step_of : (s : List ℕ) (at : ℕ) {r q : Option Component} → r ≡ next_component s at → r ≡ q → ComponentStep s at q
 step_of s at e f = subst (ComponentStep s at) (sym e ∙ f) (steps s at)
 
 -- ---- the theorem: stepping through a path yields its components
@@ -221,10 +218,10 @@ unfolding components kept_parts parts_by sorted same
 stepped_from zero s at h = let l : length s ≤ at = omega arith in rw (drop_of_length-le s l)
 stepped_from (suc k) s at h = go (next_component s at) (steps s at) (λ (next : ℕ) (l : at < next). stepped_from k s next (omega arith))
   where
-    go : (r : Component) → ComponentStep s at r → ((next : ℕ) → at < next → stepped_parts k s next ≡ components next (drop next s)) → on_step r s (λ (next : ℕ). stepped_parts k s next) ≡ components at (drop at s)
-    go End p ih = sym p
-    go (ParentDirStep start next) p ih = rw (ih next p.further) (sym p.parts)
-    go (NormalStep start n next) p ih = rw (ih next p.further) (sym p.parts)
+    go : (r : Option Component) → ComponentStep s at r → ((next : ℕ) → at < next → stepped_parts k s next ≡ components next (drop next s)) → on_step r s (λ (next : ℕ). stepped_parts k s next) ≡ components at (drop at s)
+    go None p ih = sym p
+    go (Some (ParentDirStep start next)) p ih = rw (ih next p.further) (sym p.parts)
+    go (Some (NormalStep start n next)) p ih = rw (ih next p.further) (sym p.parts)
 
 pub stepped_all : SteppedAll
 stepped_all s = stepped_from (suc (length s)) s 0 (omega arith)

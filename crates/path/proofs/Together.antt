@@ -3,18 +3,15 @@ use mathlib.Core.Path.{◌≡◌, refl, sym, ap, ◌∙◌}
 use mathlib.Core.Bool.{Bool, true, false, ◌||◌}
 use mathlib.Core.List.{List}
 use Prim.Native.Nat.{ℕ, zero, suc, ◌+◌, ◌-◌, ◌≤◌, ◌<◌}
-use native.Mathlib.Nat.{add-zero, zero-add}
+use native.Mathlib.Nat.{zero-add}
 use native.Mathlib.Omega.{arith}
 use borrow.Author.Tests.{eq-eqb, ne_eqb, eqb-true, eqb-false}
 use lib.ListN.{length, get_or, drop}
 use lib.Dec.{eqb}
 use Rattle.rules.specs.Bytes.{holds}
-use Rattle.rules.proofs.Tests.{or_neither}
 use Rattle.scan.specs.First.{any_of}
 use Rattle.scan.proofs.First.{any_add, any_part, any_last, any_more}
-use Rattle.path.specs.Steps.{part_end}
 use Rattle.path.specs.Byte.{is_byte}
-use Rattle.path.proofs.Words.{end_more}
 use Rattle.path.proofs.Naming.{holds_end, holds_here, holds_more}
 
 -- ---- one byte
@@ -45,20 +42,6 @@ one_there f n i h l e = any_part f i 8 n (omega (arith, h.0)) e
 
 pub last_eight : (f : ℕ → Bool) (n i : ℕ) → None f n i → 8 ≤ n → n - i < 8 → any_of f (n - 8) 8 ≡ any_of f 0 n
 last_eight f n i h m l = any_last f i 8 n h.1 m (omega (arith, h.0))
-
--- ---- the end of a part
-
--- places without the byte are passed over
-end_skip : (b : ℕ) (s : List ℕ) (i k : ℕ) → i + k ≤ length s → any_of (is_byte b s) i k ≡ false → part_end b s i ≡ part_end b s (i + k)
-unfolding any_of is_byte
-end_skip b s i zero h e = rw add-zero
-end_skip b s i (suc k) h e =
-    let n = or_neither (any_of (is_byte b s) i k) (is_byte b s (i + k)) e in
-    let z : i + k + 1 ≡ i + suc k = omega arith in
-    end_skip b s i k (omega arith) n.0 ∙ end_more b s (i + k) (omega arith) (eqb-false (get_or s (i + k) 0) b n.1) ∙ ap (part_end b s) z
-
-pub end_eight : (b : ℕ) (s : List ℕ) (i : ℕ) {e : ℕ} → (i ≤ length s) × (part_end b s i ≡ e) → 8 ≤ length s - i → any_of (is_byte b s) i 8 ≡ false → (i + 8 ≤ length s) × (part_end b s (i + 8) ≡ e)
-end_eight b s i l h e = (omega (arith, l.0), sym (end_skip b s i 8 (omega (arith, l.0)) e) ∙ l.1)
 
 -- ---- a byte in a string
 

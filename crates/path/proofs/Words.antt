@@ -1,15 +1,21 @@
 -- Laws of the parts between one byte, whatever it is: where a part ends, and what the parts are; and of the limits. Assumes nothing.
-use mathlib.Core.Path.{◌≡◌, refl, ◌∙◌}
-use mathlib.Core.Bool.{Bool, true, false, cond, ◌||◌}
+use mathlib.Core.Path.{◌≡◌, refl, sym, ◌∙◌}
+use mathlib.Core.Bool.{Bool, true, false, cond, ◌||◌, or-false, or_assoc}
 use mathlib.Core.List.{List, [], ◌∷◌}
-use Prim.Native.Nat.{ℕ, suc, ◌+◌, ◌-◌, ◌≤◌, ◌<◌, zero-le, suc-le-suc}
-use native.Mathlib.Nat.{add-zero, add-sub_cancel_left}
+use Prim.Native.Nat.{ℕ, zero, suc, ◌+◌, ◌-◌, ◌≤◌, ◌<◌, zero-le, suc-le-suc}
+use native.Mathlib.Nat.{add-zero, suc-add, add-sub_cancel_left}
 use native.Mathlib.Omega.{arith}
 use lib.ListN.{length, get_or, take, drop, drop_of_length-le, length-drop}
 use lib.Seq.{drop-drop, length-take-le}
 use lib.Dec.{eqb, ltb}
 use borrow.Author.Tests.{eq-eqb, ne_eqb, lt-ltb, le-ltb}
 use Rattle.rules.specs.Path.{slash, onto, parts_by, pieces, rooted, any_longer, too_long}
+use Rattle.std.proofs.Common.{Bor}
+use Rattle.std.specs.Prelude.{Option, None, Some, slice_get, fold}
+use Rattle.std.specs.List.{list_any}
+use Rattle.std.specs.Option.{option_copied, option_eq}
+use Rattle.std.proofs.lemmas.Option.{none-some, same_Some}
+use Rattle.rules.proofs.Tests.{or_neither}
 use Rattle.path.specs.Steps.{first_length, part_length, part_end}
 use Rattle.path.proofs.Places.{here}
 
@@ -37,6 +43,19 @@ module _ (sep : ℕ) where
       go true h = zero-le
       go false h = suc-le-suc h
 
+  -- whether one of the bytes parts, asked of each
+  pub any_folded : (h : Bool) (s : List ℕ) → fold (λ hit x. hit || eqb x sep) h s ≡ (h || list_any (λ y. eqb y sep) s)
+  any_folded h [] = sym (or-false h)
+  any_folded h (b ∷ s) = any_folded (h || eqb b sep) s ∙ or_assoc h (eqb b sep) (list_any (λ y. eqb y sep) s)
+
+  -- bytes without the one that parts are counted whole
+  skips : (k : ℕ) (s : List ℕ) → list_any (λ y. eqb y sep) (take k s) ≡ false → part_length sep s ≡ length (take k s) + part_length sep (drop k s)
+  skips zero s e = omega arith
+  skips (suc k) [] e = rw part_nil
+  skips (suc k) (b ∷ s) e =
+      let n = or_neither (eqb b sep) (list_any (λ y. eqb y sep) (take k s)) e in
+      part_cons b s ∙ rw (n.0, skips k s n.1) (sym (suc-add (length (take k s)) (part_length sep (drop k s))))
+
   -- the end of a part is not before its place, and lies in the string
   pub end_in : (s : List ℕ) (i : ℕ) {end : ℕ} → end ≡ part_end sep s i → i ≤ length s → (i ≤ end) × (end ≤ length s)
   unfolding part_end
@@ -58,6 +77,13 @@ module _ (sep : ℕ) where
     -- the end of a part is behind its place, where another byte than `sep` stands there
     pub end_behind : {end : ℕ} → end ≡ part_end sep s i → i < length s → (get_or s i 0 ≡ sep → ⊥) → (i < end) × (end ≤ length s)
     end_behind e h n = omega (arith, end_in s (i + 1) (e ∙ end_more h n) (omega arith))
+
+    -- bytes without `sep` are passed over
+    pub end_skip : (k : ℕ) → i + k ≤ length s → list_any (λ y. eqb y sep) (take k (drop i s)) ≡ false → part_end sep s i ≡ part_end sep s (i + k)
+    unfolding part_end
+    end_skip k h e =
+        let n : length (take k (drop i s)) ≡ k = length-take-le k (drop i s) (omega (arith, length-drop i s)) in
+        rw (skips k (drop i s) e, n, drop-drop k i s) (omega arith)
 
     pub end_length : part_end sep s i - i ≡ part_length sep (drop i s)
     unfolding part_end
@@ -96,15 +122,13 @@ word_end s at = part_end slash s at
 
 -- ---- the leading slash
 
-pub rooted_none : (s : List ℕ) → length s ≡ 0 → false ≡ rooted s
+-- the first byte, if there is one, is the slash
+pub rooted_first : (s : List ℕ) (o : Option (Bor ℕ)) (b : Bor ℕ) → option_copied o ≡ slice_get s 0 → b.now ≡ slash → option_eq (λ (x y : Bor ℕ). eqb x.now y.now) o (Some b) ≡ rooted s
 unfolding rooted
-rooted_none [] h = refl
-rooted_none (b ∷ s) h = absurd (omega arith)
-
-pub rooted_first : (s : List ℕ) → (length s ≡ 0 → ⊥) → eqb (get_or s 0 0) slash ≡ rooted s
-unfolding rooted
-rooted_first [] h = absurd (h refl)
-rooted_first (b ∷ s) h = refl
+rooted_first [] None b e f = refl
+rooted_first [] (Some x) b e f = absurd (none-some _ (sym e))
+rooted_first (a ∷ s) None b e f = absurd (none-some _ e)
+rooted_first (a ∷ s) (Some x) b e f = rw (same_Some _ _ e, f)
 
 -- ---- the limits
 

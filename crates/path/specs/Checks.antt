@@ -2,13 +2,6 @@
 use Rattle.std.specs.Prelude.{ℕ, cond, List}
 use Rattle.rules.specs.Numbers.{DONE, INVAL}
 use Rattle.rules.specs.Path.{bad_component}
-use Rattle.path.specs.declared.names.Checked.{Checked}
-use Rattle.path.specs.declared.names.Checked.TheVariants.{Done, Inval}
-
--- the number of each answer
-abbrev pub checked_code : Checked → ℕ
-checked_code Done = DONE
-checked_code Inval = INVAL
 
 -- the number that the rules give
 unfoldable pub check_code : List ℕ → ℕ

@@ -1,8 +1,8 @@
 -- One step along a path, read off the rules' list of its components; and that the steps yield this list.
-use Rattle.std.specs.Prelude.{ℕ, zero, suc, ◌+◌, ◌-◌, ◌≤◌, ◌<◌, ◌≡◌, List, [], ◌∷◌, length, take, drop}
+use Rattle.std.specs.Prelude.{ℕ, zero, suc, ◌+◌, ◌-◌, ◌≤◌, ◌<◌, ◌≡◌, List, [], ◌∷◌, length, take, drop, Option, None, Some}
 use Rattle.rules.specs.Path.{Part, Normal, ParentDir, parts_by, components}
 use Rattle.path.specs.declared.components.Component.{Component}
-use Rattle.path.specs.declared.components.Component.TheVariants.{Normal as NormalStep, ParentDir as ParentDirStep, End}
+use Rattle.path.specs.declared.components.Component.TheVariants.{Normal as NormalStep, ParentDir as ParentDirStep}
 
 -- the n bytes of s from a place on
 abbrev pub part : List ℕ → ℕ → ℕ → List ℕ
@@ -25,21 +25,21 @@ part_length sep s = first_length (parts_by sep s)
 unfoldable pub part_end : ℕ → List ℕ → ℕ → ℕ
 part_end sep s at = at + part_length sep (drop at s)
 
--- the first of these components, with the place where it starts and the place behind it
-unfoldable pub first_component : List Part → Component
-first_component [] = End
-first_component (Normal at p ∷ ps) = NormalStep at (length p) (at + length p)
-first_component (ParentDir at ∷ ps) = ParentDirStep at (at + 2)
+-- the first of these components, if there is one, with the place where it starts and the place behind it
+unfoldable pub first_component : List Part → Option Component
+first_component [] = None
+first_component (Normal at p ∷ ps) = Some (NormalStep at (length p) (at + length p))
+first_component (ParentDir at ∷ ps) = Some (ParentDirStep at (at + 2))
 
 -- the next component of a path from a place on
-unfoldable pub next_component : List ℕ → ℕ → Component
+unfoldable pub next_component : List ℕ → ℕ → Option Component
 next_component path at = first_component (components at (drop at path))
 
 -- the component of a step, and then more from the place behind it; at the end there is none
-abbrev pub on_step : Component → List ℕ → (ℕ → List Part) → List Part
-on_step End path more = []
-on_step (ParentDirStep start next) path more = ParentDir start ∷ more next
-on_step (NormalStep start n next) path more = Normal start (part path start n) ∷ more next
+abbrev pub on_step : Option Component → List ℕ → (ℕ → List Part) → List Part
+on_step None path more = []
+on_step (Some (ParentDirStep start next)) path more = ParentDir start ∷ more next
+on_step (Some (NormalStep start n next)) path more = Normal start (part path start n) ∷ more next
 
 -- the components that at most k steps yield, from a place on
 abbrev pub stepped_parts : ℕ → List ℕ → ℕ → List Part
@@ -58,10 +58,10 @@ pub record StepsOver (s : List ℕ) (at : ℕ) (p : Part) (start n next : ℕ) :
   pub within : next ≤ length s
 
 -- an answer is a step along the components from a place on
-abbrev pub ComponentStep : List ℕ → ℕ → Component → Type 0
-ComponentStep s at End = components at (drop at s) ≡ []
-ComponentStep s at (ParentDirStep start next) = StepsOver s at (ParentDir start) start 2 next
-ComponentStep s at (NormalStep start n next) = StepsOver s at (Normal start (part s start n)) start n next
+abbrev pub ComponentStep : List ℕ → ℕ → Option Component → Type 0
+ComponentStep s at None = components at (drop at s) ≡ []
+ComponentStep s at (Some (ParentDirStep start next)) = StepsOver s at (ParentDir start) start 2 next
+ComponentStep s at (Some (NormalStep start n next)) = StepsOver s at (Normal start (part s start n)) start n next
 
 -- each answer is such a step
 abbrev pub EveryStep : Type 0

@@ -4,7 +4,6 @@
 #![tactic(auto)]
 
 use path::components::Component;
-use path::names::Checked;
 
 // The descriptors of standard input and output.
 const STDIN_FILENO: i32 = 0;
@@ -20,20 +19,22 @@ fn main() {
 
 // Every line, the last one too where no line end follows it.
 fn all(input: &[u8], bytes: &mut [u8]) {
-    let mut at = 0;
-    while at < input.len() {
-        let n = test_words::hex::pairs(input, at, bytes);
-        report(&bytes[0..n]);
-        at = path::components::part_end(input, at, b'\n') + 1;
+    for line in input.split_inclusive(|b| *b == b'\n') {
+        let n = test_words::hex::pairs(line, 0, bytes);
+        report(&bytes[..n]);
     }
 }
 
 fn report(s: &[u8]) {
     number(utf8::valid_to(s));
-    flag(utf8::is_utf8(s));
-    flag(path::components::is_rooted(s));
-    flag(path::limits::is_too_long(s));
-    checked(path::names::validate_path_component(s));
+    digit(utf8::is_utf8(s) as u32);
+    digit(path::components::is_rooted(s) as u32);
+    digit(path::limits::is_too_long(s) as u32);
+    digit(
+        path::names::validate_path_component(s)
+            .err()
+            .map_or(0, |e| e.code()),
+    );
     components(s);
     io::write_all(STDOUT_FILENO, b"\n");
 }
@@ -42,51 +43,28 @@ fn number(n: usize) {
     io::print_decimal(STDOUT_FILENO, n as u64);
 }
 
-fn flag(b: bool) {
-    if b {
-        io::write_all(STDOUT_FILENO, b" 1");
-    } else {
-        io::write_all(STDOUT_FILENO, b" 0");
-    }
-}
-
-fn checked(c: Checked) {
-    match c {
-        Checked::Done => {
-            io::write_all(STDOUT_FILENO, b" 0");
-        }
-        Checked::Inval => {
-            io::write_all(STDOUT_FILENO, b" 2");
-        }
-    }
-}
-
-fn parent(start: usize) {
+// A space, and a number of one digit.
+fn digit(n: u32) {
     io::write_all(STDOUT_FILENO, b" ");
-    number(start);
-    io::write_all(STDOUT_FILENO, b"^");
-}
-
-fn name(start: usize, len: usize) {
-    io::write_all(STDOUT_FILENO, b" ");
-    number(start);
-    io::write_all(STDOUT_FILENO, b"+");
-    number(len);
+    io::print_decimal(STDOUT_FILENO, n as u64);
 }
 
 fn components(s: &[u8]) {
     let mut at = 0;
-    loop {
-        match path::components::next_component(s, at) {
-            Component::End => return,
+    while let Some(c) = path::components::next_component(s, at) {
+        io::write_all(STDOUT_FILENO, b" ");
+        at = match c {
             Component::ParentDir { start, next } => {
-                parent(start);
-                at = next;
+                number(start);
+                io::write_all(STDOUT_FILENO, b"^");
+                next
             }
             Component::Normal { start, len, next } => {
-                name(start, len);
-                at = next;
+                number(start);
+                io::write_all(STDOUT_FILENO, b"+");
+                number(len);
+                next
             }
-        }
+        };
     }
 }

@@ -2,6 +2,7 @@
 use mathlib.Core.Path.{◌≡◌, refl, sym, ap, ◌∙◌, subst}
 use mathlib.Core.Bool.{Bool, true, false, cond}
 use mathlib.Core.List.{List, ◌++◌}
+use Rattle.std.specs.Prelude.{Result, Ok, Err}
 use Prim.Native.Nat.{ℕ, ◌≤◌}
 use lib.ListN.{length, take, drop}
 use lib.Seq.{take-append_seam}
@@ -9,6 +10,7 @@ use native.Mathlib.Omega.{arith}
 use lib.Dec.{eqb}
 use borrow.Author.Tests.{eqb-true}
 use Rattle.rules.specs.Numbers.{DONE, SMALL}
+use Rattle.rules.specs.declared.codes.VfsError.{VfsError}
 use Rattle.rules.specs.Bytes.{Bytes}
 use Rattle.rules.specs.Instance.{Instance}
 use Rattle.rules.specs.Saved.{state_of, encode}
@@ -17,44 +19,35 @@ use Rattle.rules.proofs.SaveThenRestore.{save_then_restore, restore_then_save}
 use Rattle.tables.specs.View.{view}
 use Rattle.tables.specs.Laid.{laid}
 use Rattle.call_form.specs.Form.{Told}
+use Rattle.call_form.proofs.Apart.{refused_some}
 use Rattle.storage.proofs.Laid.{told_small_lem, told_by_lem}
 use Rattle.saved_restore.specs.Parts.{state_mem}
 use Rattle.persist.specs.StateRestoring.{state_restored_told, restore_state_mem, restoring_state, RestoresState}
 use Rattle.persist.specs.Saving.{Saves}
 use Rattle.persist.specs.Both.{ComesBack, SavedAgain, RefusedUnchanged}
-use Rattle.persist.specs.declared.saving.Saved.{Saved}
-use Rattle.persist.specs.declared.saving.Saved.TheVariants.{Wrote}
-use Rattle.persist.specs.declared.state_restoring.StateRestored.{StateRestored}
-use Rattle.persist.specs.declared.state_restoring.StateRestored.TheVariants.{Done, NotFresh, BadSave, BadOpt, NoRoom, Small}
 use Rattle.persist.proofs.SaveWays.{saves_once, saves_all, done_holds}
 
 -- ---- the number tells which answer is done
 
-code_done : (r : StateRestored) → (state_restored_told r).code ≡ DONE → r ≡ Done
-unfolding state_restored_told
-code_done Done e = refl
-code_done NotFresh e = absurd (omega arith)
-code_done BadSave e = absurd (omega arith)
-code_done BadOpt e = absurd (omega arith)
-code_done NoRoom e = absurd (omega arith)
-code_done Small e = absurd (omega arith)
+code_done : (r : Result (Unit {0}) VfsError) → (state_restored_told r).code ≡ DONE → r ≡ Ok tt
+code_done (Ok u) e = refl
+code_done (Err x) e = absurd (refused_some x e)
 
-module _ (mem b : List ℕ) (r : StateRestored) (after : List ℕ) (w : RestoresState mem b r after) where
+module _ (mem b : List ℕ) (r : Result (Unit {0}) VfsError) (after : List ℕ) (w : RestoresState mem b r after) where
   code_by : laid mem ≡ true → (state_restored_told r).code ≡ (restore_state_rule (view mem) b).code
   code_by l = ap (λ (t : Told). t.code) (w.answer ∙ told_by_lem mem (restoring_state b) l)
 
   -- bytes against the layout rule are never done
-  done_laid : r ≡ Done → laid mem ≡ true
-  unfolding state_restored_told
+  done_laid : r ≡ Ok tt → laid mem ≡ true
   done_laid e = go (laid mem) refl
     where
       go : (l : Bool) → laid mem ≡ l → laid mem ≡ true
       go true p = p
       go false p =
-          let z : (state_restored_told Done).code ≡ SMALL = ap (λ (x : StateRestored). (state_restored_told x).code) (sym e) ∙ ap (λ (t : Told). t.code) (w.answer ∙ told_small_lem mem (restoring_state b) p) in
+          let z : (state_restored_told (Ok tt)).code ≡ SMALL = ap (λ (x : Result (Unit {0}) VfsError). (state_restored_told x).code) (sym e) ∙ ap (λ (t : Told). t.code) (w.answer ∙ told_small_lem mem (restoring_state b) p) in
           absurd (omega arith)
 
-  kept : (r ≡ Done → ⊥) → after ≡ mem
+  kept : (r ≡ Ok tt → ⊥) → after ≡ mem
   unfolding restore_state_mem
   kept h = w.bytes ∙ go (laid mem) refl (eqb (restore_state_rule (view mem) b).code DONE) refl
     where
@@ -66,7 +59,7 @@ module _ (mem b : List ℕ) (r : StateRestored) (after : List ℕ) (w : Restores
 
 -- ---- what a save wrote
 
-written : (mem d : List ℕ) (n : ℕ) (e : List ℕ) → Saves mem d (Wrote n) e → take n e ≡ encode (saved_state (view mem))
+written : (mem d : List ℕ) (n : ℕ) (e : List ℕ) → Saves mem d (Ok n) e → take n e ≡ encode (saved_state (view mem))
 written mem d n e w =
     let h = done_holds mem d n e w in
     (λ i. take (h.count i) (h.bytes i)) ∙ take-append_seam (encode (saved_state (view mem))) (drop n d)
@@ -85,21 +78,20 @@ comes_back mem d n e new r after s dr p l fr mask room w =
       options = ap (λ (i : Instance). i.options) a ∙ g.options;
     }
 
-again : (mem b after : List ℕ) → Bytes b → RestoresState mem b Done after → encode (saved_state (view after)) ≡ b
-unfolding state_restored_told
+again : (mem b after : List ℕ) → Bytes b → RestoresState mem b (Ok tt) after → encode (saved_state (view after)) ≡ b
 again mem b after h w =
-    let l = done_laid mem b Done after w refl in
-    ap (λ (i : Instance). encode (saved_state i)) (w.stands l) ∙ restore_then_save (view mem) b h (sym (code_by mem b Done after w l))
+    let l = done_laid mem b (Ok tt) after w refl in
+    ap (λ (i : Instance). encode (saved_state i)) (w.stands l) ∙ restore_then_save (view mem) b h (sym (code_by mem b (Ok tt) after w l))
 
 -- the theorem: no other bytes are accepted for it
 pub saved_again : SavedAgain
 saved_again mem b after h w d r e room s =
     let q = again mem b after h w in
-    let l : laid after ≡ true = w.keeps (done_laid mem b Done after w refl) in
+    let l : laid after ≡ true = w.keeps (done_laid mem b (Ok tt) after w refl) in
     let fit : length (encode (saved_state (view after))) ≤ length d = omega (arith, ap length q) in
     let o = saves_once after d _ _ _ _ s (saves_all after d l fit) in
-    let k : r ≡ Wrote (length b) = o.0 ∙ ap (λ (x : List ℕ). Wrote (length x)) q in
-    let z = done_holds after d (length b) e (subst (λ (x : Saved). Saves after d x e) k s) in
+    let k : r ≡ Ok (length b) = o.0 ∙ ap (λ (x : List ℕ). Ok (length x)) q in
+    let z = done_holds after d (length b) e (subst (λ (x : Result ℕ VfsError). Saves after d x e) k s) in
     (k, z.bytes ∙ ap (λ (x : List ℕ). x ++ drop (length b) d) q)
 
 -- the theorem: a refusal leaves every byte

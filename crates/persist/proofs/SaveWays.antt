@@ -2,6 +2,7 @@
 use mathlib.Core.Path.{◌≡◌, refl, sym, ap, ◌∙◌}
 use mathlib.Core.Bool.{Bool, true, false}
 use mathlib.Core.List.{List, ◌++◌}
+use Rattle.std.specs.Prelude.{Result, Ok, Err}
 use Prim.Native.Nat.{ℕ, zero, suc, ◌+◌, ◌≤◌, ◌<◌}
 use native.Mathlib.Nat.{zero-add}
 use native.Mathlib.Decide.{dec_le}
@@ -9,6 +10,8 @@ use native.Mathlib.Omega.{arith}
 use lib.ListN.{length, drop}
 use borrow.Author.Tests.{lt-ltb, le-ltb}
 use Rattle.rules.specs.Numbers.{SMALL}
+use Rattle.rules.specs.declared.codes.VfsError.{VfsError}
+use Rattle.rules.specs.declared.codes.VfsError.TheVariants.{Small}
 use Rattle.rules.specs.Tree.{Node}
 use Rattle.rules.specs.Outcome.{wrote, Outcome, refused, writes, first_of}
 use Rattle.rules.specs.Fields.{row_length}
@@ -25,39 +28,36 @@ use Rattle.tables.specs.Table.{row, tab}
 use Rattle.tables.specs.Layout.{capacity_of, count_of, next_of, counter_byte}
 use Rattle.tables.specs.View.{options_from, head_of, node_at, nodes_of, view}
 use Rattle.tables.specs.Laid.{laid}
-use Rattle.call_form.specs.Form.{Told, told_by}
+use Rattle.call_form.specs.Form.{told_by}
+use Rattle.call_form.proofs.Apart.{told_apart}
 use Rattle.tables.proofs.RowOf.{nodes_count}
 use Rattle.tables.proofs.Find.{nodes_of_lem}
 use Rattle.tables.proofs.Keeps.{laid_is}
 use Rattle.storage.proofs.Calls.{writes_small, writes_by}
 use Rattle.row_name.proofs.Names.{name_short}
-use Rattle.persist.specs.declared.saving.Saved.{Saved}
-use Rattle.persist.specs.declared.saving.Saved.TheVariants.{Wrote, Small}
 use Rattle.persist.specs.Saving.{saved_told, saving, Saves, Holds, DoneHolds, SmallLeaves, NeverLonger, Enough}
 use Rattle.saved_rows.proofs.SaveRecords.{records}
 
 -- ---- the answers are known by their meaning
 
-pub saved_told_injective : (a b : Saved) → saved_told a ≡ saved_told b → a ≡ b
-unfolding saved_told
-saved_told_injective (Wrote n) (Wrote m) e = let h : wrote n ≡ wrote m = ap (λ (t : Told). t.answer) e in cc
-saved_told_injective (Wrote n) Small e = absurd (omega (arith, ap (λ (t : Told). t.code) e))
-saved_told_injective Small (Wrote m) e = absurd (omega (arith, ap (λ (t : Told). t.code) e))
-saved_told_injective Small Small e = refl
+same_wrote : (n m : ℕ) → wrote n ≡ wrote m → n ≡ m
+same_wrote n m e = cc
+
+pub saved_told_injective : (a b : Result ℕ VfsError) → saved_told a ≡ saved_told b → a ≡ b
+saved_told_injective a b = told_apart wrote same_wrote a b
 
 -- any two answers that the contract allows are equal, and so are the bytes after
-pub saves_once : (mem d : List ℕ) (r t : Saved) (e f : List ℕ) → Saves mem d r e → Saves mem d t f → (r ≡ t) × (e ≡ f)
+pub saves_once : (mem d : List ℕ) (r t : Result ℕ VfsError) (e f : List ℕ) → Saves mem d r e → Saves mem d t f → (r ≡ t) × (e ≡ f)
 saves_once mem d r t e f a b = (saved_told_injective r t (a.answer ∙ sym b.answer), a.bytes ∙ sym b.bytes)
 
 -- ---- each answer
 
 module _ (mem d : List ℕ) where
-  pub saves_small : laid mem ≡ false → Saves mem d Small d
-  unfolding saved_told
+  pub saves_small : laid mem ≡ false → Saves mem d (Err Small) d
   saves_small l = writes_small mem (saving d) d l
 
   -- by the outcome of the rule
-  by_rule : laid mem ≡ true → (o : Outcome) → saving d (view mem) ≡ o → (r : Saved) (e : List ℕ) → saved_told r ≡ told_by o → e ≡ write d 0 o.written → Saves mem d r e
+  by_rule : laid mem ≡ true → (o : Outcome) → saving d (view mem) ≡ o → (r : Result ℕ VfsError) (e : List ℕ) → saved_told r ≡ told_by o → e ≡ write d 0 o.written → Saves mem d r e
   by_rule l o q r e a b = writes_by mem (saving d) d (saved_told r) e o l q a b
 
   -- what is saved: its parts, and its size
@@ -74,23 +74,23 @@ module _ (mem d : List ℕ) where
   size = encode_length (saved_state (view mem))
 
   module _ (l : laid mem ≡ true) where
-    saves_full : length d < length state → Saves mem d Small d
-    unfolding saved_told save_rule first_of
-    saves_full h = by_rule l (refused SMALL (view mem)) (rw (lt-ltb (length d) (length state) h)) Small d refl refl
+    saves_full : length d < length state → Saves mem d (Err Small) d
+    unfolding save_rule first_of
+    saves_full h = by_rule l (refused SMALL (view mem)) (rw (lt-ltb (length d) (length state) h)) (Err Small) d refl refl
 
-    pub saves_all : length state ≤ length d → Saves mem d (Wrote (length state)) (write d 0 state)
-    unfolding saved_told save_rule first_of
-    saves_all h = by_rule l (writes state (view mem)) (rw (le-ltb (length d) (length state) h)) (Wrote (length state)) (write d 0 state) refl refl
+    pub saves_all : length state ≤ length d → Saves mem d (Ok (length state)) (write d 0 state)
+    unfolding save_rule first_of
+    saves_all h = by_rule l (writes state (view mem)) (rw (le-ltb (length d) (length state) h)) (Ok (length state)) (write d 0 state) refl refl
 
     -- as the code finds it
     module _ (end : ℕ) (e : end ≡ length (records mem)) where
-      pub saves_no_room : length d < end + tail_length → Saves mem d Small d
+      pub saves_no_room : length d < end + tail_length → Saves mem d (Err Small) d
       saves_no_room h = saves_full (omega (arith, size))
 
       -- the records, the options and the trailer, one behind the other
       pub saves_whole : end + tail_length ≤ length d → (d₁ d₂ d₃ : List ℕ) (c x k : ℕ) → c ≡ count_of mem → x ≡ next_of mem → k ≡ counter_byte mem
           → d₁ ≡ write d 0 (records mem) → d₂ ≡ write d₁ end (options_bytes (options_from (head_of mem))) → d₃ ≡ write d₂ (end + row_length options_row) (trailer_bytes end c x k)
-          → Saves mem d (Wrote (end + tail_length)) d₃
+          → Saves mem d (Ok (end + tail_length)) d₃
       saves_whole h d₁ d₂ d₃ c x k f g j p q r =
           let os : List ℕ = options_bytes (options_from (head_of mem)) in
           let ts : List ℕ = trailer_bytes end (count_of mem) (next_of mem) (counter_byte mem) in
@@ -105,11 +105,10 @@ module _ (mem d : List ℕ) where
 
 -- ---- from the answer to what is left
 
-not_small : (n : ℕ) → Wrote n ≡ Small → ⊥
-unfolding saved_told
-not_small n e = omega (arith, ap (λ (r : Saved). (saved_told r).code) e)
+not_small : (n : ℕ) → ◌≡◌ {A = Result ℕ VfsError} (Ok n) (Err Small) → ⊥
+not_small n e = cc
 
-same_count : (n m : ℕ) → Wrote n ≡ Wrote m → n ≡ m
+same_count : (n m : ℕ) → ◌≡◌ {A = Result ℕ VfsError} (Ok n) (Ok m) → n ≡ m
 same_count n m e = cc
 
 -- the theorem: where a save is done, the whole state stands in the lent output
@@ -135,12 +134,12 @@ pub small_leaves : SmallLeaves
 small_leaves mem d e w = by_laid (laid mem) refl
   where
     by_room : laid mem ≡ true → Dec (length (state mem d) ≤ length d) → e ≡ d
-    by_room l (yes h) = absurd (not_small _ (saves_once mem d _ _ _ _ (saves_all mem d l h) w).0)
-    by_room l (no h) = (saves_once mem d _ _ _ _ w (saves_full mem d l (omega arith))).1
+    by_room l (yes h) = absurd (not_small (length (state mem d)) (saves_once mem d (Ok (length (state mem d))) (Err Small) _ _ (saves_all mem d l h) w).0)
+    by_room l (no h) = (saves_once mem d (Err Small) (Err Small) _ _ w (saves_full mem d l (omega arith))).1
 
     by_laid : (b : Bool) → laid mem ≡ b → e ≡ d
     by_laid true l = by_room l (dec_le (length (state mem d)) (length d))
-    by_laid false l = (saves_once mem d _ _ _ _ w (saves_small mem d l)).1
+    by_laid false l = (saves_once mem d (Err Small) (Err Small) _ _ w (saves_small mem d l)).1
 
 -- ---- how much is written at most
 

@@ -2,6 +2,7 @@
 use mathlib.Core.Path.{◌≡◌, refl, sym, ap, ◌∙◌}
 use mathlib.Core.Bool.{Bool, true, false, not}
 use mathlib.Core.List.{List, ◌++◌}
+use Rattle.std.specs.Prelude.{Ok, Err}
 use Prim.Native.Nat.{ℕ, ◌+◌, ◌≤◌, ◌<◌}
 use native.Mathlib.Omega.{arith}
 use lib.ListN.{length}
@@ -9,7 +10,10 @@ use lib.Dec.{eqb, ltb}
 use borrow.Author.Tests.{not-true, not-false, ne_eqb, ltb-false}
 use Rattle.le.specs.Mem.{get}
 use Rattle.rules.specs.Bytes.{Bytes}
-use Rattle.rules.specs.Numbers.{DONE, BADSAVE, BADOPT, NOROOM, NOTFRESH}
+use Rattle.rules.specs.Numbers.{DONE}
+use Rattle.rules.specs.Codes.{code_of}
+use Rattle.rules.specs.declared.codes.VfsError.{VfsError}
+use Rattle.rules.specs.declared.codes.VfsError.TheVariants.{NotFresh, BadSave, BadOpt, NoRoom, Small}
 use Rattle.rules.specs.Tree.{Node}
 use Rattle.rules.specs.Instance.{Instance}
 use Rattle.rules.specs.Outcome.{nothing, Outcome, refused, says, first_of}
@@ -22,16 +26,13 @@ use Rattle.tables.specs.Table.{row}
 use Rattle.tables.specs.Layout.{capacity_of, count_of}
 use Rattle.tables.specs.View.{view}
 use Rattle.tables.specs.Laid.{laid}
-use Rattle.call_form.specs.Form.{told_by}
+use Rattle.call_form.proofs.Apart.{refused_some}
 use Rattle.tables.proofs.Keeps.{laid_long}
 use Rattle.tables.proofs.RowOf.{nodes_count}
-use Rattle.storage.proofs.Laid.{laid_by_lem}
 use Rattle.storage.proofs.Calls.{does_small, does_nothing, does}
 use Rattle.saved.proofs.Accepted.{accepted_long}
 use Rattle.saved_restore.specs.Parts.{load_nodes, state_mem}
 use Rattle.persist.specs.StateRestoring.{state_restored_told, restore_state_mem, restoring_state, RestoresState}
-use Rattle.persist.specs.declared.state_restoring.StateRestored.{StateRestored}
-use Rattle.persist.specs.declared.state_restoring.StateRestored.TheVariants.{Done, NotFresh, BadSave, BadOpt, NoRoom, Small}
 use Rattle.saved_restore.proofs.Records.{count_is, next_low, next_top, all_load}
 use Rattle.saved_restore.proofs.Loads.{AllLoaded, loads_all}
 use Rattle.saved_restore.proofs.StateHead.{become, view_state, state_keeps}
@@ -91,63 +92,57 @@ module _ (b : List ℕ) (a : Bool) (ae : a ≡ accepted b) (e : not a ≡ false)
   pub long_by : tail_length ≤ length b
   long_by = accepted_long b accepted_by
 
-pub bytes_by : (mem : List ℕ) (l : Bool) → l ≡ laid mem → not l ≡ false → 8192 ≤ length mem
-bytes_by mem l le on = laid_long mem (laid_by_lem mem l le on)
+pub bytes_by : (mem : List ℕ) → laid mem ≡ true → 8192 ≤ length mem
+bytes_by mem k = laid_long mem k
 
 module _ (mem b : List ℕ) where
-  refusal : laid mem ≡ true → (r : StateRestored) (code : ℕ) → restoring_state b (view mem) ≡ refused code (view mem) → (code ≡ DONE → ⊥) → state_restored_told r ≡ told_by (refused code (view mem)) → RestoresState mem b r mem
+  -- bytes against the layout rule
+  pub small : laid mem ≡ false → RestoresState mem b (Err Small) mem
   unfolding restore_state_mem
-  refusal e r code f n t =
-      let z : eqb (restore_state_rule (view mem) b).code DONE ≡ false = ap (λ (o : Outcome). eqb o.code DONE) f ∙ ne_eqb code DONE n in
-      does_nothing mem (restoring_state b) (state_restored_told r) (restore_state_mem b mem) (refused code (view mem)) e f refl t (rw (e, z))
+  small f = does_small mem (restoring_state b) (state_restored_told (Err Small)) (restore_state_mem b mem) f refl (rw f)
 
-  module _ (l : Bool) (le : l ≡ laid mem) where
-    pub small : not l ≡ true → RestoresState mem b Small mem
-    unfolding restore_state_mem state_restored_told
-    small e =
-        let f : laid mem ≡ false = sym le ∙ not-true l e in
-        does_small mem (restoring_state b) (state_restored_told Small) (restore_state_mem b mem) f refl (rw f)
+  module _ (k : laid mem ≡ true) where
+    refusal : (x : VfsError) → restoring_state b (view mem) ≡ refused (code_of x) (view mem) → RestoresState mem b (Err x) mem
+    unfolding restore_state_mem
+    refusal x f =
+        let z : eqb (restore_state_rule (view mem) b).code DONE ≡ false = ap (λ (o : Outcome). eqb o.code DONE) f ∙ ne_eqb (code_of x) DONE (refused_some x) in
+        does_nothing mem (restoring_state b) (state_restored_told (Err x)) (restore_state_mem b mem) (refused (code_of x) (view mem)) k f refl refl (rw (k, z))
 
-    module _ (on : not l ≡ false) (fr : Bool) (fe : fr ≡ fresh (view mem)) where
-      abbrev k : laid mem ≡ true
-      k = laid_by_lem mem l le on
-
-      pub not_fresh : not fr ≡ true → RestoresState mem b NotFresh mem
-      unfolding state_restored_told restore_state_rule first_of
-      not_fresh e = let z : fresh (view mem) ≡ false = sym fe ∙ not-true fr e in refusal k NotFresh NOTFRESH (rw z) (λ q. omega arith) refl
+    module _ (fr : Bool) (fe : fr ≡ fresh (view mem)) where
+      pub not_fresh : not fr ≡ true → RestoresState mem b (Err NotFresh) mem
+      unfolding restore_state_rule first_of
+      not_fresh e = let z : fresh (view mem) ≡ false = sym fe ∙ not-true fr e in refusal NotFresh (rw z)
 
       module _ (is : not fr ≡ false) (a : Bool) (ae : a ≡ accepted b) where
         new : fresh (view mem) ≡ true
         new = sym fe ∙ not-false fr is
 
-        pub bad_save : not a ≡ true → RestoresState mem b BadSave mem
-        unfolding state_restored_told restore_state_rule first_of
-        bad_save e = let z : accepted b ≡ false = sym ae ∙ not-true a e in refusal k BadSave BADSAVE (rw (new, z)) (λ q. omega arith) refl
+        pub bad_save : not a ≡ true → RestoresState mem b (Err BadSave) mem
+        unfolding restore_state_rule first_of
+        bad_save e = let z : accepted b ≡ false = sym ae ∙ not-true a e in refusal BadSave (rw (new, z))
 
         module _ (good : not a ≡ false) (u : Bool) (ue : u ≡ unknown (view mem).fixed.known (state_of b).options) where
           ok : accepted b ≡ true
           ok = accepted_by b a ae good
 
-          pub bad_opt : u ≡ true → RestoresState mem b BadOpt mem
-          unfolding state_restored_told restore_state_rule first_of
-          bad_opt e = let z : unknown (view mem).fixed.known (state_of b).options ≡ true = sym ue ∙ e in refusal k BadOpt BADOPT (rw (new, ok, z)) (λ q. omega arith) refl
+          pub bad_opt : u ≡ true → RestoresState mem b (Err BadOpt) mem
+          unfolding restore_state_rule first_of
+          bad_opt e = let z : unknown (view mem).fixed.known (state_of b).options ≡ true = sym ue ∙ e in refusal BadOpt (rw (new, ok, z))
 
           module _ (in-mask : u ≡ false) (m : Bool) (me : m ≡ ltb (view mem).fixed.capacity (1 + length (state_of b).nodes)) where
             mask : unknown (view mem).fixed.known (state_of b).options ≡ false
             mask = sym ue ∙ in-mask
 
-            pub no_room_lem : m ≡ true → RestoresState mem b NoRoom mem
-            unfolding state_restored_told restore_state_rule first_of
-            no_room_lem e =
-                let z : ltb (view mem).fixed.capacity (1 + length (state_of b).nodes) ≡ true = sym me ∙ e in
-                refusal k NoRoom NOROOM (rw (new, ok, mask, z)) (λ q. omega arith) refl
+            pub no_room_lem : m ≡ true → RestoresState mem b (Err NoRoom) mem
+            unfolding restore_state_rule first_of
+            no_room_lem e = let z : ltb (view mem).fixed.capacity (1 + length (state_of b).nodes) ≡ true = sym me ∙ e in refusal NoRoom (rw (new, ok, mask, z))
 
             pub fits_by : m ≡ false → count_of mem + saved_records b < capacity_of mem
             fits_by e = room mem b k new ok mask (sym me ∙ e)
 
-            pub restores : m ≡ false → Bytes b → (after : List ℕ) → after ≡ state_mem (state_of b) mem → RestoresState mem b Done after
-            unfolding state_restored_told restore_state_rule first_of restore_state_mem
+            pub restores : m ≡ false → Bytes b → (after : List ℕ) → after ≡ state_mem (state_of b) mem → RestoresState mem b (Ok tt) after
+            unfolding restore_state_rule first_of restore_state_mem
             restores e bytes after p =
                 let fit : ltb (view mem).fixed.capacity (1 + length (state_of b).nodes) ≡ false = sym me ∙ e in
-                does mem (restoring_state b) (state_restored_told Done) after (restore_state_mem b mem) (says nothing (state_restored_to (state_of b) (view mem))) k (rw (new, ok, mask, fit)) refl (p ∙ sym (rw (k, new, ok, mask, fit)))
+                does mem (restoring_state b) (state_restored_told (Ok tt)) after (restore_state_mem b mem) (says nothing (state_restored_to (state_of b) (view mem))) k (rw (new, ok, mask, fit)) refl (p ∙ sym (rw (k, new, ok, mask, fit)))
                 (ap view p ∙ view_restored mem b k new ok mask fit bytes) (ap laid p ∙ keeps_restored mem b k new ok mask fit bytes)

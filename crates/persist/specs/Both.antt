@@ -1,5 +1,6 @@
 -- Demand 2 of save and restore on bytes, over the contracts: what comes back, that no other bytes are accepted for it, and what a refusal leaves.
-use Rattle.std.specs.Prelude.{◌≡◌, true, List, ◌++◌, ℕ, ◌≤◌, length, take, drop}
+use Rattle.std.specs.Prelude.{◌≡◌, true, List, ◌++◌, ℕ, ◌≤◌, length, take, drop, Result, Ok}
+use Rattle.rules.specs.declared.codes.VfsError.{VfsError}
 use Rattle.rules.specs.Bytes.{Bytes}
 use Rattle.rules.specs.Instance.{Instance, counter_of, live}
 use Rattle.rules.specs.StateRestore.{fresh}
@@ -9,14 +10,10 @@ use Rattle.tables.specs.View.{view}
 use Rattle.tables.specs.Laid.{laid}
 use Rattle.persist.specs.Saving.{Saves}
 use Rattle.persist.specs.StateRestoring.{RestoresState}
-use Rattle.persist.specs.declared.saving.Saved.{Saved}
-use Rattle.persist.specs.declared.saving.Saved.TheVariants.{Wrote}
-use Rattle.persist.specs.declared.state_restoring.StateRestored.{StateRestored}
-use Rattle.persist.specs.declared.state_restoring.StateRestored.TheVariants.{Done}
 
 -- the restore is done, and the storage stands for the tree without its mounts, the next number, the counter and the options
-pub record StateBack (i : Instance) (r : StateRestored) (after : List ℕ) : Type 0 where
-  pub done : r ≡ Done
+pub record StateBack (i : Instance) (r : Result (Unit {0}) VfsError) (after : List ℕ) : Type 0 where
+  pub done : r ≡ Ok tt
   pub keeps : laid after ≡ true
   pub tree : (view after).tree ≡ bare_tree i.tree
   pub counter : counter_of (view after) ≡ counter_of i
@@ -24,15 +21,15 @@ pub record StateBack (i : Instance) (r : StateRestored) (after : List ℕ) : Typ
 
 -- what a save wrote of a driven instance with all parents present comes back in any fresh one with room and the same mask (R135)
 abbrev pub ComesBack : Type 0
-ComesBack = (mem d : List ℕ) (n : ℕ) (e new : List ℕ) (r : StateRestored) (after : List ℕ) → Saves mem d (Wrote n) e → Driven (view mem) → Present (view mem).tree.nodes (view mem).tree.nodes
+ComesBack = (mem d : List ℕ) (n : ℕ) (e new : List ℕ) (r : Result (Unit {0}) VfsError) (after : List ℕ) → Saves mem d (Ok n) e → Driven (view mem) → Present (view mem).tree.nodes (view mem).tree.nodes
     → laid new ≡ true → fresh (view new) ≡ true → (view new).fixed.known ≡ (view mem).fixed.known → live (view mem) ≤ (view new).fixed.capacity → RestoresState new (take n e) r after
     → StateBack (view mem) r after
 
 -- a save at once after a done restore writes what was read, at the start of a lent output that has room for it (R136)
 abbrev pub SavedAgain : Type 0
-SavedAgain = (mem b after : List ℕ) → Bytes b → RestoresState mem b Done after → (d : List ℕ) (r : Saved) (e : List ℕ) → length b ≤ length d → Saves after d r e
-    → (r ≡ Wrote (length b)) × (e ≡ b ++ drop (length b) d)
+SavedAgain = (mem b after : List ℕ) → Bytes b → RestoresState mem b (Ok tt) after → (d : List ℕ) (r : Result ℕ VfsError) (e : List ℕ) → length b ≤ length d → Saves after d r e
+    → (r ≡ Ok (length b)) × (e ≡ b ++ drop (length b) d)
 
 -- a refused restore leaves every byte (R15, R128)
 abbrev pub RefusedUnchanged : Type 0
-RefusedUnchanged = (mem b : List ℕ) (r : StateRestored) (after : List ℕ) → RestoresState mem b r after → (r ≡ Done → ⊥) → after ≡ mem
+RefusedUnchanged = (mem b : List ℕ) (r : Result (Unit {0}) VfsError) (after : List ℕ) → RestoresState mem b r after → (r ≡ Ok tt → ⊥) → after ≡ mem

@@ -2,7 +2,7 @@
 use mathlib.Core.Path.{◌≡◌, refl, ap, ◌∙◌}
 use mathlib.Core.Bool.{Bool, true, false, cond, not, ◌&&◌}
 use mathlib.Core.List.{List}
-use mathlib.Core.Option.{Option, none, some}
+use Rattle.std.specs.Prelude.{Option, None, Some}
 use Prim.Native.Nat.{ℕ, ◌^◌, ◌<◌}
 use native.Mathlib.Omega.{arith}
 use lib.Dec.{eqb}
@@ -24,13 +24,13 @@ use Rattle.placing.specs.Place.{freed_mem, place_mem, out_mem, take_off_mem, InS
 module _ (mem : List ℕ) (e : laid mem ≡ true) where
   pub view_freed : (m : Option Mount) → InSlots m → view (freed_mem m mem) ≡ freed m (view mem)
   unfolding freed_mem freed_slots
-  view_freed none h = refl
-  view_freed (some m) h = view_slot m.index h false 0 mem (omega arith) (laid_long mem e)
+  view_freed None h = refl
+  view_freed (Some m) h = view_slot m.index h false 0 mem (omega arith) (laid_long mem e)
 
   pub keeps_freed : (m : Option Mount) → laid (freed_mem m mem) ≡ true
   unfolding freed_mem
-  keeps_freed none = e
-  keeps_freed (some m) = keeps_slot mem e m.index false 0
+  keeps_freed None = e
+  keeps_freed (Some m) = keeps_slot mem e m.index false 0
 
   -- a mount that is placed
   module _ (k : ℕ) (r : Request) (x : ℕ) (f : MountFits (requested_mount k r)) (t : r.tag < 2 ^ 32) (h : InSlots (mount_of_node (view mem).tree x)) where
@@ -41,20 +41,20 @@ module _ (mem : List ℕ) (e : laid mem ≡ true) where
     m₁ = freed_mem old mem
 
     abbrev m₂ : List ℕ
-    m₂ = node_mount_mem (nodes_of m₁) (some (requested_mount k r)) x m₁
+    m₂ = node_mount_mem (nodes_of m₁) (Some (requested_mount k r)) x m₁
 
     keeps₁ : laid m₁ ≡ true
     keeps₁ = keeps_freed old
 
     keeps₂ : laid m₂ ≡ true
-    keeps₂ = keeps_mount m₁ keeps₁ (some (requested_mount k r)) x
+    keeps₂ = keeps_mount m₁ keeps₁ (Some (requested_mount k r)) x
 
     pub view_placed : view (place_mem (requested_mount k r) r.tag x mem) ≡ placed k r x (view mem)
     unfolding place_mem placed
     view_placed =
         view_slot k (omega (arith, f.few)) true r.tag m₂ t (laid_long m₂ keeps₂)
         ∙ ap (with_slot k (held_by r.tag))
-        (view_mount m₁ (laid_is m₁ keeps₁) x (some (requested_mount k r)) f ∙ ap (λ (i : Instance). with_tree (set_mount i.tree x (some (requested_mount k r))) i) (view_freed old h))
+        (view_mount m₁ (laid_is m₁ keeps₁) x (Some (requested_mount k r)) f ∙ ap (λ (i : Instance). with_tree (set_mount i.tree x (Some (requested_mount k r))) i) (view_freed old h))
 
     pub keeps_placed : laid (place_mem (requested_mount k r) r.tag x mem) ≡ true
     unfolding place_mem
@@ -81,21 +81,21 @@ module _ (x : ℕ) (mem : List ℕ) (e : laid mem ≡ true) where
 
 module _ (x : ℕ) (m : Mount) (mem : List ℕ) (e : laid mem ≡ true) (h : m.index < 256) where
   abbrev c₁ : List ℕ
-  c₁ = node_mount_mem (nodes_of mem) none x mem
+  c₁ = node_mount_mem (nodes_of mem) None x mem
 
   cleared : laid c₁ ≡ true
-  cleared = keeps_mount mem e none x
+  cleared = keeps_mount mem e None x
 
   pub view_taken_off : view (take_off_mem m x mem) ≡ with_slot m.index empty_slot (with_tree (taken (view mem) x) (view mem))
   unfolding take_off_mem taken
   view_taken_off =
-      let v : view c₁ ≡ with_tree (set_mount (view mem).tree x none) (view mem) = view_mount mem (laid_is mem e) x none tt in
-      let o : view (out_mem x c₁) ≡ with_tree (cond ((view mem).removal && not (eqb x root_number)) (cut x (set_mount (view mem).tree x none)) (set_mount (view mem).tree x none)) (view mem) =
+      let v : view c₁ ≡ with_tree (set_mount (view mem).tree x None) (view mem) = view_mount mem (laid_is mem e) x None tt in
+      let o : view (out_mem x c₁) ≡ with_tree (cond ((view mem).removal && not (eqb x root_number)) (cut x (set_mount (view mem).tree x None)) (set_mount (view mem).tree x None)) (view mem) =
       view_out x c₁ cleared ∙ (ap (λ (i : Instance). cond (i.removal && not (eqb x root_number)) (with_tree (cut x i.tree) i) i) v ∙ go ((view mem).removal && not (eqb x root_number))) in
       view_slot m.index h false 0 (out_mem x c₁) (omega arith) (laid_long (out_mem x c₁) (keeps_out x c₁ cleared)) ∙ ap (with_slot m.index empty_slot) o
     where
       t : Tree
-      t = set_mount (view mem).tree x none
+      t = set_mount (view mem).tree x None
 
       go : (b : Bool) → cond b (with_tree (cut x t) (view mem)) (with_tree t (view mem)) ≡ with_tree (cond b (cut x t) t) (view mem)
       go true = refl

@@ -7,31 +7,24 @@ ghost use Rattle.tables.specs.Laid.{laid};
 ghost use Rattle.tables.specs.Answer.{mount_of_point, RowOf};
 ghost use Rattle.placing.specs.Place.{out_mem, Frees, Places, TakesOff};
 
-use tables::mounts::{MountOn, MountPoint};
-use tables::rows::Row;
-use tables::slots::Tag;
+use tables::mounts::MountPoint;
 
 // The tag found on the node, and the tag then still in the slot of the new index.
 #[derive(Clone, Copy)]
 pub struct Tags {
-    pub replaced: Tag,
-    pub displaced: Tag,
+    pub replaced: Option<u32>,
+    pub displaced: Option<u32>,
 }
 
-// What the slot of a mount's index holds; then the slot is empty. Without a mount nothing changes.
-fn free_old(s: &mut [u8], old: MountOn) -> Tag
+// The tag of a mount's index, whose slot is empty then. Without a mount nothing changes.
+fn free_old(s: &mut [u8], old: Option<MountPoint>) -> Option<u32>
     requires { laid s.old ≡ true }
     ensures { Frees s.old old result s.new }
 {
-    match old {
-        MountOn::Point(m) => {
-            let k = m.fs_idx;
-            let tag = tables::slots::tag_of(s, k);
-            tables::slots::free(s, k);
-            tag
-        }
-        MountOn::Nothing => Tag::Empty,
-    }
+    let k = old?.fs_idx;
+    let tag = tables::slots::tag_of(s, k);
+    tables::slots::free(s, k);
+    tag
 }
 
 // A mount on a node loses its index before the new one is set; answers the tag found there, and the tag then still in the new slot (R76, R78, R93).
@@ -41,11 +34,9 @@ pub fn place(s: &mut [u8], x: u64, m: MountPoint, tag: u32) -> Tags
     ensures { Places s.old (mount_of_point m) tag x result s.new }
 {
     let here = tables::mounts::with_parent(s, x);
-    let old = here.mount;
-    let row = here.row;
-    let replaced = free_old(s, old);
+    let replaced = free_old(s, here.mount);
     let displaced = tables::slots::tag_of(s, m.fs_idx);
-    tables::mounts::set(s, x, row, m);
+    tables::mounts::set(s, x, here.row, m);
     tables::slots::hold(s, m.fs_idx, tag);
     Tags {
         replaced,
@@ -54,7 +45,7 @@ pub fn place(s: &mut [u8], x: u64, m: MountPoint, tag: u32) -> Tags
 }
 
 // With removal set, the node, in that row, is taken out of the table; the root has no row (R100).
-fn take_out(s: &mut [u8], x: u64, row: Row)
+fn take_out(s: &mut [u8], x: u64, row: Option<usize>)
     requires s_value { laid s.old ≡ true }
     requires row_of { RowOf s.old x row }
     ensures { s.new ≡ out_mem x s.old }
@@ -62,22 +53,20 @@ fn take_out(s: &mut [u8], x: u64, row: Row)
     if !tables::header::removes(s) {
         return;
     }
-    match row {
-        Row::At(i) => tables::rows::remove(s, i),
-        Row::Nothing => {}
+    if let Some(i) = row {
+        tables::rows::remove(s, i);
     }
 }
 
 // The mount m is taken off the node x, in that row, and its index freed; answers the tag released, or none (R97, R98, R100).
-pub fn take_off(s: &mut [u8], x: u64, row: Row, m: MountPoint) -> Tag
+pub fn take_off(s: &mut [u8], x: u64, row: Option<usize>, m: MountPoint) -> Option<u32>
     requires s_value { laid s.old ≡ true }
     requires row_of { RowOf s.old x row }
     ensures { TakesOff s.old (mount_of_point m) x result s.new }
 {
-    let freed = m.fs_idx;
-    let tag = tables::slots::tag_of(s, freed);
+    let tag = tables::slots::tag_of(s, m.fs_idx);
     tables::mounts::clear(s, x, row);
     take_out(s, x, row);
-    tables::slots::free(s, freed);
+    tables::slots::free(s, m.fs_idx);
     tag
 }

@@ -2,7 +2,7 @@
 use mathlib.Core.Path.{◌≡◌, refl, ap, subst}
 use mathlib.Core.Bool.{false}
 use mathlib.Core.List.{List, [], ◌∷◌, ◌++◌}
-use mathlib.Core.Option.{Option, none, some}
+use Rattle.std.specs.Prelude.{Option, None, Some}
 use Prim.Native.Nat.{ℕ, suc, ◌+◌, ◌^◌, ◌≤◌, ◌<◌}
 use native.Mathlib.Nat.{add-zero}
 use native.Mathlib.Omega.{arith}
@@ -58,8 +58,8 @@ module _ (live : List Node) (next : ℕ) (low : LowNodes live) where
   step_fresh m (Normal at p) ps s g b h = go (child_in (live ++ m.nodes) m.here p) refl h
     where
       go : (o : Option ℕ) → child_in (live ++ m.nodes) m.here p ≡ o → next + length (or_make next m p o).nodes ≤ 2 ^ 56 → Makes next (or_make next m p o)
-      go (some x) e k = record { fresh = g.fresh; here = child_low (live ++ m.nodes) (all_low m g b) m.here p x e }
-      go none e k =
+      go (Some x) e k = record { fresh = g.fresh; here = child_low (live ++ m.nodes) (all_low m g b) m.here p x e }
+      go None e k =
           record {
             fresh = fresh_more next m.nodes m.here p g.fresh g.here s.0;
             here = omega (arith, length-append m.nodes (bare (next + length m.nodes) m.here p ∷ []));

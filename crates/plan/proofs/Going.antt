@@ -2,11 +2,12 @@
 use mathlib.Core.Path.{◌≡◌, sym, ap, ◌∙◌}
 use mathlib.Core.Bool.{false}
 use mathlib.Core.List.{List, [], ◌∷◌, ◌++◌}
-use mathlib.Core.Option.{none, some}
+use Rattle.std.specs.Prelude.{None, Some, Ok, Err}
+use Rattle.rules.specs.declared.codes.VfsError.TheVariants.{NoRoom}
 use Prim.Native.Nat.{ℕ, ◌+◌, ◌-◌, ◌≤◌, ◌<◌}
 use native.Mathlib.Omega.{arith}
 use native.Mathlib.Decide.{ℕ_discrete}
-use lib.ListN.{length, get_or, set, drop, length-set, length-append}
+use lib.ListN.{length, set, take, drop, length-set, length-take, length-append}
 use lib.Seq.{get_or-set_same, get_or-set_other}
 use Rattle.rules.specs.Path.{Part, Normal, ParentDir, components, too_long}
 use Rattle.rules.specs.Tree.{Made, bare, child_in, parent_in, mount_step, makes}
@@ -19,28 +20,29 @@ use Rattle.tables.specs.Table.{tab}
 use Rattle.tables.specs.Layout.{next_of}
 use Rattle.tables.specs.View.{nodes_of, view}
 use Rattle.tables.specs.Laid.{Bounds}
-use Rattle.plan.specs.declared.Planned.TheVariants.{Fits, NoRoom}
-use Rattle.plan.specs.Plan.{PlanColumns, columns, noted, planned_from, Sized, Within, room_of, plan_told, Plans}
+use Rattle.plan.specs.declared.PlannedNode.{PlannedNode}
+use Rattle.plan.specs.declared.TheConstants.{UNPLANNED}
+use Rattle.plan.specs.Plan.{note_at, planned_from, Within, room_of, plan_told, Plans}
 use Rattle.plan.proofs.Nodes.{makes_grows}
 use Rattle.plan.proofs.Spare.{planned_is, fits, lacks}
-use Rattle.plan.proofs.Columns.{planned_length, planned_stored}
+use Rattle.plan.proofs.PlannedNodes.{planned_length, planned_stored, planned_taken, within_taken}
 
 -- ---- the walk
 
 -- the nodes planned so far, and where the walk stands
-abbrev pub so_far : List ℕ → List ℕ → PlanColumns → ℕ → ℕ → Made
+abbrev pub so_far : List ℕ → List ℕ → List PlannedNode → ℕ → ℕ → Made
 so_far mem path t count node = record { nodes = planned_from path (next_of mem) t 0 count; here = node }
 
 -- where the walk has come to a place of the path: what is planned, and the walk from here on, make what the whole walk makes
-pub record Going (mem path : List ℕ) (t : PlanColumns) (count node at : ℕ) : Type 0 where
+pub record Going (mem path : List ℕ) (t : List PlannedNode) (count node at : ℕ) : Type 0 where
   pub few : count ≤ room_of mem
-  pub sized : Sized t
+  pub sized : length t ≡ 1024
   pub named : Within path t count
   pub short : EachName Short (components at (drop at path))
   pub rest : makes (nodes_of mem) (next_of mem) (so_far mem path t count node) (components at (drop at path)) ≡ planned (view mem).tree path
 
 module _ (mem path : List ℕ) where
-  pub begins : (t : PlanColumns) → Sized t → too_long path ≡ false → Going mem path t 0 1 0
+  pub begins : (t : List PlannedNode) → length t ≡ 1024 → too_long path ≡ false → Going mem path t 0 1 0
   unfolding planned_from tab
   begins t z l = record {
     few = omega arith;
@@ -50,7 +52,21 @@ module _ (mem path : List ℕ) where
     rest = sym (planned_is mem path);
   }
 
-  module _ (t : PlanColumns) (count node at : ℕ) (g : Going mem path t count node at) where
+  module _ (t : List PlannedNode) (count node at : ℕ) (g : Going mem path t count node at) where
+    -- the nodes planned so far, as the slice that is searched
+    module _ (d : Bounds mem) where
+      planned_within : count ≤ length t
+      planned_within = omega (arith, g.few, g.sized, d.few_nodes)
+
+      pub sliced : planned_from path (next_of mem) (take count t) 0 (length (take count t)) ≡ planned_from path (next_of mem) t 0 count
+      sliced = planned_taken path (next_of mem) t count planned_within
+
+      pub slice_named : Within path (take count t) (length (take count t))
+      slice_named = within_taken path (next_of mem) t count planned_within g.named
+
+      pub slice_few : length (take count t) ≤ 1024
+      slice_few = omega (arith, length-take count t, g.few, d.few_nodes)
+
     -- the same plan, at another node and place
     moves : (x on start n : ℕ) (p : Part) → StepsOver path at p start n on → mount_step (nodes_of mem) (next_of mem) (so_far mem path t count node) p ≡ so_far mem path t count x → Going mem path t count x on
     unfolding makes
@@ -67,12 +83,12 @@ module _ (mem path : List ℕ) where
     goes_up x on start s e = moves x on start 2 (ParentDir start) s (rw e)
 
     -- the end
-    pub ends : Bounds mem → components at (drop at path) ≡ [] → Plans mem path t (Fits node count)
+    pub ends : Bounds mem → components at (drop at path) ≡ [] → Plans mem path t (Ok (record { node = node; count = count }))
     unfolding plan_told makes needed
     ends d e =
         let same : so_far mem path t count node ≡ planned (view mem).tree path = rw e at g.rest in
         let long : length (planned (view mem).tree path).nodes ≤ room_of mem = rw (← same, planned_length path (next_of mem) t count) g.few in
-        record { answer = ap some same ∙ fits mem path d long; named = g.named }
+        record { answer = ap Ok same ∙ fits mem path d long; named = g.named; few = g.few; sized = g.sized }
 
     module _ (start len on : ℕ) (s : StepsOver path at (Normal start (part path start len)) start len on) where
       -- the name as a part of the path from its start to its end
@@ -82,7 +98,7 @@ module _ (mem path : List ℕ) where
       is_named : name ≡ part path start len
       is_named = let e : on - start ≡ len = omega (arith, s.end) in rw e
 
-      pub goes_to : (x : ℕ) → some x ≡ child_in (nodes_of mem ++ planned_from path (next_of mem) t 0 count) node name → Going mem path t count x on
+      pub goes_to : (x : ℕ) → Some x ≡ child_in (nodes_of mem ++ planned_from path (next_of mem) t 0 count) node name → Going mem path t count x on
       unfolding mount_step
       goes_to x e = moves x on start len (Normal start (part path start len)) s (rw (← rw is_named at e))
 
@@ -91,7 +107,7 @@ module _ (mem path : List ℕ) where
           let k = first_name Short start (part path start len) (components on (drop on path)) (rw s.parts at g.short) in
           (omega (arith, s.end, s.within), omega (arith, part_length path start len (omega (arith, s.end, s.within))))
 
-      module _ (e : none ≡ child_in (nodes_of mem ++ planned_from path (next_of mem) t 0 count) node name) where
+      module _ (e : None ≡ child_in (nodes_of mem ++ planned_from path (next_of mem) t 0 count) node name) where
         -- a name that is nowhere is made
         makes_it : mount_step (nodes_of mem) (next_of mem) (so_far mem path t count node) (Normal start (part path start len))
             ≡ record { nodes = planned_from path (next_of mem) t 0 count ++ (bare (next_of mem + count) node (part path start len) ∷ []); here = next_of mem + count }
@@ -102,30 +118,33 @@ module _ (mem path : List ℕ) where
         unfolding makes
         after = rw s.parts at g.rest
 
-        pub stops : Bounds mem → count ≡ room_of mem → Plans mem path t NoRoom
+        pub stops : Bounds mem → count ≡ room_of mem → Plans mem path t (Err NoRoom)
         unfolding plan_told needed
         stops d full =
             let more = makes_grows (nodes_of mem) (next_of mem) (mount_step (nodes_of mem) (next_of mem) (so_far mem path t count node) (Normal start (part path start len))) (components on (drop on path)) in
             let one : length (mount_step (nodes_of mem) (next_of mem) (so_far mem path t count node) (Normal start (part path start len))).nodes ≡ count + 1 =
             ap (λ (q : Made). length q.nodes) makes_it ∙ simp (length-append, planned_length) (omega arith) in
-            record { answer = lacks mem path d (omega (arith, ap (λ (q : Made). length q.nodes) after)); named = λ k h. absurd (omega arith) }
+            record { answer = lacks mem path d (omega (arith, ap (λ (q : Made). length q.nodes) after)); named = λ k h. absurd (omega arith); few = omega arith; sized = g.sized }
 
   -- one node more
-  module _ (parents starts lens : List ℕ) (count node at : ℕ) (g : Going mem path (columns parents starts lens) count node at) (start len on : ℕ) (s : StepsOver path at (Normal start (part path start len)) start len on) where
-    pub goes_new : none ≡ child_in (nodes_of mem ++ planned_from path (next_of mem) (columns parents starts lens) 0 count) node (part path start (on - start))
-        → count < room_of mem → room_of mem ≤ 1024 → (x : ℕ) → x ≡ next_of mem + count → Going mem path (noted (columns parents starts lens) count node start len) (count + 1) x on
+  module _ (t : List PlannedNode) (count node at : ℕ) (g : Going mem path t count node at) (start len on : ℕ) (s : StepsOver path at (Normal start (part path start len)) start len on) where
+    abbrev more : List PlannedNode
+    more = set t count (record { parent = node; start = start; len = len })
+
+    pub goes_new : None ≡ child_in (nodes_of mem ++ planned_from path (next_of mem) t 0 count) node (part path start (on - start))
+        → count < room_of mem → room_of mem ≤ 1024 → (x : ℕ) → x ≡ next_of mem + count → Going mem path more (count + 1) x on
     unfolding makes
     goes_new e l r x q =
         record {
           few = omega arith;
-          sized = record { parents = length-set parents count node ∙ g.sized.parents; starts = length-set starts count start ∙ g.sized.starts; lens = length-set lens count len ∙ g.sized.lens };
+          sized = length-set t count (record { parent = node; start = start; len = len }) ∙ g.sized;
           named = λ k h. names k (ℕ_discrete k count) h;
           short = rest_names Short (Normal start (part path start len)) (components on (drop on path)) (rw s.parts at g.short);
           rest =
-              rw (q, planned_stored path (next_of mem) parents starts lens count node start len (omega (arith, g.sized.parents)) (omega (arith, g.sized.starts)) (omega (arith, g.sized.lens)))
-              (sym (ap (λ (m : Made). makes (nodes_of mem) (next_of mem) m (components on (drop on path))) (makes_it (columns parents starts lens) count node at g start len on s e)) ∙ after (columns parents starts lens) count node at g start len on s e);
+              rw (q, planned_stored path (next_of mem) t count (record { parent = node; start = start; len = len }) (omega (arith, g.sized)))
+              (sym (ap (λ (m : Made). makes (nodes_of mem) (next_of mem) m (components on (drop on path))) (makes_it t count node at g start len on s e)) ∙ after t count node at g start len on s e);
         }
       where
-        names : (k : ℕ) → Dec (k ≡ count) → k < count + 1 → get_or (set starts count start) k 0 + get_or (set lens count len) k 0 ≤ length path
-        names k (yes f) h = rw (f, get_or-set_same starts count start 0 (omega (arith, g.sized.starts)), get_or-set_same lens count len 0 (omega (arith, g.sized.lens))) (omega (arith, s.end, s.within))
-        names k (no d) h = rw (get_or-set_other starts count k start 0 d, get_or-set_other lens count k len 0 d) (g.named k (omega arith))
+        names : (k : ℕ) → Dec (k ≡ count) → k < count + 1 → (note_at more k).start + (note_at more k).len ≤ length path
+        names k (yes f) h = rw (f, get_or-set_same t count (record { parent = node; start = start; len = len }) UNPLANNED (omega (arith, g.sized))) (omega (arith, s.end, s.within))
+        names k (no d) h = rw (get_or-set_other t count k (record { parent = node; start = start; len = len }) UNPLANNED d) (g.named k (omega arith))

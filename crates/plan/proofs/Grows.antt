@@ -5,7 +5,7 @@ use mathlib.Core.List.{List, [], ◌∷◌, append_assoc, append-nil}
 use Prim.Native.Nat.{ℕ, ◌+◌, ◌-◌, ◌^◌, ◌≤◌, ◌<◌}
 use native.Mathlib.Nat.{add-zero, sub-zero}
 use native.Mathlib.Omega.{arith}
-use lib.ListN.{length, get_or}
+use lib.ListN.{length}
 use Rattle.rules.specs.Tree.{Node}
 use Rattle.rules.specs.Instance.{Instance, with_tree, grown}
 use Rattle.path.specs.Steps.{part}
@@ -20,7 +20,8 @@ use Rattle.tables.proofs.Tab.{tab_next, tab_done}
 use Rattle.tables.proofs.Spells.{cell_back}
 use Rattle.tables.proofs.Refine.{head_append, view_append}
 use Rattle.tables.proofs.Keeps.{laid_is, length_append, keeps_append}
-use Rattle.plan.specs.Plan.{PlanColumns, planned_at, planned_from}
+use Rattle.plan.specs.declared.PlannedNode.{PlannedNode}
+use Rattle.plan.specs.Plan.{note_at, planned_at, planned_from}
 use Rattle.plan.specs.Apply.{append_all}
 use Rattle.plan.proofs.Fresh.{Fresh}
 
@@ -76,7 +77,7 @@ grows (n ∷ ns) mem l f c x =
 
 -- ---- the loop: writing the rest here gives what writing all gives
 
-pub record Writing (s₀ path : List ℕ) (t : PlanColumns) (count : ℕ) (s : List ℕ) (j : ℕ) : Type 0 where
+pub record Writing (s₀ path : List ℕ) (t : List PlannedNode) (count : ℕ) (s : List ℕ) (j : ℕ) : Type 0 where
   pub so_far : j ≤ count
   pub long : length s ≡ length s₀
   pub laid : Bounds s
@@ -85,7 +86,7 @@ pub record Writing (s₀ path : List ℕ) (t : PlanColumns) (count : ℕ) (s : L
   pub numbers : next_of s ≡ next_of s₀ + j
   pub rest : append_all (planned_from path (next_of s₀) t j (count - j)) s ≡ append_all (planned_from path (next_of s₀) t 0 count) s₀
 
-module _ (s₀ path : List ℕ) (t : PlanColumns) (count : ℕ) where
+module _ (s₀ path : List ℕ) (t : List PlannedNode) (count : ℕ) where
   pub starts : Bounds s₀ → Writing s₀ path t count s₀ 0
   starts l = record { so_far = omega arith; long = refl; laid = l; capacity = refl; live = omega arith; numbers = omega arith; rest = simp sub-zero }
 
@@ -95,11 +96,11 @@ module _ (s₀ path : List ℕ) (t : PlanColumns) (count : ℕ) where
     done h = rw (tab_done (planned_at path (next_of s₀) t) j count h) at w.rest
 
     pub goes_on : (r : List ℕ) → j < count → count_of s₀ + count < capacity_of s₀ → next_of s₀ + count ≤ 2 ^ 56
-        → r ≡ append_node (get_or t.parents j 0) (part path (get_or t.starts j 0) (get_or t.lens j 0)) s → Writing s₀ path t count r (j + 1)
+        → r ≡ append_node (note_at t j).parent (part path (note_at t j).start (note_at t j).len) s → Writing s₀ path t count r (j + 1)
     unfolding append_all planned_from planned_at
     goes_on r h c x e =
-        let a = get_or t.parents j 0 in
-        let p = part path (get_or t.starts j 0) (get_or t.lens j 0) in
+        let a = (note_at t j).parent in
+        let p = part path (note_at t j).start (note_at t j).len in
         rw e
         (record {
           so_far = omega arith;

@@ -1,6 +1,6 @@
 -- What is proved of plans and of what they make.
 pub mod Nodes
-pub mod Columns
+pub mod PlannedNodes
 pub mod Spare
 pub mod Going
 pub mod Fresh

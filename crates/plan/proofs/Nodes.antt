@@ -1,8 +1,9 @@
 -- Children among the nodes of two lists, and the growth of a mount walk. Assumes nothing.
-use mathlib.Core.Path.{◌≡◌, refl}
+use mathlib.Core.Path.{◌≡◌, refl, sym}
 use mathlib.Core.Bool.{Bool, true, false, cond}
 use mathlib.Core.List.{List, [], ◌∷◌, ◌++◌}
-use mathlib.Core.Option.{Option, none, some, none-ne-some, some-ne-none}
+use Rattle.std.specs.Prelude.{Option, None, Some}
+use Rattle.std.proofs.lemmas.Option.{none-some}
 use Prim.Native.Nat.{ℕ, ◌≤◌}
 use native.Mathlib.Omega.{arith}
 use lib.ListN.{length, length-append}
@@ -12,22 +13,22 @@ use Rattle.rules.specs.Tree.{Node, Made, is_child, child_in, or_make, mount_step
 -- ---- the first that is found
 
 module _ (here : ℕ) (p : List ℕ) where
-  pub child_first : (xs ys : List Node) {x : ℕ} → child_in xs here p ≡ some x → child_in (xs ++ ys) here p ≡ some x
+  pub child_first : (xs ys : List Node) {x : ℕ} → child_in xs here p ≡ Some x → child_in (xs ++ ys) here p ≡ Some x
   unfolding child_in
-  child_first [] ys e = absurd (none-ne-some _ e)
+  child_first [] ys e = absurd (none-some _ e)
   child_first (n ∷ xs) ys {x} e = go (is_child here p n) (child_first xs ys) e
     where
-      go : (t : Bool) → (child_in xs here p ≡ some x → child_in (xs ++ ys) here p ≡ some x) → cond t (some n.number) (child_in xs here p) ≡ some x → cond t (some n.number) (child_in (xs ++ ys) here p) ≡ some x
+      go : (t : Bool) → (child_in xs here p ≡ Some x → child_in (xs ++ ys) here p ≡ Some x) → cond t (Some n.number) (child_in xs here p) ≡ Some x → cond t (Some n.number) (child_in (xs ++ ys) here p) ≡ Some x
       go true ih e = e
       go false ih e = ih e
 
-  pub child_second : (xs ys : List Node) → child_in xs here p ≡ none → child_in (xs ++ ys) here p ≡ child_in ys here p
+  pub child_second : (xs ys : List Node) → child_in xs here p ≡ None → child_in (xs ++ ys) here p ≡ child_in ys here p
   unfolding child_in
   child_second [] ys e = refl
   child_second (n ∷ xs) ys e = go (is_child here p n) (child_second xs ys) e
     where
-      go : (t : Bool) → (child_in xs here p ≡ none → child_in (xs ++ ys) here p ≡ child_in ys here p) → cond t (some n.number) (child_in xs here p) ≡ none → cond t (some n.number) (child_in (xs ++ ys) here p) ≡ child_in ys here p
-      go true ih e = absurd (some-ne-none _ e)
+      go : (t : Bool) → (child_in xs here p ≡ None → child_in (xs ++ ys) here p ≡ child_in ys here p) → cond t (Some n.number) (child_in xs here p) ≡ None → cond t (Some n.number) (child_in (xs ++ ys) here p) ≡ child_in ys here p
+      go true ih e = absurd (none-some _ (sym e))
       go false ih e = ih e
 
 -- ---- a mount walk only adds nodes
@@ -38,8 +39,8 @@ step_grows live next m (ParentDir at) = omega arith
 step_grows live next m (Normal at p) = go (child_in (live ++ m.nodes) m.here p)
   where
     go : (o : Option ℕ) → length m.nodes ≤ length (or_make next m p o).nodes
-    go (some x) = omega arith
-    go none = simp length-append (omega arith)
+    go (Some x) = omega arith
+    go None = simp length-append (omega arith)
 
 pub makes_grows : (live : List Node) (next : ℕ) (m : Made) (ps : List Part) → length m.nodes ≤ length (makes live next m ps).nodes
 unfolding makes

@@ -3,7 +3,8 @@ use mathlib.Core.Path.{◌≡◌, refl, ap, ◌∙◌}
 use mathlib.Core.Bool.{false, not, ◌||◌, or-true}
 use mathlib.Core.Logic.{⊎_elim}
 use mathlib.Core.List.{List}
-use mathlib.Core.Option.{none, some}
+use Rattle.std.specs.Prelude.{Ok, Err}
+use Rattle.rules.specs.declared.codes.VfsError.TheVariants.{NoRoom}
 use Prim.Native.Nat.{ℕ, ◌+◌, ◌-◌, ◌^◌, ◌≤◌, ◌<◌, min}
 use native.Mathlib.Omega.{arith}
 use lib.ListN.{length}
@@ -58,11 +59,11 @@ module _ (mem path : List ℕ) (d : Bounds mem) where
       rw (view_capacity mem, view_next mem, view_count mem)
       (exact (capacity_of mem) (1 + count_of mem) (next_of mem) (2 ^ 56) (needed (view mem).tree path) (omega (arith, d.live)) d.top)
 
-  pub fits : needed (view mem).tree path ≤ room_of mem → some (planned (view mem).tree path) ≡ fitting (view mem) path
+  pub fits : needed (view mem).tree path ≤ room_of mem → Ok (planned (view mem).tree path) ≡ fitting (view mem) path
   unfolding fitting
   fits h = rw (no_room_lem, le-leb (needed (view mem).tree path) (room_of mem) h)
 
-  pub lacks : room_of mem < needed (view mem).tree path → none ≡ fitting (view mem) path
+  pub lacks : room_of mem < needed (view mem).tree path → Err NoRoom ≡ fitting (view mem) path
   unfolding fitting
   lacks h = rw (no_room_lem, lt-leb (needed (view mem).tree path) (room_of mem) h)
 

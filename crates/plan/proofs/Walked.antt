@@ -2,7 +2,9 @@
 use mathlib.Core.Path.{◌≡◌, refl, sym, ap, ◌∙◌, subst}
 use mathlib.Core.Bool.{Bool, true, false, cond, not}
 use mathlib.Core.List.{List, []}
-use mathlib.Core.Option.{Option, none, some, none-ne-some, some-ne-none}
+use Rattle.std.specs.Prelude.{Result, Ok, Err}
+use Rattle.rules.specs.declared.codes.VfsError.{VfsError}
+use Rattle.rules.specs.declared.codes.VfsError.TheVariants.{NoRoom}
 use Prim.Native.Nat.{ℕ, ◌+◌, ◌^◌, ◌≤◌, ◌<◌}
 use native.Mathlib.Omega.{arith}
 use lib.ListN.{length}
@@ -16,10 +18,10 @@ use Rattle.tables.specs.Layout.{capacity_of, count_of, next_of}
 use Rattle.tables.specs.View.{view}
 use Rattle.tables.specs.Laid.{laid, Bounds}
 use Rattle.plan.specs.declared.Planned.{Planned}
-use Rattle.plan.specs.declared.Planned.TheVariants.{Fits, NoRoom}
-use Rattle.plan.specs.Plan.{PlanColumns, planned_from, Within, room_of, plan_told, fitting, Plans}
+use Rattle.plan.specs.declared.PlannedNode.{PlannedNode}
+use Rattle.plan.specs.Plan.{planned_from, Within, room_of, plan_told, fitting, Plans}
 use Rattle.plan.specs.Apply.{append_all}
-use Rattle.plan.proofs.Columns.{planned_length}
+use Rattle.plan.proofs.PlannedNodes.{planned_length}
 use Rattle.plan.proofs.Spare.{view_next, view_count, view_capacity, no_room_lem, room_left}
 use Rattle.plan.proofs.Fresh.{planned_fresh}
 use Rattle.plan.proofs.Grows.{Grown, grows}
@@ -27,7 +29,7 @@ use Rattle.plan.proofs.Grows.{Grown, grows}
 -- ---- the answers
 
 -- the plan that fits: row 4 does not refuse, the nodes are the rules' nodes, and the application's conditions hold
-pub record Fitted (mem path : List ℕ) (t : PlanColumns) (node count : ℕ) : Type 0 where
+pub record Fitted (mem path : List ℕ) (t : List PlannedNode) (node count : ℕ) : Type 0 where
   pub room : no_room (view mem) path ≡ false
   pub ends : node ≡ ended (view mem) path
   pub nodes : planned_from path (next_of mem) t 0 count ≡ (planned (view mem).tree path).nodes
@@ -35,17 +37,17 @@ pub record Fitted (mem path : List ℕ) (t : PlanColumns) (node count : ℕ) : T
   pub numbers : next_of mem + count ≤ 2 ^ 56
   pub named : Within path t count
 
-module _ (mem path : List ℕ) (t : PlanColumns) where
-  says_fits : (node count : ℕ) → Plans mem path t (Fits node count) → Fitted mem path t node count
+module _ (mem path : List ℕ) (t : List PlannedNode) where
+  says_fits : (q : Planned) → Plans mem path t (Ok q) → Fitted mem path t q.node q.count
   unfolding plan_told fitting
-  says_fits node count p = go (no_room (view mem) path) refl p.answer
+  says_fits q p = go (no_room (view mem) path) refl p.answer
     where
-      go : (b : Bool) → no_room (view mem) path ≡ b → ◌≡◌ {A = Option Made} (some (record { nodes = planned_from path (next_of mem) t 0 count; here = node })) (cond b none (some (planned (view mem).tree path)))
-          → Fitted mem path t node count
-      go true e f = absurd (some-ne-none _ f)
+      go : (b : Bool) → no_room (view mem) path ≡ b → ◌≡◌ {A = Result Made VfsError} (Ok (record { nodes = planned_from path (next_of mem) t 0 q.count; here = q.node })) (cond b (Err NoRoom) (Ok (planned (view mem).tree path)))
+          → Fitted mem path t q.node q.count
+      go true e f = cc
       go false e f =
-          let same : ◌≡◌ {A = Made} (record { nodes = planned_from path (next_of mem) t 0 count; here = node }) (planned (view mem).tree path) = cc in
-          let size : length (planned (view mem).tree path).nodes ≡ count = sym (ap (λ (m : Made). length m.nodes) same) ∙ planned_length path (next_of mem) t count in
+          let same : ◌≡◌ {A = Made} (record { nodes = planned_from path (next_of mem) t 0 q.count; here = q.node }) (planned (view mem).tree path) = cc in
+          let size : length (planned (view mem).tree path).nodes ≡ q.count = sym (ap (λ (m : Made). length m.nodes) same) ∙ planned_length path (next_of mem) t q.count in
           let left = room_left mem path e in
           record {
             room = e;
@@ -56,32 +58,32 @@ module _ (mem path : List ℕ) (t : PlanColumns) where
             named = p.named;
           }
 
-  says_none : Plans mem path t NoRoom → no_room (view mem) path ≡ true
+  says_none : (e : VfsError) → Plans mem path t (Err e) → (e ≡ NoRoom) × (no_room (view mem) path ≡ true)
   unfolding plan_told fitting
-  says_none p = go (no_room (view mem) path) p.answer
+  says_none e p = go (no_room (view mem) path) p.answer
     where
-      go : (b : Bool) → none ≡ cond b none (some (planned (view mem).tree path)) → b ≡ true
-      go true f = refl
-      go false f = absurd (none-ne-some _ f)
+      go : (b : Bool) → ◌≡◌ {A = Result Made VfsError} (Err e) (cond b (Err NoRoom) (Ok (planned (view mem).tree path))) → (e ≡ NoRoom) × (b ≡ true)
+      go true f = (cc, refl)
+      go false f = cc
 
   -- of an answer of the code, known by its variant
-  pub fitted : {r : Planned} {node count : ℕ} → Plans mem path t r → r ≡ Fits node count → Fitted mem path t node count
-  fitted {r} {node} {count} p e = says_fits node count (subst (Plans mem path t) e p)
+  pub fitted : {r : Result Planned VfsError} {q : Planned} → Plans mem path t r → r ≡ Ok q → Fitted mem path t q.node q.count
+  fitted {r} {q} p e = says_fits q (subst (Plans mem path t) e p)
 
-  pub refused : {r : Planned} → Plans mem path t r → r ≡ NoRoom → no_room (view mem) path ≡ true
-  refused p e = says_none (subst (Plans mem path t) e p)
+  pub refused : {r : Result Planned VfsError} {e : VfsError} → Plans mem path t r → r ≡ Err e → (e ≡ NoRoom) × (no_room (view mem) path ≡ true)
+  refused {r} {e} p f = says_none e (subst (Plans mem path t) f p)
 
--- whatever the columns are, two answers that tell the same are the same
-pub told_injective : (path : List ℕ) (next : ℕ) (t u : PlanColumns) (a b : Planned) → plan_told path next t a ≡ plan_told path next u b → a ≡ b
+-- whatever the planned nodes are, two answers that tell the same are the same
+pub told_injective : (path : List ℕ) (next : ℕ) (t u : List PlannedNode) (a b : Result Planned VfsError) → plan_told path next t a ≡ plan_told path next u b → a ≡ b
 unfolding plan_told
-told_injective path next t u (Fits x j) (Fits y k) e =
-    let same : ◌≡◌ {A = Made} (record { nodes = planned_from path next t 0 j; here = x }) (record { nodes = planned_from path next u 0 k; here = y }) = cc in
-    let size : j ≡ k = sym (planned_length path next t j) ∙ ap (λ (m : Made). length m.nodes) same ∙ planned_length path next u k in
-    let place : x ≡ y = ap (λ (m : Made). m.here) same in
-    rw (size, place)
-told_injective path next t u (Fits x j) NoRoom e = cc
-told_injective path next t u NoRoom (Fits y k) e = cc
-told_injective path next t u NoRoom NoRoom e = refl
+told_injective path next t u (Ok p) (Ok q) e =
+    let same : ◌≡◌ {A = Made} (record { nodes = planned_from path next t 0 p.count; here = p.node }) (record { nodes = planned_from path next u 0 q.count; here = q.node }) = cc in
+    let size : p.count ≡ q.count = sym (planned_length path next t p.count) ∙ ap (λ (m : Made). length m.nodes) same ∙ planned_length path next u q.count in
+    let place : p.node ≡ q.node = ap (λ (m : Made). m.here) same in
+    λ i. Ok (record { node = place i; count = size i })
+told_injective path next t u (Ok p) (Err f) e = cc
+told_injective path next t u (Err d) (Ok q) e = cc
+told_injective path next t u (Err d) (Err f) e = cc
 
 -- ---- the walk finds the whole path
 
@@ -93,7 +95,7 @@ room_none mem path x d e =
 
 -- ---- other bytes with the same tree and N
 
-pub fitted_over : (mem after path : List ℕ) (t : PlanColumns) (node count : ℕ) → (view after).tree ≡ (view mem).tree → (view after).fixed.capacity ≡ (view mem).fixed.capacity
+pub fitted_over : (mem after path : List ℕ) (t : List PlannedNode) (node count : ℕ) → (view after).tree ≡ (view mem).tree → (view after).fixed.capacity ≡ (view mem).fixed.capacity
     → Fitted mem path t node count → Fitted after path t node count
 unfolding no_room
 fitted_over mem after path t node count e c f =

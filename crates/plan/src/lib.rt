@@ -1,47 +1,65 @@
-// The mount walk in two steps: the plan, which only reads the storage, and its application. The nodes to make stand in columns that the caller lends: the parent's
-// number, where the name starts in the path, and how long it is. Each function has as its condition a place within a slice, the layout rule, or what its caller has
-// just found or tested.
+// The mount walk in two steps: the plan, which only reads the storage, and its application. The nodes to make stand in an array that the caller lends. Each function
+// has as its condition a place within a slice, the layout rule, or what its caller has just found or tested.
 #![tactic(auto)]
 
-ghost use Rattle.std.specs.Prelude.{false, List, ◌++◌, ◌≡◌, ℕ, ◌+◌, ◌^◌, ◌≤◌, ◌<◌, length, get_or};
+ghost use Rattle.std.specs.Prelude.{false, List, ◌++◌, ◌≡◌, ℕ, ◌+◌, ◌^◌, ◌≤◌, ◌<◌, length};
 ghost use Rattle.rules.specs.Path.{too_long};
-ghost use Rattle.rules.specs.Tree.{is_child, child_in, parent_in};
+ghost use Rattle.rules.specs.Tree.{bare, is_child, child_in, parent_in};
+ghost use Rattle.path.specs.Steps.{part};
 ghost use Rattle.tables.specs.Layout.{capacity_of, count_of, next_of};
 ghost use Rattle.tables.specs.View.{nodes_of};
 ghost use Rattle.tables.specs.Laid.{Bounds};
-ghost use Rattle.tables.specs.Answer.{found_in};
-ghost use Rattle.plan.specs.Plan.{columns, planned_at, planned_from, Notes, Sized, Within, room_of, Plans};
+ghost use Rattle.plan.specs.Plan.{planned_from, Within, room_of, Plans};
 ghost use Rattle.plan.specs.Apply.{append_all};
 
-use path::components::Component;
-use tables::rows::{Found, Row};
+use path::components::{Component, next_component};
+use rules::codes::{VfsError, VfsResult};
 
-// There is room: the node where the path ends, and how many nodes are to be made. Or there is none.
+// A node to make: its parent's number, where its name starts in the path, and how long that is.
 #[derive(Clone, Copy)]
-pub enum Planned {
-    Fits { node: u64, count: usize },
-    NoRoom,
+pub struct PlannedNode {
+    pub parent: u64,
+    pub start: u16,
+    pub len: u8,
 }
 
-// A parent's number in its column: as an answer it is known to have 64 bits.
-fn parent_in(x: u64) -> u64
-    ensures { result ≡ x }
-{
-    x
+// What stands in a plan's array before any node is planned.
+pub const UNPLANNED: PlannedNode = PlannedNode {
+    parent: 0,
+    start: 0,
+    len: 0,
+};
+
+impl PlannedNode {
+    // Its name, a part of the path.
+    fn name<'a>(self, path: &'a [u8]) -> &'a [u8]
+        requires { self.start + self.len ≤ length path.now }
+        ensures part { result.now ≡ part path.now self.start self.len }
+        ensures short { length result.now ≤ 255 }
+    {
+        let start = self.start as usize;
+        let end = start + self.len as usize;
+        &path[start..end]
+    }
+
+    // Whether it is the child of that name (R45).
+    fn is_child(self, path: &[u8], here: u64, name: &[u8]) -> bool
+        requires { self.start + self.len ≤ length path.now }
+        ensures { result ≡ is_child here name.now (bare 0 self.parent (part path.now self.start self.len)) }
+    {
+        let len = self.len as usize;
+        if self.parent != here || len != name.len() {
+            return false;
+        }
+        le::runs::same_at(path, self.start as usize, name, 0, len)
+    }
 }
 
-// Where a name starts in the path, as its column has it.
-fn start_of(x: u16) -> usize
-    ensures { result ≡ x }
-{
-    x as usize
-}
-
-// How long a name is, as its column has it: at most 255 bytes.
-fn length_of(x: u8) -> usize
-    ensures { (result ≡ x) × (result < 256) }
-{
-    x as usize
+// The node where the path ends, and how many nodes are to be made.
+#[derive(Clone, Copy)]
+pub struct Planned {
+    pub node: u64,
+    pub count: usize,
 }
 
 // How many nodes can still be made (R67).
@@ -51,189 +69,112 @@ pub fn room(s: &[u8]) -> usize
 {
     let nodes = tables::header::capacity(s) - 1 - tables::header::count(s);
     let numbers = rules::NUMBERS - tables::header::next(s);
-    if numbers < nodes as u64 {
-        return numbers as usize;
-    }
-    nodes
-}
-
-// Whether planned node j is the child of that name (R45).
-fn planned_is(
-    path: &[u8],
-    parents: &[u64; rules::MAX_NODES],
-    starts: &[u16; rules::MAX_NODES],
-    lens: &[u8; rules::MAX_NODES],
-    j: usize,
-    here: u64,
-    name: &[u8],
-) -> bool
-    requires j_bound { j < 1024 }
-    requires j_in_bounds { get_or starts.now j 0 + get_or lens.now j 0 ≤ length path.now }
-    ensures { result ≡ is_child here name.now (planned_at path.now 0 (columns parents.now starts.now lens.now) j) }
-{
-    if parents[j] != here {
-        return false;
-    }
-    let len = length_of(lens[j]);
-    if len != name.len() {
-        return false;
-    }
-    le::runs::same_at(path, start_of(starts[j]), name, 0, len)
+    numbers.min(nodes as u64) as usize
 }
 
 // The first planned child of that name (R45).
 fn find_planned(
     path: &[u8],
-    parents: &[u64; rules::MAX_NODES],
-    starts: &[u16; rules::MAX_NODES],
-    lens: &[u8; rules::MAX_NODES],
-    count: usize,
+    planned: &[PlannedNode],
     next: u64,
     here: u64,
     name: &[u8],
-) -> Found
-    requires count_bound { (count ≤ 1024) × (next + count < 2 ^ 64) }
-    requires within { Within path.now (columns parents.now starts.now lens.now) count }
-    ensures { found_in result ≡ child_in (planned_from path.now next (columns parents.now starts.now lens.now) 0 count) here name.now }
+) -> Option<u64>
+    requires count_bound { next + length planned.now < 2 ^ 64 }
+    requires within { Within path.now planned.now (length planned.now) }
+    ensures { result ≡ child_in (planned_from path.now next planned.now 0 (length planned.now)) here name.now }
 {
-    let mut j: usize = 0;
-    while j < count {
-        if planned_is(path, parents, starts, lens, j, here, name) {
-            return Found::Node(next + j as u64);
+    for (j, n) in planned.iter().enumerate() {
+        if n.is_child(path, here, name) {
+            return Some(next + j as u64);
         }
-        j += 1;
     }
-    Found::Nothing
+    None
 }
 
 // The first child of that name, live or planned (R45, R48).
-fn find(
-    s: &[u8],
-    path: &[u8],
-    parents: &[u64; rules::MAX_NODES],
-    starts: &[u16; rules::MAX_NODES],
-    lens: &[u8; rules::MAX_NODES],
-    count: usize,
-    here: u64,
-    name: &[u8],
-) -> Found
+fn find(s: &[u8], path: &[u8], planned: &[PlannedNode], here: u64, name: &[u8]) -> Option<u64>
     requires bounds { Bounds s.now }
-    requires count_bound { count ≤ 1024 }
-    requires within { Within path.now (columns parents.now starts.now lens.now) count }
-    ensures { found_in result ≡ child_in (nodes_of s.now ++ planned_from path.now (next_of s.now) (columns parents.now starts.now lens.now) 0 count) here name.now }
+    requires count_bound { length planned.now ≤ 1024 }
+    requires within { Within path.now planned.now (length planned.now) }
+    ensures { result ≡ child_in (nodes_of s.now ++ planned_from path.now (next_of s.now) planned.now 0 (length planned.now)) here name.now }
 {
-    match tables::rows::find_child(s, here, name) {
-        Found::Node(x) => Found::Node(x),
-        Found::Nothing => {
-            let next = tables::header::next(s);
-            find_planned(path, parents, starts, lens, count, next, here, name)
-        }
+    if let Some(x) = tables::rows::find_child(s, here, name) {
+        return Some(x);
     }
+    let next = tables::header::next(s);
+    find_planned(path, planned, next, here, name)
 }
 
-// The parent's number of a node, live or planned, whatever the planned nodes' names are (R39, R54).
-fn up(s: &[u8], parents: &[u64; rules::MAX_NODES], count: usize, x: u64) -> u64
+// The parent's number of a node, live or planned, whatever the path is that the planned nodes' names stand in (R39, R54).
+fn up(s: &[u8], planned: &[PlannedNode], x: u64) -> u64
     requires bounds { Bounds s.now }
-    requires count_bound { count ≤ 1024 }
-    ensures { (path starts lens : List ℕ) → result ≡ parent_in (nodes_of s.now ++ planned_from path (next_of s.now) (columns parents.now starts lens) 0 count) x }
+    requires count_bound { length planned.now ≤ 1024 }
+    ensures { (path : List ℕ) → result ≡ parent_in (nodes_of s.now ++ planned_from path (next_of s.now) planned.now 0 (length planned.now)) x }
 {
     if x == rules::ROOT_ID {
         return rules::ROOT_ID;
     }
-    match tables::rows::find_row(s, x) {
-        Row::At(i) => return tables::rows::parent(s, i),
-        Row::Nothing => {}
+    if let Some(i) = tables::rows::find_row(s, x) {
+        return tables::rows::parent(s, i);
     }
     let next = tables::header::next(s);
-    if x < next {
-        return rules::ROOT_ID;
-    }
-    if x - next < count as u64 {
-        return parent_in(parents[(x - next) as usize]);
+    if next <= x && x - next < planned.len() as u64 {
+        return planned[(x - next) as usize].parent;
     }
     rules::ROOT_ID
 }
 
-// One node more is planned, behind count others: its cells are written, and it answers its number (R49).
-fn note(
-    s: &[u8],
-    parents: &mut [u64; rules::MAX_NODES],
-    starts: &mut [u16; rules::MAX_NODES],
-    lens: &mut [u8; rules::MAX_NODES],
-    count: usize,
-    parent: u64,
-    start: usize,
-    len: usize,
-) -> u64
-    requires bounds { Bounds s.now }
-    requires count_bound { (count < 1024) × (start < 65536) × (len < 256) }
-    ensures { Notes s.now (columns parents.old starts.old lens.old) count parent start len result (columns parents.new starts.new lens.new) }
-{
-    parents[count] = parent;
-    starts[count] = start as u16;
-    lens[count] = len as u8;
-    tables::header::next(s) + count as u64
-}
-
-// Which nodes the mount walk makes, and where it ends; exactly where they exceed the room, that there is none (R48, R50, R67).
+// Which nodes the mount walk makes, and where it ends; exactly where they exceed the room, NOROOM (R48, R50, R67).
 pub fn plan_mount(
     s: &[u8],
     path: &[u8],
-    parents: &mut [u64; rules::MAX_NODES],
-    starts: &mut [u16; rules::MAX_NODES],
-    lens: &mut [u8; rules::MAX_NODES],
-) -> Planned
+    nodes: &mut [PlannedNode; rules::MAX_NODES],
+) -> VfsResult<Planned>
     requires bounds { Bounds s.now }
     requires path_value { too_long path.now ≡ false }
-    requires sized { Sized (columns parents.old starts.old lens.old) }
-    ensures { Plans s.now path.now (columns parents.new starts.new lens.new) result }
+    ensures { Plans s.now path.now nodes.new result }
 {
     let most = room(s);
     let mut count: usize = 0;
     let mut node = rules::ROOT_ID;
     let mut at: usize = 0;
-    loop {
-        match path::components::next_component(path, at) {
-            Component::End => return Planned::Fits { node, count },
+    while let Some(c) = next_component(path, at) {
+        match c {
             Component::ParentDir { next, .. } => {
-                node = up(s, parents, count, node);
+                node = up(s, &nodes[..count], node);
                 at = next;
             }
             Component::Normal { start, len, next } => {
                 let name = &path[start..next];
-                if let Found::Node(x) = find(s, path, parents, starts, lens, count, node, name) {
+                if let Some(x) = find(s, path, &nodes[..count], node, name) {
                     node = x;
                 } else if count == most {
-                    return Planned::NoRoom;
+                    return Err(VfsError::NoRoom);
                 } else {
-                    node = note(s, parents, starts, lens, count, node, start, len);
+                    nodes[count] = PlannedNode {
+                        parent: node,
+                        start: start as u16,
+                        len: len as u8,
+                    };
+                    node = tables::header::next(s) + count as u64;
                     count += 1;
                 }
                 at = next;
             }
         }
     }
+    Ok(Planned { node, count })
 }
 
 // The planned nodes are made, in their order, at the end of the table (R48).
-pub fn apply_plan(
-    s: &mut [u8],
-    path: &[u8],
-    parents: &[u64; rules::MAX_NODES],
-    starts: &[u16; rules::MAX_NODES],
-    lens: &[u8; rules::MAX_NODES],
-    count: usize,
-)
+pub fn apply_plan(s: &mut [u8], path: &[u8], planned: &[PlannedNode])
     requires bounds { Bounds s.old }
-    requires count_bound { (count_of s.old + count < capacity_of s.old) × (next_of s.old + count ≤ 2 ^ 56) }
-    requires within { Within path.now (columns parents.now starts.now lens.now) count }
-    ensures { s.new ≡ append_all (planned_from path.now (next_of s.old) (columns parents.now starts.now lens.now) 0 count) s.old }
+    requires count_bound { (count_of s.old + length planned.now < capacity_of s.old) × (next_of s.old + length planned.now ≤ 2 ^ 56) }
+    requires within { Within path.now planned.now (length planned.now) }
+    ensures { s.new ≡ append_all (planned_from path.now (next_of s.old) planned.now 0 (length planned.now)) s.old }
 {
-    let mut k: usize = 0;
-    while k < count {
-        let a = start_of(starts[k]);
-        let e = a + length_of(lens[k]);
-        tables::rows::append(s, parent_in(parents[k]), &path[a..e]);
-        k += 1;
+    for n in planned {
+        tables::rows::append(s, n.parent, n.name(path));
     }
 }

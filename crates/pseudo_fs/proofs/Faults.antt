@@ -2,15 +2,16 @@
 use mathlib.Core.Path.{◌≡◌, refl}
 use mathlib.Core.Bool.{Bool, true, false, cond, not, ◌||◌}
 use mathlib.Core.List.{[], ◌∷◌}
+use Rattle.std.specs.Prelude.{None, Some}
 use Rattle.rules.specs.Numbers.{DONE, INVAL}
 use Rattle.rules.specs.Utf8.{well_formed}
 use Rattle.rules.specs.Path.{rooted}
 use Rattle.rules.specs.Outcome.{◌⟹◌, first_of}
 use Rattle.rules.specs.Reached.{bad_path}
-use Rattle.pseudo_fs.specs.declared.PathFault.TheVariants.{Utf8, Slash, Sound}
+use Rattle.pseudo_fs.specs.declared.PathFault.TheVariants.{Utf8, Slash}
 use Rattle.pseudo_fs.specs.Told.{fault_of, fault_code, EveryFault}
 
-by_tests : (w r : Bool) → fault_code (first_of ((not w ⟹ Utf8) ∷ (not r ⟹ Slash) ∷ []) Sound) ≡ cond (not w || not r) INVAL DONE
+by_tests : (w r : Bool) → fault_code (first_of ((not w ⟹ Some Utf8) ∷ (not r ⟹ Some Slash) ∷ []) None) ≡ cond (not w || not r) INVAL DONE
 unfolding first_of fault_code
 by_tests true true = refl
 by_tests true false = refl

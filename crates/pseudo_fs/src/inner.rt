@@ -3,7 +3,6 @@ ghost use Rattle.std.specs.Prelude.{◌≡◌};
 ghost use Rattle.rules.specs.Reached.{reached};
 ghost use Rattle.tables.specs.View.{nodes_of, view};
 ghost use Rattle.tables.specs.Laid.{Bounds};
-ghost use Rattle.tables.specs.Answer.{found_in};
 ghost use Rattle.pseudo_fs.specs.Finds.{child_finding, Finds};
 ghost use Rattle.pseudo_fs.specs.Told.{entry_answer, pseudo_answer};
 
@@ -11,30 +10,20 @@ use crate::Entry;
 use inode::NodeNumber;
 use path::components::{Component, next_component};
 use path::names::{has_byte, is_dot, is_dots};
+use rules::codes::{VfsError, VfsResult};
 use scan::names::key_of;
-use tables::header::count;
-use tables::rows::{Found, child_alike, find_child, is_known, next_alike, number, parent_of};
+use tables::rows::{child_alike, find_child, is_known, next_alike, number, parent_of};
 use utf8::{is_plain, is_utf8};
 
-// The node that a find in a directory gives, or its refusal.
-#[derive(Clone, Copy)]
-pub enum Finding {
-    Node(u64),
-    NoEnt,
-    Inval,
-}
-
-// The node where the walk from the root along the components of a path ends, or nothing (R37, R38, R39, R45, R46).
-pub fn walk(s: &[u8], path: &[u8]) -> Found
+// The node where the walk from the root along the components of a path ends, or nothing (R37, R38, R39, R45, R46); the outer loop has its label (R173).
+pub fn walk(s: &[u8], path: &[u8]) -> Option<u64>
     requires { Bounds s.now }
-    ensures { found_in result ≡ reached (view s.now) path.now }
+    ensures { result ≡ reached (view s.now) path.now }
 {
-    let n = count(s);
     let mut node = rules::ROOT_ID;
     let mut at = 0;
-    'outer: loop {
-        match next_component(path, at) {
-            Component::End => return Found::Node(node),
+    'outer: while let Some(component) = next_component(path, at) {
+        match component {
             Component::ParentDir { next, .. } => {
                 node = parent_of(s, node);
                 at = next;
@@ -42,11 +31,7 @@ pub fn walk(s: &[u8], path: &[u8]) -> Found
             Component::Normal { start, next, .. } => {
                 let key = key_of(&path[start..next]);
                 let mut i = 0;
-                loop {
-                    let j = next_alike(s, i, key);
-                    if n <= j {
-                        return Found::Nothing;
-                    }
+                while let Some(j) = next_alike(s, i, key) {
                     if child_alike(s, j, node, &path[start..next]) {
                         node = number(s, j);
                         at = next;
@@ -54,47 +39,44 @@ pub fn walk(s: &[u8], path: &[u8]) -> Found
                     }
                     i = j + 1;
                 }
+                return None;
             }
         }
     }
+    Some(node)
 }
 
 // The child of that name, or NOENT; a name with a slash is NOENT, whatever the rows hold (R45, R59).
-fn child_in(s: &[u8], x: u64, name: &[u8]) -> Finding
+#[tactic(auto, unfolding(crate::specs::Finds::child_finding))]
+fn child_in(s: &[u8], x: u64, name: &[u8]) -> VfsResult<u64>
     requires { Bounds s.now }
     ensures { result ≡ child_finding (nodes_of s.now) x name.now }
 {
     if has_byte(name, b'/') {
-        return Finding::NoEnt;
+        return Err(VfsError::NoEnt);
     }
-    match find_child(s, x, name) {
-        Found::Node(y) => Finding::Node(y),
-        Found::Nothing => Finding::NoEnt,
-    }
+    find_child(s, x, name).ok_or(VfsError::NoEnt)
 }
 
 // In a directory: NOENT where it is no node; INVAL where the name has byte 0 or is not UTF-8; then `.`, `..`, the child or NOENT (R57, R58, R59). Of a plain name only the first test and the slash are left to ask.
-pub fn find(s: &[u8], x: u64, name: &[u8]) -> Finding
+pub fn find(s: &[u8], x: u64, name: &[u8]) -> VfsResult<u64>
     requires { Bounds s.now }
     ensures { Finds (nodes_of s.now) x name.now result }
 {
     if !is_known(s, x) {
-        return Finding::NoEnt;
+        return Err(VfsError::NoEnt);
     }
     if is_plain(name) {
         return child_in(s, x, name);
     }
-    if has_byte(name, 0) {
-        return Finding::Inval;
-    }
-    if !is_utf8(name) {
-        return Finding::Inval;
+    if has_byte(name, 0) || !is_utf8(name) {
+        return Err(VfsError::Inval);
     }
     if is_dot(name) {
-        return Finding::Node(x);
+        return Ok(x);
     }
     if is_dots(name) {
-        return Finding::Node(parent_of(s, x));
+        return Ok(parent_of(s, x));
     }
     child_in(s, x, name)
 }
@@ -104,10 +86,9 @@ pub fn pseudo_entry(s: &[u8], x: u64) -> Entry
     requires { Bounds s.now }
     ensures { entry_answer result ≡ pseudo_answer (view s.now) x }
 {
-    let full = inode::or_zero(inode::pseudo_inode(NodeNumber(x)));
     let id = id_map::map_out(tables::header::mapping(s), 0);
     Entry {
-        inode: full,
+        inode: inode::or_zero(inode::pseudo_inode(NodeNumber(x))),
         mode: rules::DIR_MODE,
         uid: id,
         gid: id,

@@ -10,27 +10,17 @@ ghost use Rattle.pseudo_fs.specs.Told.{fault_of, path_walk_told};
 use inner::walk;
 use inode::{NodeNumber, VfsInode};
 use path::components::is_rooted;
-use storage::is_laid;
-use tables::rows::Found;
+use rules::codes::{VfsError, VfsResult};
+use storage::check_laid;
 use utf8::is_utf8;
 
 pub mod inner;
 
-// The first fault of a path, which is INVAL, or none (R15, R36).
+// The first fault of a path; either is INVAL (R15, R36).
 #[derive(Clone, Copy)]
 pub enum PathFault {
     Utf8,
     Slash,
-    Sound,
-}
-
-// What a walk answers.
-#[derive(Clone, Copy)]
-pub enum PathWalk {
-    Node(NodeNumber),
-    Nothing,
-    Inval,
-    Small,
 }
 
 // The entry of a node that was found.
@@ -44,32 +34,27 @@ pub struct Entry {
 }
 
 // The whole path is tested for UTF-8 first, and only then for its leading slash (R36, R43).
-pub fn path_fault(path: &[u8]) -> PathFault
+#[tactic(auto, unfolding(crate::specs::Told::fault_of, rules::specs::Outcome::first_of))]
+pub fn path_fault(path: &[u8]) -> Option<PathFault>
     ensures { result ≡ fault_of path.now }
 {
     if !is_utf8(path) {
-        return PathFault::Utf8;
+        return Some(PathFault::Utf8);
     }
-    if is_rooted(path) {
-        return PathFault::Sound;
+    if !is_rooted(path) {
+        return Some(PathFault::Slash);
     }
-    PathFault::Slash
+    None
 }
 
 // The node that a path leads to, from the root, or nothing; INVAL for a path with a fault; SMALL before all else (R19, R36, R46, R47).
-pub fn path_walk(s: &[u8], path: &[u8]) -> PathWalk
+#[tactic(auto, using(crate::proofs::Calls::fault_bad), unfolding(call_form::specs::Form::answered_by, rules::specs::Reached::walk_rule, rules::specs::Outcome::first_of))]
+pub fn path_walk(s: &[u8], path: &[u8]) -> VfsResult<Option<NodeNumber>>
     ensures { path_walk_told result ≡ answered_by s.now (λ (i : Instance). walk_rule i path.now) }
 {
-    if !is_laid(s) {
-        return PathWalk::Small;
+    check_laid(s)?;
+    if path_fault(path).is_some() {
+        return Err(VfsError::Inval);
     }
-    match path_fault(path) {
-        PathFault::Utf8 => return PathWalk::Inval,
-        PathFault::Slash => return PathWalk::Inval,
-        PathFault::Sound => {}
-    }
-    match walk(s, path) {
-        Found::Node(x) => PathWalk::Node(NodeNumber(x)),
-        Found::Nothing => PathWalk::Nothing,
-    }
+    Ok(walk(s, path).map(NodeNumber))
 }

@@ -2,4 +2,5 @@
 #![tactic(auto)]
 
 pub mod mounting;
+mod path_end;
 pub mod restored_mounting;

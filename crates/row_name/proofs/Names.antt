@@ -95,21 +95,12 @@ module _ (n : ℕ) (mem : List ℕ) (i : ℕ) where
   -- ---- its l bytes into d at a place
 
   module _ (l : ℕ) (d : List ℕ) (to : ℕ) (e : l ≡ length name) where
-    -- the last bytes are all of it
-    pub copied_short : l ≤ 7 → (f : List ℕ) → f ≡ write d to (read mem (last_at n i + 1) l) → Copied name d to l f
-    unfolding read
-    copied_short h f w =
-        let z : l - 7 ≡ 0 = omega arith in
-        let m : min l 7 ≡ l = omega arith in
-        let k : name ≡ read mem (last_at n i + 1) l = two l e ∙ rw (z, m) in
-        record { count = e; bytes = w ∙ ap (write d to) (sym k) }
-
     -- the bytes before the last seven, and those
-    pub copied_long : 7 < l → (f g : List ℕ) → f ≡ write d to (read mem (first_at n i) (l - 7)) → g ≡ write f (to + (l - 7)) (read mem (last_at n i + 1) 7) → Copied name d to l g
-    copied_long h f g w v =
-        let m : min l 7 ≡ 7 = omega arith in
+    pub copied : (f g : List ℕ) → f ≡ write d to (read mem (first_at n i) (l - 7)) → g ≡ write f (to + (l - 7)) (read mem (last_at n i + 1) (l - (l - 7))) → Copied name d to l g
+    copied f g w v =
+        let m : min l 7 ≡ l - (l - 7) = omega arith in
         let p : List ℕ = read mem (first_at n i) (l - 7) in
-        let q : List ℕ = read mem (last_at n i + 1) 7 in
+        let q : List ℕ = read mem (last_at n i + 1) (l - (l - 7)) in
         let k : name ≡ p ++ q = two l e ∙ rw m in
         let one : write (write d to p) (to + (l - 7)) q ≡ write d to (p ++ q) =
         ap (λ (k : ℕ). write (write d to p) (to + k) q) (sym (length_read mem (first_at n i) (l - 7))) ∙ sym (write_append d to p q) in

@@ -15,7 +15,7 @@ pub fn name_len(s: &[u8], i: usize) -> usize
     ensures { result ≡ length (node_at (capacity_of s.now) s.now i).name }
 {
     let n = tables::header::capacity(s);
-    le::fields::get_u8(s, tables::places::last_at(n, i)) as usize
+    le::fields::get_u8(s, tables::places::LASTS.at(n, i)) as usize
 }
 
 // The cell of the name of row i as one number: the lowest byte is its length, and those above are its last seven bytes (R10).
@@ -25,7 +25,7 @@ pub fn name_cell(s: &[u8], i: usize) -> u64
     ensures { result ≡ get 8 s.now (last_at (capacity_of s.now) i) }
 {
     let n = tables::header::capacity(s);
-    le::fields::get_u64(s, tables::places::last_at(n, i))
+    le::fields::get_u64(s, tables::places::LASTS.at(n, i))
 }
 
 // Where the bytes before the last seven of the name of row i stand (R10).
@@ -35,7 +35,7 @@ pub fn first_at(s: &[u8], i: usize) -> usize
     ensures { result ≡ first_at (capacity_of s.now) i }
 {
     let n = tables::header::capacity(s);
-    tables::places::first_at(n, i)
+    tables::places::FIRSTS.at(n, i)
 }
 
 // Copies the name of row i into the lent bytes at a place: its length. Its last seven bytes stand apart from those before them (R120).
@@ -46,13 +46,9 @@ pub fn copy_name(s: &[u8], i: usize, out: &mut [u8], to: usize) -> usize
     ensures { Copied (node_at (capacity_of s.now) s.now i).name out.old to result out.new }
 {
     let len = name_len(s, i);
-    let n = tables::header::capacity(s);
-    let at = tables::places::last_at(n, i);
-    if len <= 7 {
-        le::runs::copy_run(out, to, s, at + 1, len);
-        return len;
-    }
-    le::runs::copy_run(out, to, s, first_at(s, i), len - 7);
-    le::runs::copy_run(out, to + (len - 7), s, at + 1, 7);
+    let before = len.saturating_sub(7);
+    let at = tables::places::LASTS.at(tables::header::capacity(s), i);
+    le::runs::copy_run(out, to, s, first_at(s, i), before);
+    le::runs::copy_run(out, to + before, s, at + 1, len - before);
     len
 }

@@ -2,7 +2,8 @@
 use mathlib.Core.Path.{◌≡◌, refl, sym, ◌∙◌, subst}
 use mathlib.Core.Bool.{Bool, true, false, cond, not, ◌&&◌}
 use mathlib.Core.List.{List, [], ◌∷◌}
-use mathlib.Core.Option.{Option, none, some, none-ne-some}
+use Rattle.std.specs.Prelude.{Option, None, Some}
+use Rattle.std.proofs.lemmas.Option.{none-some}
 use Prim.Native.Nat.{ℕ, ◌<◌}
 use native.Mathlib.Omega.{arith}
 use lib.Dec.{eqb}
@@ -23,29 +24,29 @@ use Rattle.rules.proofs.Ways.{every_call}
 -- the number is below the next one, and no node has it
 record Spent (x : ℕ) (t : Tree) : Type 0 where
   low : x < t.next
-  gone : node_in t.nodes x ≡ none
+  gone : node_in t.nodes x ≡ None
 
 -- ---- lists of nodes
 
-none_mounted : (m : Option Mount) (ns : List Node) (y x : ℕ) → node_in ns x ≡ none → node_in (nodes_with_mount m ns y) x ≡ none
+none_mounted : (m : Option Mount) (ns : List Node) (y x : ℕ) → node_in ns x ≡ None → node_in (nodes_with_mount m ns y) x ≡ None
 unfolding node_in nodes_with_mount
 none_mounted m [] y x e = e
 none_mounted m (n ∷ ns) y x e = go (eqb n.number y) (eqb n.number x) refl e (none_mounted m ns y x)
   where
-    go : (a b : Bool) → eqb n.number x ≡ b → cond b (some n) (node_in ns x) ≡ none → (node_in ns x ≡ none → node_in (nodes_with_mount m ns y) x ≡ none)
-        → node_in (cond a (with_mount m n ∷ ns) (n ∷ nodes_with_mount m ns y)) x ≡ none
-    go a true q f on = absurd (none-ne-some n (sym f))
+    go : (a b : Bool) → eqb n.number x ≡ b → cond b (Some n) (node_in ns x) ≡ None → (node_in ns x ≡ None → node_in (nodes_with_mount m ns y) x ≡ None)
+        → node_in (cond a (with_mount m n ∷ ns) (n ∷ nodes_with_mount m ns y)) x ≡ None
+    go a true q f on = absurd (none-some n (sym f))
     go true false q f on = rw q f
     go false false q f on = rw q (on f)
 
-none_without : (ns : List Node) (y x : ℕ) → node_in ns x ≡ none → node_in (without ns y) x ≡ none
+none_without : (ns : List Node) (y x : ℕ) → node_in ns x ≡ None → node_in (without ns y) x ≡ None
 unfolding node_in without
 none_without [] y x e = e
 none_without (n ∷ ns) y x e = go (eqb n.number y) (eqb n.number x) refl e (none_without ns y x)
   where
-    go : (a b : Bool) → eqb n.number x ≡ b → cond b (some n) (node_in ns x) ≡ none → (node_in ns x ≡ none → node_in (without ns y) x ≡ none)
-        → node_in (cond a ns (n ∷ without ns y)) x ≡ none
-    go a true q f on = absurd (none-ne-some n (sym f))
+    go : (a b : Bool) → eqb n.number x ≡ b → cond b (Some n) (node_in ns x) ≡ None → (node_in ns x ≡ None → node_in (without ns y) x ≡ None)
+        → node_in (cond a ns (n ∷ without ns y)) x ≡ None
+    go a true q f on = absurd (none-some n (sym f))
     go true false q f on = f
     go false false q f on = rw q (on f)
 
@@ -56,7 +57,7 @@ module _ (x : ℕ) where
   unfolding node_in
   grown_spent t path s = record {
     low = omega (arith, s.low);
-    gone = planned_all (λ (ns : List Node). node_in ns x ≡ none) t (λ ns n l m e. node_second ns (n ∷ []) x e ∙ rw (ne_eqb n.number x (λ q. omega (arith, s.low)))) path s.gone;
+    gone = planned_all (λ (ns : List Node). node_in ns x ≡ None) t (λ ns n l m e. node_second ns (n ∷ []) x e ∙ rw (ne_eqb n.number x (λ q. omega (arith, s.low)))) path s.gone;
   }
 
   set_spent : (t : Tree) (y : ℕ) (m : Option Mount) → Spent x t → Spent x (set_mount t y m)
@@ -67,7 +68,7 @@ module _ (x : ℕ) where
   taken_spent : (i : Instance) (y : ℕ) → Spent x i.tree → Spent x (taken i y)
   unfolding taken
   taken_spent i y s =
-      let w = set_spent i.tree y none s in
+      let w = set_spent i.tree y None s in
       either (Spent x) (i.removal && not (eqb y root_number)) (λ e. record { low = w.low; gone = none_without _ y x w.gone }) (λ e. w)
 
   -- ---- calls
@@ -77,12 +78,12 @@ module _ (x : ℕ) where
 
   placed_spent : (k : ℕ) (r : Request) (y : ℕ) (i : Instance) → Spent x i.tree → Spent x (placed k r y i).tree
   unfolding placed
-  placed_spent k r y i s = set_spent i.tree y (some (requested_mount k r)) s
+  placed_spent k r y i s = set_spent i.tree y (Some (requested_mount k r)) s
 
   mount_as : (i : Instance) (r : Request) (k : Option ℕ) → Spent x i.tree → LeavesSpent (mount_by_index i r k)
   unfolding mount_by_index
-  mount_as i r none s = s
-  mount_as i r (some k) s =
+  mount_as i r None s = s
+  mount_as i r (Some k) s =
       let w = grown_spent i.tree r.path s in
       each_of LeavesSpent _ _ (s, (w, placed_spent _ _ _ _ w))
 

@@ -2,7 +2,7 @@
 use mathlib.Core.Path.{◌≡◌, refl, sym, ap, ◌∙◌}
 use mathlib.Core.Bool.{Bool, true, false, not, true≢false}
 use mathlib.Core.Logic.{◌⊎◌, inl, inr, ⊎_elim}
-use mathlib.Core.Option.{Option, none, some}
+use Rattle.std.specs.Prelude.{Option, None, Some}
 use Prim.Native.Nat.{ℕ, ◌+◌, ◌-◌, ◌%◌, ◌≤◌, ◌<◌}
 use native.Mathlib.Omega.{arith}
 use native.Mathlib.Nat.{eq-zero-or-pos}
@@ -38,19 +38,19 @@ module _ (held : ℕ → Bool) where
   zero_held k (inr t) = ⊎_elim (λ (z : k ≡ 0). rw (eq-eqb k 0 z)) (λ (p : 0 < k). rw (t, ne_eqb k 0 (λ z. omega arith))) (eq-zero-or-pos k)
 
 module _ (held : ℕ → Bool) (c : ℕ) (h : c < 256) where
-  taken_first : (k : ℕ) → (d : ℕ) × FirstFree held c k d → (allocate held c).found ≡ some k
+  taken_first : (k : ℕ) → (d : ℕ) × FirstFree held c k d → (allocate held c).found ≡ Some k
   unfolding allocate until_twice
   taken_first k (d, a) =
       let f : free_of held ((c + d) % 256) ≡ true = ap (free_of held) (sym a.place) ∙ is_free held k a.least a.empty in
-      at_found (free_of held) 257 c d h (omega (arith, a.near)) f (λ j l. zero_held held ((c + j) % 256) (a.before j l)) ∙ ap {B = Option ℕ} some (sym a.place)
+      at_found (free_of held) 257 c d h (omega (arith, a.near)) f (λ j l. zero_held held ((c + j) % 256) (a.before j l)) ∙ ap {B = Option ℕ} Some (sym a.place)
 
-  none_found : ((j : ℕ) → 1 ≤ j → j ≤ 255 → held j ≡ true) → (allocate held c).found ≡ none
+  none_found : ((j : ℕ) → 1 ≤ j → j ≤ 255 → held j ≡ true) → (allocate held c).found ≡ None
   unfolding allocate until_twice
   none_found all =
       finds_none (free_of held) 257 c h
       (λ j l. zero_held held j (⊎_elim (λ (z : j ≡ 0). inl z) (λ (p : 0 < j). inr (all j p (omega arith))) (eq-zero-or-pos j)))
 
-  handed_out : (k : ℕ) → (allocate held c).found ≡ some k → (d : ℕ) × FirstFree held c k d
+  handed_out : (k : ℕ) → (allocate held c).found ≡ Some k → (d : ℕ) × FirstFree held c k d
   unfolding allocate until_twice
   handed_out k e = go (found_at (free_of held) 257 c k h e)
     where
@@ -74,7 +74,7 @@ module _ (held : ℕ → Bool) (c : ℕ) (h : c < 256) where
             },
           )
 
-  all_held : (allocate held c).found ≡ none → (j : ℕ) → 1 ≤ j → j ≤ 255 → held j ≡ true
+  all_held : (allocate held c).found ≡ None → (j : ℕ) → 1 ≤ j → j ≤ 255 → held j ≡ true
   unfolding allocate until_twice
   all_held e j p q =
       let d = (j + 256 - c) % 256 in
@@ -85,7 +85,7 @@ module _ (held : ℕ → Bool) (c : ℕ) (h : c < 256) where
       (λ f. let z : ◌≡◌ {A = ℕ} 0 1 = cc in absurd (omega arith)) m.1
 
 -- what is handed out was not held, from whatever counter
-pub not_held : (held : ℕ → Bool) (c k : ℕ) → (allocate held c).found ≡ some k → held k ≡ false
+pub not_held : (held : ℕ → Bool) (c k : ℕ) → (allocate held c).found ≡ Some k → held k ≡ false
 unfolding allocate
 not_held held c k e = (free_is held k (found_free (free_of held) (until_twice c) k e)).1
 
@@ -100,6 +100,6 @@ exact held c h = record {
 }
 
 -- what a mount finds is an index from 1 to 255
-pub found_bounds : (i : Instance) → counter_of i < 256 → (k : ℕ) → (allocation i).found ≡ some k → (1 ≤ k) × (k ≤ 255)
+pub found_bounds : (i : Instance) → counter_of i < 256 → (k : ℕ) → (allocation i).found ≡ Some k → (1 ≤ k) × (k ≤ 255)
 unfolding allocation
 found_bounds i h k e = let f = (handed_out (held_in i) (counter_of i) h k e).1 in (f.least, f.most)

@@ -3,7 +3,7 @@ use mathlib.Core.Path.{◌≡◌, refl, sym, ap, ◌∙◌, subst}
 use mathlib.Core.Bool.{true, false, true≢false, false≢true}
 use mathlib.Core.Logic.{◌⊎◌, ⊎_elim}
 use mathlib.Core.List.{List, [], ◌∷◌}
-use mathlib.Core.Option.{Option, none, some}
+use Rattle.std.specs.Prelude.{Option, None, Some}
 use Prim.Native.Nat.{ℕ, ◌+◌, ◌^◌, ◌≤◌, ◌<◌}
 use native.Mathlib.Omega.{arith}
 use lib.Bits.{bit_and, and_le_r}
@@ -39,12 +39,12 @@ unfolding no_nodes
 no_nodes_lem [] e = refl
 no_nodes_lem (n ∷ ns) e = absurd (false≢true e)
 
-no_root : (m : Option Mount) → is_none m ≡ true → m ≡ none
-no_root none e = refl
-no_root (some m) e = absurd (false≢true e)
+no_root : (m : Option Mount) → is_none m ≡ true → m ≡ None
+no_root None e = refl
+no_root (Some m) e = absurd (false≢true e)
 
 -- a fresh instance has no node besides the root, and no mount on that
-pub fresh_bare : (i : Instance) → fresh i ≡ true → (i.tree.nodes ≡ []) × (i.tree.root ≡ none)
+pub fresh_bare : (i : Instance) → fresh i ≡ true → (i.tree.nodes ≡ []) × (i.tree.root ≡ None)
 unfolding fresh
 fresh_bare i e =
     let b = and_both (no_nodes i.tree.nodes) (is_none i.tree.root) e in
@@ -56,7 +56,7 @@ unfolding MountIn
 none_held i f e k h =
     let b = fresh_bare i e in
     let m : Mounted k i.tree = f.mounts.held k h in
-    let n : IsAt k none ⊎ MountIn k [] = rw (b.0, b.1) at m in
+    let n : IsAt k None ⊎ MountIn k [] = rw (b.0, b.1) at m in
     ⊎_elim (λ w. w) (λ w. w) n
 
 module _ (i : Instance) (b : List ℕ) (f : Facts i) (bytes : Bytes b) (ok : Restorable i b) where

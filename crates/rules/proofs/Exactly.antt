@@ -2,7 +2,7 @@
 use mathlib.Core.Path.{◌≡◌, refl, sym, ap, ◌∙◌}
 use mathlib.Core.Bool.{Bool, true, false, cond, not, ◌&&◌, ◌||◌, and-false}
 use mathlib.Core.List.{List, [], ◌∷◌}
-use mathlib.Core.Option.{Option, none, some}
+use Rattle.std.specs.Prelude.{Option, None, Some}
 use Prim.Native.Nat.{ℕ, zero, suc, ◌+◌, ◌≤◌, ◌<◌}
 use native.Mathlib.Omega.{arith}
 use native.Mathlib.Decide.{ℕ_discrete}
@@ -57,8 +57,8 @@ unfolding allocation
 found_or_held i h = go (allocate (held_in i) (counter_of i)).found refl
   where
     go : (o : Option ℕ) → (allocate (held_in i) (counter_of i)).found ≡ o → is_none o ≡ held_to 255 i
-    go none e = sym (all_to i 255 255 (omega arith) ((exact (held_in i) (counter_of i) h).refused.0 e))
-    go (some k) e =
+    go None e = sym (all_to i 255 255 (omega arith) ((exact (held_in i) (counter_of i) h).refused.0 e))
+    go (Some k) e =
         let f = (((exact (held_in i) (counter_of i) h).handed_out k).0 e).1 in
         sym (not_all i 255 k f.least f.most f.empty)
 
@@ -67,8 +67,8 @@ found_or_held i h = go (allocate (held_in i) (counter_of i)).found refl
 mount_as : (i : Instance) (r : Request) (k : Option ℕ)
     → Settles (mount_by_index i r k).code ((is_none k ⟼ FULL) ∷ (not (rooted r.path) ⟼ INVAL) ∷ (ltb max_ino r.root ⟼ INODE) ∷ [])
 unfolding mount_by_index
-mount_as i r none = stops _ _ _ refl
-mount_as i r (some k) = passes _ _ _ (settle code_of _ _ _ _ _ _ refl (settle code_of _ _ _ _ _ _ refl (end _ refl)))
+mount_as i r None = stops _ _ _ refl
+mount_as i r (Some k) = passes _ _ _ (settle code_of _ _ _ _ _ _ refl (settle code_of _ _ _ _ _ _ refl (end _ refl)))
 
 mount_settles : (i : Instance) (r : Request) → counter_of i < 256 → Settles (mount_rule i r).code (mount_tests i r)
 unfolding mount_rule no_room
@@ -92,40 +92,40 @@ on_path i path o ts s =
 unmount_at_lem : (i : Instance) (x : Option ℕ) (m : Option Mount)
     → Settles (unmount_at i x m).code ((is_none x ⟼ NOTFOUND) ∷ (is_none m ⟼ NOTFOUND) ∷ [])
 unfolding unmount_at unmounts
-unmount_at_lem i none m = stops _ _ _ refl
-unmount_at_lem i (some x) none = passes _ _ _ (stops _ _ _ refl)
-unmount_at_lem i (some x) (some m) = passes _ _ _ (passes _ _ _ (settled _ refl))
+unmount_at_lem i None m = stops _ _ _ refl
+unmount_at_lem i (Some x) None = passes _ _ _ (stops _ _ _ refl)
+unmount_at_lem i (Some x) (Some m) = passes _ _ _ (passes _ _ _ (settled _ refl))
 
 root_held_lem : (i : Instance) (k : ℕ) (t : Option ℕ) → Settles (root_held i k t).code ((is_none t ⟼ NOTFOUND) ∷ [])
 unfolding root_held
-root_held_lem i k none = stops _ _ _ refl
-root_held_lem i k (some t) = passes _ _ _ (settled _ refl)
+root_held_lem i k None = stops _ _ _ refl
+root_held_lem i k (Some t) = passes _ _ _ (settled _ refl)
 
 root_at_lem : (i : Instance) (m : Option Mount) → Settles (root_at i m).code ((slot_empty i m ⟼ NOTFOUND) ∷ [])
 unfolding root_at
-root_at_lem i none = passes _ _ _ (settled _ refl)
-root_at_lem i (some m) = root_held_lem i m.index (tag_of i m.index)
+root_at_lem i None = passes _ _ _ (settled _ refl)
+root_at_lem i (Some m) = root_held_lem i m.index (tag_of i m.index)
 
 -- ---- routing and lookup
 
 route_tag_lem : (i : Instance) (k x : ℕ) (t : Option ℕ) → Settles (route_tag i k x t).code ((is_none t ⟼ NOENT) ∷ [])
 unfolding route_tag
-route_tag_lem i k x none = stops _ _ _ refl
-route_tag_lem i k x (some t) = passes _ _ _ (settled _ refl)
+route_tag_lem i k x None = stops _ _ _ refl
+route_tag_lem i k x (Some t) = passes _ _ _ (settled _ refl)
 
 route_tree_lem : (i : Instance) (x : ℕ) (m : Option Mount)
     → Settles (route_tree i x m).code ((eqb x root_number && not (is_none m) && slot_empty i m ⟼ NOENT) ∷ (false ⟼ NOENT) ∷ [])
 unfolding route_tree route_tag
-route_tree_lem i x none = go (eqb x root_number)
+route_tree_lem i x None = go (eqb x root_number)
   where
     go : (b : Bool) → Settles 0 ((b && false && false ⟼ NOENT) ∷ (false ⟼ NOENT) ∷ [])
     go true = passes _ _ _ (passes _ _ _ (settled _ refl))
     go false = passes _ _ _ (passes _ _ _ (settled _ refl))
-route_tree_lem i x (some m) = go (eqb x root_number) (tag_of i m.index)
+route_tree_lem i x (Some m) = go (eqb x root_number) (tag_of i m.index)
   where
-    go : (b : Bool) (t : Option ℕ) → Settles (cond b (route_tag i m.index m.root t) (route_tree i x none)).code ((b && true && is_none t ⟼ NOENT) ∷ (false ⟼ NOENT) ∷ [])
-    go true none = stops _ _ _ refl
-    go true (some t) = passes _ _ _ (passes _ _ _ (settled _ refl))
+    go : (b : Bool) (t : Option ℕ) → Settles (cond b (route_tag i m.index m.root t) (route_tree i x None)).code ((b && true && is_none t ⟼ NOENT) ∷ (false ⟼ NOENT) ∷ [])
+    go true None = stops _ _ _ refl
+    go true (Some t) = passes _ _ _ (passes _ _ _ (settled _ refl))
     go false t = passes _ _ _ (passes _ _ _ (settled _ refl))
 
 route_settles : (i : Instance) (x : ℕ) → Settles (route_rule i x).code (query_tests i (route x))
@@ -140,21 +140,21 @@ route_settles i x = go (eqb (index_of x) 0)
 
 entry_code : (i : Instance) (x : ℕ) (m : Option Mount) → (entry_of i x m).code ≡ 0
 unfolding entry_of
-entry_code i x none = refl
-entry_code i x (some m) = refl
+entry_code i x None = refl
+entry_code i x (Some m) = refl
 
 module _ (mounts : ℕ → Option Mount) (i : Instance) where
-  entry_some : (x : ℕ) → (entry_at mounts i (some x)).code ≡ 0
+  entry_some : (x : ℕ) → (entry_at mounts i (Some x)).code ≡ 0
   unfolding entry_at
   entry_some x = entry_code i x (mounts x)
 
   entry_at_lem : (x : Option ℕ) → Settles (entry_at mounts i x).code ((is_none x ⟼ NOENT) ∷ [])
   unfolding entry_at
-  entry_at_lem none = stops _ _ _ refl
-  entry_at_lem (some x) = passes _ _ _ (settled _ (entry_code i x (mounts x)))
+  entry_at_lem None = stops _ _ _ refl
+  entry_at_lem (Some x) = passes _ _ _ (settled _ (entry_code i x (mounts x)))
 
   found_by : (x y : ℕ) (z : Option ℕ) (b d s : Bool)
-      → Settles (first_of ((b ⟹ entry_at mounts i (some x)) ∷ (d ⟹ entry_at mounts i (some y)) ∷ (s ⟹ refused NOENT i) ∷ []) (entry_at mounts i z)).code ((not b && not d && (s || is_none z) ⟼ NOENT) ∷ [])
+      → Settles (first_of ((b ⟹ entry_at mounts i (Some x)) ∷ (d ⟹ entry_at mounts i (Some y)) ∷ (s ⟹ refused NOENT i) ∷ []) (entry_at mounts i z)).code ((not b && not d && (s || is_none z) ⟼ NOENT) ∷ [])
   unfolding first_of
   found_by x y z true d s = passes _ _ _ (settled _ (entry_some x))
   found_by x y z false true s = passes _ _ _ (settled _ (entry_some y))

@@ -3,7 +3,8 @@ use mathlib.Core.Path.{◌≡◌, refl, sym, ap, ◌∙◌}
 use mathlib.Core.Bool.{Bool, true, false, cond}
 use mathlib.Core.Logic.{◌⊎◌, inl, inr}
 use mathlib.Core.List.{List, [], ◌∷◌}
-use mathlib.Core.Option.{Option, none, some, some-injective, none-ne-some}
+use Rattle.std.specs.Prelude.{Option, None, Some}
+use Rattle.std.proofs.lemmas.Option.{same_Some, none-some}
 use Prim.Native.Nat.{ℕ, ◌<◌}
 use native.Mathlib.Omega.{arith}
 use lib.ListN.{length}
@@ -49,23 +50,23 @@ pub record Put (i : Instance) (r : Request) (k : ℕ) (j : Instance) : Type 0 wh
 module _ (i : Instance) (r : Request) (k : ℕ) where
   -- the outcome is not done, or leaves that, at the index that the search found
   abbrev Puts : Outcome → Type 0
-  Puts o = o.code ≡ 0 → o.found ≡ some k → ((allocation i).found ≡ some k) × Put i r k o.after
+  Puts o = o.code ≡ 0 → o.found ≡ Some k → ((allocation i).found ≡ Some k) × Put i r k o.after
 
   mount_as : too_long r.path ≡ false → well_formed r.path ≡ true → (f : Option ℕ) → (allocation i).found ≡ f → Puts (mount_by_index i r f)
   unfolding mount_by_index
-  mount_as s u none q = λ z e. absurd (omega arith)
-  mount_as s u (some j) q =
+  mount_as s u None q = λ z e. absurd (omega arith)
+  mount_as s u (Some j) q =
       first_of_lem Puts _ _ (
         λ a z. absurd (omega arith),
         λ a. (
           λ b z. absurd (omega arith),
           λ b z e.
-              let same : j ≡ k = some-injective j k (sym q ∙ e) in
+              let same : j ≡ k = same_Some j k (sym q ∙ e) in
               (e, record { short = s; utf8 = u; slash = not-false _ a; counter = (allocation i).counter; after = ap (λ (y : ℕ). put_at i r y (allocation i).counter) same }),
         ),
       )
 
-  mount_put : (rule i (mount r)).code ≡ 0 → (rule i (mount r)).found ≡ some k → ((allocation i).found ≡ some k) × Put i r k (rule i (mount r)).after
+  mount_put : (rule i (mount r)).code ≡ 0 → (rule i (mount r)).found ≡ Some k → ((allocation i).found ≡ Some k) × Put i r k (rule i (mount r)).after
   unfolding rule mount_rule
   mount_put =
       first_of_lem Puts _ _ (
@@ -105,14 +106,14 @@ pub set_saved : (t : Tree) (x : ℕ) (m : Option Mount) → saved_nodes (set_mou
 unfolding set_mount
 set_saved t x m = either (λ (u : Tree). saved_nodes u.nodes ≡ saved_nodes t.nodes) (eqb x root_number) (λ e. refl) (λ e. saved_mount m t.nodes x)
 
-pub node_set : (m : Option Mount) (ns : List Node) (x : ℕ) (n : Node) → node_in ns x ≡ some n → node_in (nodes_with_mount m ns x) x ≡ some (with_mount m n)
+pub node_set : (m : Option Mount) (ns : List Node) (x : ℕ) (n : Node) → node_in ns x ≡ Some n → node_in (nodes_with_mount m ns x) x ≡ Some (with_mount m n)
 unfolding node_in nodes_with_mount
-node_set m [] x n e = absurd (none-ne-some n e)
+node_set m [] x n e = absurd (none-some n e)
 node_set m (o ∷ ns) x n e = go (eqb o.number x) refl e (node_set m ns x n)
   where
-    go : (b : Bool) → eqb o.number x ≡ b → cond b (some o) (node_in ns x) ≡ some n → (node_in ns x ≡ some n → node_in (nodes_with_mount m ns x) x ≡ some (with_mount m n))
-        → node_in (cond b (with_mount m o ∷ ns) (o ∷ nodes_with_mount m ns x)) x ≡ some (with_mount m n)
-    go true q f k = rw q (ap {B = Option Node} (λ (y : Node). some (with_mount m y)) (some-injective o n f))
+    go : (b : Bool) → eqb o.number x ≡ b → cond b (Some o) (node_in ns x) ≡ Some n → (node_in ns x ≡ Some n → node_in (nodes_with_mount m ns x) x ≡ Some (with_mount m n))
+        → node_in (cond b (with_mount m o ∷ ns) (o ∷ nodes_with_mount m ns x)) x ≡ Some (with_mount m n)
+    go true q f k = rw q (ap {B = Option Node} (λ (y : Node). Some (with_mount m y)) (same_Some o n f))
     go false q f k = rw q (k f)
 
 -- it is there, on the root or on a live node
@@ -120,7 +121,7 @@ pub set_there : (t : Tree) (x : ℕ) (m : Option Mount) → Rooted t.nodes x →
 unfolding mount_of_node set_mount
 set_there t x m r = go (eqb x root_number) refl (reached_live t.nodes x r)
   where
-    go : (b : Bool) → eqb x root_number ≡ b → (x ≡ root_number) ⊎ ((n : Node) × (node_in t.nodes x ≡ some n))
+    go : (b : Bool) → eqb x root_number ≡ b → (x ≡ root_number) ⊎ ((n : Node) × (node_in t.nodes x ≡ Some n))
         → mount_of_node (cond b (record { next = t.next; root = m; nodes = t.nodes }) (record { next = t.next; root = t.root; nodes = nodes_with_mount m t.nodes x })) x ≡ m
     go true q w = rw q
     go false q (inl w) = absurd (eqb-false x root_number q w)
@@ -141,7 +142,7 @@ pub every_new_restored : EveryNewRestoredMount
 every_new_restored i k r low done x e =
     let w = restored_put i r k done in
     let j = (rule i (restore_mount k r)).after in
-    let tag : tag_of j k ≡ some r.tag = rw w.1.after (placed_tag k r (ended i r.path) (walked_to r.path (with_counter w.1.counter i)) low) in
+    let tag : tag_of j k ≡ Some r.tag = rw w.1.after (placed_tag k r (ended i r.path) (walked_to r.path (with_counter w.1.counter i)) low) in
     leads_on j x r.tag (omega (arith, w.0)) (ap (tag_of j) e ∙ tag)
 
 -- what is found, of a request that was placed at an index from 1 on of a slot
@@ -153,36 +154,36 @@ module _ (i : Instance) (r : Request) (k : ℕ) (j : Instance) (s : Shape (saved
   abbrev walked_on : Instance
   walked_on = walked_to r.path (with_counter p.counter i)
 
-  put_tree : j.tree ≡ set_mount walked_on.tree x (some (requested_mount k r))
+  put_tree : j.tree ≡ set_mount walked_on.tree x (Some (requested_mount k r))
   unfolding placed
   put_tree = ap (λ (a : Instance). a.tree) p.after
 
   put_saved : saved_nodes j.tree.nodes ≡ saved_nodes walked_on.tree.nodes
-  put_saved = ap (λ (t : Tree). saved_nodes t.nodes) put_tree ∙ set_saved walked_on.tree x (some (requested_mount k r))
+  put_saved = ap (λ (t : Tree). saved_nodes t.nodes) put_tree ∙ set_saved walked_on.tree x (Some (requested_mount k r))
 
-  put_reached : reached j r.path ≡ some x
+  put_reached : reached j r.path ≡ Some x
   put_reached =
       let w = planned_walking i.tree r.path s p.short p.utf8 in
       let t = planned_leads i.tree r.path s p.short p.utf8 in
       leads_path j walked_on.tree.next (rw put_saved w.shape) r.path x
       (leads_saved walked_on.tree.nodes j.tree.nodes (sym put_saved) root_number x (components 0 r.path) t)
 
-  put_mount : mount_of_node j.tree x ≡ some (requested_mount k r)
+  put_mount : mount_of_node j.tree x ≡ Some (requested_mount k r)
   put_mount =
-      ap (λ (t : Tree). mount_of_node t x) put_tree ∙ set_there walked_on.tree x (some (requested_mount k r)) (planned_walking i.tree r.path s p.short p.utf8).reached
+      ap (λ (t : Tree). mount_of_node t x) put_tree ∙ set_there walked_on.tree x (Some (requested_mount k r)) (planned_walking i.tree r.path s p.short p.utf8).reached
 
-  put_tag : tag_of j k ≡ some r.tag
+  put_tag : tag_of j k ≡ Some r.tag
   put_tag = rw p.after (placed_tag k r x walked_on low)
 
-  put_walk : rule j (ask (path_walk r.path)) ≡ says (walked (some x)) j
+  put_walk : rule j (ask (path_walk r.path)) ≡ says (walked (Some x)) j
   unfolding rule walk_rule bad_path first_of
   put_walk = rw (p.utf8, p.slash, put_reached)
 
-  put_query : rule j (ask (get_rootfs r.path)) ≡ says (rootfs (some (r.tag, k))) j
+  put_query : rule j (ask (get_rootfs r.path)) ≡ says (rootfs (Some (r.tag, k))) j
   unfolding rule root_rule root_at root_held bad_path first_of
   put_query = rw (p.utf8, p.slash, put_reached, put_mount, put_tag)
 
-  put_root : x ≡ root_number → j.tree.root ≡ some (requested_mount k r)
+  put_root : x ≡ root_number → j.tree.root ≡ Some (requested_mount k r)
   unfolding mount_of_node
   put_root e = ap (mount_of_node j.tree) (sym e) ∙ put_mount
 

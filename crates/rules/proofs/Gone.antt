@@ -2,7 +2,8 @@
 use mathlib.Core.Path.{◌≡◌, refl, sym, ap, ◌∙◌}
 use mathlib.Core.Logic.{inl, inr}
 use mathlib.Core.List.{List}
-use mathlib.Core.Option.{Option, none, some, none-ne-some}
+use Rattle.std.specs.Prelude.{Option, None, Some}
+use Rattle.std.proofs.lemmas.Option.{none-some}
 use Prim.Native.Nat.{ℕ}
 use native.Mathlib.Omega.{arith}
 use lib.ListN.{get_or, set}
@@ -21,22 +22,22 @@ use Rattle.rules.proofs.Slots.{emptied_slot, freed_empty}
 module _ (i : Instance) (j : ℕ) where
   -- where the call is done and takes a mount of j off, and does not give j away, the slot of j is empty
   abbrev Emptied : Call → Outcome → Type 0
-  Emptied c o = o.code ≡ 0 → index_in (old_mount i c) ≡ some j → (Gives j c o → ⊥) → slot_of o.after j ≡ empty_slot
+  Emptied c o = o.code ≡ 0 → index_in (old_mount i c) ≡ Some j → (Gives j c o → ⊥) → slot_of o.after j ≡ empty_slot
 
-  placed_empty : (k : ℕ) (r : Request) (x : ℕ) (a : Instance) → index_in (mount_of_node a.tree x) ≡ some j → (j ≡ k → ⊥) → slot_of (placed k r x a) j ≡ empty_slot
+  placed_empty : (k : ℕ) (r : Request) (x : ℕ) (a : Instance) → index_in (mount_of_node a.tree x) ≡ Some j → (j ≡ k → ⊥) → slot_of (placed k r x a) j ≡ empty_slot
   unfolding placed
   placed_empty k r x a e n =
       get_or-set_other (freed_slots (mount_of_node a.tree x) a.indexes.slots) k j (held_by r.tag) empty_slot n ∙ freed_empty (mount_of_node a.tree x) a.indexes.slots j e
 
   mount_empties : (r : Request) (k : Option ℕ) → (allocation i).found ≡ k → Emptied (mount r) (mount_by_index i r k)
   unfolding mount_by_index
-  mount_empties r none f = λ z. absurd (omega arith)
-  mount_empties r (some k) f =
+  mount_empties r None f = λ z. absurd (omega arith)
+  mount_empties r (Some k) f =
       each_of (Emptied (mount r)) _ _ (
         λ z. absurd (omega arith),
         (
           λ z. absurd (omega arith),
-          λ z e g. placed_empty _ _ _ _ e (λ s. g (refl, inl (f ∙ ap {B = Option ℕ} some (sym s)))),
+          λ z e g. placed_empty _ _ _ _ e (λ s. g (refl, inl (f ∙ ap {B = Option ℕ} Some (sym s)))),
         ),
       )
 
@@ -44,13 +45,13 @@ module _ (i : Instance) (j : ℕ) where
   unfolding restore_mount_by_index
   restored_empties k r =
       each_of (Emptied (restore_mount k r)) _ _
-      (λ z. absurd (omega arith), λ z e g. placed_empty _ _ _ _ e (λ s. g (refl, inr (ap {B = Option ℕ} some (sym s)))))
+      (λ z. absurd (omega arith), λ z e g. placed_empty _ _ _ _ e (λ s. g (refl, inr (ap {B = Option ℕ} Some (sym s)))))
 
   unmount_empties : (path : List ℕ) (x : Option ℕ) (m : Option Mount) → reached_mount i (reached i path) ≡ m → Emptied (umount path) (unmount_at i x m)
   unfolding unmount_at unmounts
-  unmount_empties path none m q z e g = absurd (omega arith)
-  unmount_empties path (some x) none q z e g = absurd (omega arith)
-  unmount_empties path (some x) (some m) q z e g =
+  unmount_empties path None m q z e g = absurd (omega arith)
+  unmount_empties path (Some x) None q z e g = absurd (omega arith)
+  unmount_empties path (Some x) (Some m) q z e g =
       let s : m.index ≡ j = let w = sym (ap index_in q) ∙ e in cc in
       ap (λ (k : ℕ). get_or (set i.indexes.slots k empty_slot) j empty_slot) s ∙ emptied_slot i.indexes.slots j
 
@@ -75,8 +76,8 @@ module _ (i : Instance) (j : ℕ) where
   unmount_rule_lem path = each_of (Emptied (umount path)) _ _ (λ z. absurd (omega arith), unmount_empties path (reached i path) (reached_mount i (reached i path)) refl)
 
   -- any other call takes none off
-  other : (c : Call) → old_mount i c ≡ none → Emptied c (rule i c)
-  other c n z e = absurd (none-ne-some j (sym (ap index_in n) ∙ e))
+  other : (c : Call) → old_mount i c ≡ None → Emptied c (rule i c)
+  other c n z e = absurd (none-some j (sym (ap index_in n) ∙ e))
 
   pub gone_slot : (c : Call) → Emptied c (rule i c)
   unfolding rule

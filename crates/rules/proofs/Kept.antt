@@ -3,7 +3,8 @@ use mathlib.Core.Path.{◌≡◌, refl, sym, ap, ◌∙◌, subst}
 use mathlib.Core.Bool.{Bool, true, false, cond}
 use mathlib.Core.Logic.{◌⊎◌, inl, inr, ⊎_elim}
 use mathlib.Core.List.{List, [], ◌∷◌}
-use mathlib.Core.Option.{Option, none, some, none-ne-some}
+use Rattle.std.specs.Prelude.{Option, None, Some}
+use Rattle.std.proofs.lemmas.Option.{none-some}
 use Prim.Native.Nat.{ℕ, ◌≤◌, ◌<◌}
 use native.Mathlib.Omega.{arith}
 use borrow.Author.Tests.{ne_eqb}
@@ -27,18 +28,18 @@ use Rattle.rules.proofs.Given.{ungiven_slot, standing_slot}
 -- ---- lists of indexes
 
 -- one stands before others, or among them
-pub has_first : (x : Option ℕ) (j : ℕ) (ks : List ℕ) → x ≡ some j → Has j (before x ks)
-has_first none j ks e = absurd (none-ne-some j e)
-has_first (some k) j ks e = let s : k ≡ j = cc in inl s
+pub has_first : (x : Option ℕ) (j : ℕ) (ks : List ℕ) → x ≡ Some j → Has j (before x ks)
+has_first None j ks e = absurd (none-some j e)
+has_first (Some k) j ks e = let s : k ≡ j = cc in inl s
 
 pub has_later : (x : Option ℕ) (j : ℕ) (ks : List ℕ) → Has j ks → Has j (before x ks)
-has_later none j ks h = h
-has_later (some k) j ks h = inr h
+has_later None j ks h = h
+has_later (Some k) j ks h = inr h
 
-has_split : (x : Option ℕ) (j : ℕ) (ks : List ℕ) → Has j (before x ks) → (x ≡ some j) ⊎ Has j ks
-has_split none j ks h = inr h
-has_split (some k) j ks (inl e) = inl (ap {B = Option ℕ} some e)
-has_split (some k) j ks (inr h) = inr h
+has_split : (x : Option ℕ) (j : ℕ) (ks : List ℕ) → Has j (before x ks) → (x ≡ Some j) ⊎ Has j ks
+has_split None j ks h = inr h
+has_split (Some k) j ks (inl e) = inl (ap {B = Option ℕ} Some e)
+has_split (Some k) j ks (inr h) = inr h
 
 -- an index that is neither handed out nor named is not given away
 ungiven : (cs : List Call) (i : Instance) (k : ℕ) → (Has k (indexes_handed_out (steps_of i cs)) → ⊥) → (Has k (named_in cs) → ⊥) → Ungiven k i cs
@@ -56,31 +57,31 @@ pub by_tag : (i : Instance) (x : ℕ) → 0 < index_of x → rule i (ask (route 
 unfolding rule route_rule
 by_tag i x p = rw (ne_eqb (index_of x) 0 (λ z. omega arith))
 
-pub leads_on : (i : Instance) (x t : ℕ) → 0 < index_of x → tag_of i (index_of x) ≡ some t → rule i (ask (route x)) ≡ says (to_backend t (index_of x) (number_of x)) i
+pub leads_on : (i : Instance) (x t : ℕ) → 0 < index_of x → tag_of i (index_of x) ≡ Some t → rule i (ask (route x)) ≡ says (to_backend t (index_of x) (number_of x)) i
 unfolding route_tag
 leads_on i x t p e = by_tag i x p ∙ ap (route_tag i (index_of x) (number_of x)) e
 
-pub leads_off : (i : Instance) (x : ℕ) → 0 < index_of x → tag_of i (index_of x) ≡ none → rule i (ask (route x)) ≡ refused NOENT i
+pub leads_off : (i : Instance) (x : ℕ) → 0 < index_of x → tag_of i (index_of x) ≡ None → rule i (ask (route x)) ≡ refused NOENT i
 unfolding route_tag
 leads_off i x p e = by_tag i x p ∙ ap (route_tag i (index_of x) (number_of x)) e
 
-leads : (i : Instance) (x t : ℕ) → 0 < index_of x → (tag_of i (index_of x) ≡ some t) ⊎ (tag_of i (index_of x) ≡ none) → LeadsTo i x t
+leads : (i : Instance) (x t : ℕ) → 0 < index_of x → (tag_of i (index_of x) ≡ Some t) ⊎ (tag_of i (index_of x) ≡ None) → LeadsTo i x t
 leads i x t p = ⊎_elim (λ a. inr (leads_on i x t p a)) (λ a. inl (leads_off i x p a))
 
 -- the index that a done mount handed out, and the tag in its slot
-mounted_tag : (i : Instance) (r : Request) (k : ℕ) → MountedAt i r k → (0 < k) × (tag_of (rule i (mount r)).after k ≡ some r.tag)
+mounted_tag : (i : Instance) (r : Request) (k : ℕ) → MountedAt i r k → (0 < k) × (tag_of (rule i (mount r)).after k ≡ Some r.tag)
 unfolding rule allocation
 mounted_tag i r k m =
     let b = found_bounds i m.counter k (sym (searches i (mount r) k m.found).0.1 ∙ m.found) in
     let a = (mounts_allocate i r).answers m.done in
     let same : a.0 ≡ k = let e = sym a.1.found ∙ m.found in cc in
-    (b.0, subst (λ (j : ℕ). tag_of (rule i (mount r)).after j ≡ some r.tag) same (a.1.holds (omega (arith, m.slots, b.1))))
+    (b.0, subst (λ (j : ℕ). tag_of (rule i (mount r)).after j ≡ Some r.tag) same (a.1.holds (omega (arith, m.slots, b.1))))
 
 pub least_index : (i : Instance) (r : Request) (k : ℕ) → MountedAt i r k → 0 < k
 least_index i r k m = (mounted_tag i r k m).0
 
 -- the tag in the slot of an index that no call gave away
-tag_since : (cs : List Call) (i : Instance) (k t : ℕ) → Ungiven k i cs → tag_of i k ≡ some t → (tag_of (after_all i cs) k ≡ some t) ⊎ (tag_of (after_all i cs) k ≡ none)
+tag_since : (cs : List Call) (i : Instance) (k t : ℕ) → Ungiven k i cs → tag_of i k ≡ Some t → (tag_of (after_all i cs) k ≡ Some t) ⊎ (tag_of (after_all i cs) k ≡ None)
 tag_since cs i k t u e =
     ⊎_elim (λ (s : slot_of (after_all i cs) k ≡ slot_of i k). inl (ap tag_in_slot s ∙ e)) (λ (s : slot_of (after_all i cs) k ≡ empty_slot). inr (ap tag_in_slot s)) (ungiven_slot cs i k u)
 
@@ -97,7 +98,7 @@ unfolding Ungiven after_all
 every_gone i c x p z o cs u =
     let k = index_of x in
     let a = (rule i c).after in
-    let empty : tag_of a k ≡ none = ap tag_in_slot (gone_slot i k c z o u.0) in
+    let empty : tag_of a k ≡ None = ap tag_in_slot (gone_slot i k c z o u.0) in
     leads_off (after_all a cs) x p
     (⊎_elim (λ (s : slot_of (after_all a cs) k ≡ slot_of a k). ap tag_in_slot s ∙ empty) (λ (s : slot_of (after_all a cs) k ≡ empty_slot). ap tag_in_slot s) (ungiven_slot cs a k u.1))
 
@@ -106,24 +107,24 @@ pub every_own : EveryOwn
 every_own i r k m cs u x e =
     let a = (rule i (mount r)).after in
     let t = mounted_tag i r k m in
-    leads (after_all a cs) x r.tag (omega (arith, t.0)) (subst (λ (j : ℕ). (tag_of (after_all a cs) j ≡ some r.tag) ⊎ (tag_of (after_all a cs) j ≡ none)) (sym e) (tag_since cs a k r.tag u t.1))
+    leads (after_all a cs) x r.tag (omega (arith, t.0)) (subst (λ (j : ℕ). (tag_of (after_all a cs) j ≡ Some r.tag) ⊎ (tag_of (after_all a cs) j ≡ None)) (sym e) (tag_since cs a k r.tag u t.1))
 
 -- the tag that a route tells is in the slot
-told_tag : (i : Instance) (k n t : ℕ) (y : Option ℕ) → (route_tag i k n y).answer ≡ to_backend t k n → y ≡ some t
+told_tag : (i : Instance) (k n t : ℕ) (y : Option ℕ) → (route_tag i k n y).answer ≡ to_backend t k n → y ≡ Some t
 unfolding route_tag
-told_tag i k n t none e = let z : ◌≡◌ {A = ℕ} 0 1 = cc in absurd (omega arith)
-told_tag i k n t (some u) e = let s : u ≡ t = cc in ap {B = Option ℕ} some s
+told_tag i k n t None e = let z : ◌≡◌ {A = ℕ} 0 1 = cc in absurd (omega arith)
+told_tag i k n t (Some u) e = let s : u ≡ t = cc in ap {B = Option ℕ} Some s
 
-led_tag : (i : Instance) (x t : ℕ) → 0 < index_of x → (rule i (ask (route x))).answer ≡ to_backend t (index_of x) (number_of x) → tag_of i (index_of x) ≡ some t
+led_tag : (i : Instance) (x t : ℕ) → 0 < index_of x → (rule i (ask (route x))).answer ≡ to_backend t (index_of x) (number_of x) → tag_of i (index_of x) ≡ Some t
 led_tag i x t p led = told_tag i (index_of x) (number_of x) t (tag_of i (index_of x)) (sym (λ j. (by_tag i x p j).answer) ∙ led)
 
 -- a slot with a tag is held
-tag_held : (s : Slot) (t : ℕ) → tag_in_slot s ≡ some t → s.held ≡ true
+tag_held : (s : Slot) (t : ℕ) → tag_in_slot s ≡ Some t → s.held ≡ true
 tag_held s t e = go s.held e
   where
-    go : (b : Bool) → cond b (some s.tag) none ≡ some t → b ≡ true
+    go : (b : Bool) → cond b (Some s.tag) None ≡ Some t → b ≡ true
     go true q = refl
-    go false q = absurd (none-ne-some t q)
+    go false q = absurd (none-some t q)
 
 -- the theorem: as long as its mount stands
 pub every_standing : EveryStanding
@@ -144,12 +145,12 @@ judged i x t p led cs u done =
 record UpTo (c k : ℕ) (ss : List SearchStep) : Type 0 where
   steps : List SearchStep
   going : Going c steps
-  last : last_found none steps ≡ some k
+  last : last_found None steps ≡ Some k
   few : total steps ≤ total ss
 
 module _ (s : SearchStep) (ss : List SearchStep) (c k : ℕ) where
   -- the first of them does
-  first_one : s.found ≡ some k → Going c (s ∷ []) → UpTo c k (s ∷ ss)
+  first_one : s.found ≡ Some k → Going c (s ∷ []) → UpTo c k (s ∷ ss)
   unfolding total last_found
   first_one e g = record { steps = s ∷ []; going = g; last = e; few = omega arith }
 

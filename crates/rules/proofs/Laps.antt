@@ -3,7 +3,8 @@ use mathlib.Core.Path.{◌≡◌, refl, sym, ap, ◌∙◌}
 use mathlib.Core.Bool.{true}
 use mathlib.Core.Logic.{inl, inr, ⊎_elim}
 use mathlib.Core.List.{List, [], ◌∷◌, ◌++◌}
-use mathlib.Core.Option.{Option, none, some, none-ne-some}
+use Rattle.std.specs.Prelude.{Option, None, Some}
+use Rattle.std.proofs.lemmas.Option.{none-some}
 use Prim.Native.Nat.{ℕ, ◌+◌, ◌-◌, ◌%◌, ◌≤◌, ◌<◌}
 use native.Mathlib.Omega.{arith}
 use lib.ListN.{length}
@@ -19,8 +20,8 @@ use Rattle.rules.proofs.Allocation.{not_free}
 record Turn (c : ℕ) (s : SearchStep) (d : ℕ) : Type 0 where
   pub round : s.visits ≡ going_round (length s.visits) c
   pub moved : d ≡ (c + length s.visits) % 256
-  pub ended_at : (k : ℕ) → s.found ≡ some k → d ≡ after k
-  pub counted : (k : ℕ) → s.found ≡ some k → 0 < length s.visits
+  pub ended_at : (k : ℕ) → s.found ≡ Some k → d ≡ after k
+  pub counted : (k : ℕ) → s.found ≡ Some k → 0 < length s.visits
   pub sees : (e : ℕ) → e < length s.visits → 0 < (c + e) % 256 → Meets ((c + e) % 256) s
 
 module _ (c : ℕ) (h : c < 256) (s : SearchStep) where
@@ -29,8 +30,8 @@ module _ (c : ℕ) (h : c < 256) (s : SearchStep) where
   idle_turn (v, f) = record {
     round = rw v;
     moved = rw v (omega arith);
-    ended_at = λ k e. absurd (none-ne-some k (sym f ∙ e));
-    counted = λ k e. absurd (none-ne-some k (sym f ∙ e));
+    ended_at = λ k e. absurd (none-some k (sym f ∙ e));
+    counted = λ k e. absurd (none-some k (sym f ∙ e));
     sees = λ e l p. absurd (omega (arith, rw v at l));
   }
 
@@ -69,7 +70,7 @@ runs_round (s ∷ ss) c h g =
     (λ x. t.round x ++ on x) ∙ ap (λ (e : ℕ). going_round (length s.visits) c ++ going_round (total ss) e) t.moved ∙ round_append (length s.visits) (total ss) c h
 
 -- where the last step handed k out, the counter has moved to the index after it
-run_ends : (ss : List SearchStep) (c k : ℕ) (x : Option ℕ) → c < 256 → Going c ss → (x ≡ some k → c ≡ after k) → last_found x ss ≡ some k → (c + total ss) % 256 ≡ after k
+run_ends : (ss : List SearchStep) (c k : ℕ) (x : Option ℕ) → c < 256 → Going c ss → (x ≡ Some k → c ≡ after k) → last_found x ss ≡ Some k → (c + total ss) % 256 ≡ after k
 unfolding last_found total
 run_ends [] c k x h g came e = omega (arith, came e)
 run_ends (s ∷ ss) c k x h g came e =
@@ -77,7 +78,7 @@ run_ends (s ∷ ss) c k x h g came e =
     let t = f.1.0 in
     omega (arith, t.moved, run_ends ss f.0 k s.found (omega (arith, t.moved)) f.1.1 (t.ended_at k) e)
 
-run_counts : (ss : List SearchStep) (c k : ℕ) (x : Option ℕ) → c < 256 → Going c ss → (x ≡ some k → ⊥) → last_found x ss ≡ some k → 0 < total ss
+run_counts : (ss : List SearchStep) (c k : ℕ) (x : Option ℕ) → c < 256 → Going c ss → (x ≡ Some k → ⊥) → last_found x ss ≡ Some k → 0 < total ss
 unfolding last_found total
 run_counts [] c k x h g came e = absurd (came e)
 run_counts (s ∷ ss) c k x h g came e =
@@ -106,8 +107,8 @@ every_allocator c h s k is first ss g last =
     let d : ℕ = (allocate s.held c).counter in
     let low : d < 256 = omega (arith, t.moved) in
     let here : d ≡ after k = t.ended_at k first in
-    let again : (d + total ss) % 256 ≡ after k = run_ends ss d k none low g (λ e. absurd (none-ne-some k e)) last in
-    let positive : 0 < total ss = run_counts ss d k none low g (none-ne-some k) last in
+    let again : (d + total ss) % 256 ≡ after k = run_ends ss d k None low g (λ e. absurd (none-some k e)) last in
+    let positive : 0 < total ss = run_counts ss d k None low g (none-some k) last in
     record { positive = positive; whole = omega arith; fair = λ x p q. run_meets ss d ((x + 256 - d) % 256) x low g (omega arith) (omega arith) p }
 
 -- ---- steps behind steps
@@ -125,7 +126,7 @@ going_append (s ∷ ss) ts c h (inr (a, g)) r =
     inr (a, going_append ss ts d (omega arith) g (rw e at r))
 
 -- what the last of some steps handed out, whatever was handed out before them
-pub last_of : (ts : List SearchStep) (x : Option ℕ) (k : ℕ) → last_found none ts ≡ some k → last_found x ts ≡ some k
+pub last_of : (ts : List SearchStep) (x : Option ℕ) (k : ℕ) → last_found None ts ≡ Some k → last_found x ts ≡ Some k
 unfolding last_found
-last_of [] x k e = absurd (none-ne-some k e)
+last_of [] x k e = absurd (none-some k e)
 last_of (t ∷ ts) x k e = e

@@ -2,7 +2,8 @@
 use mathlib.Core.Path.{◌≡◌, refl, ap, ◌∙◌, subst}
 use mathlib.Core.Bool.{Bool, true, false, cond, ◌&&◌}
 use mathlib.Core.List.{List, [], ◌∷◌, ◌++◌, append_assoc, append-nil}
-use mathlib.Core.Option.{Option, none, some, some-injective, none-ne-some}
+use Rattle.std.specs.Prelude.{Option, None, Some}
+use Rattle.std.proofs.lemmas.Option.{same_Some, none-some}
 use Prim.Native.Nat.{ℕ, zero, suc, ◌+◌, ◌≤◌}
 use native.Mathlib.Nat.{add-zero}
 use native.Mathlib.Omega.{arith}
@@ -39,25 +40,25 @@ goes_later m ns x y p (at_root_lem a) = at_root_lem a
 goes_later m ns x y p (up a k n s) = up a (suc k) n s
 goes_later m ns x y p (down a k n s) = down a (suc k) n s
 
-node_goes : (ns : List Node) (at x : ℕ) (n : Node) → node_in ns x ≡ some n → Goes ns x (ParentDir at) n.parent
+node_goes : (ns : List Node) (at x : ℕ) (n : Node) → node_in ns x ≡ Some n → Goes ns x (ParentDir at) n.parent
 unfolding node_in At
-node_goes [] at x n e = absurd (none-ne-some n e)
+node_goes [] at x n e = absurd (none-some n e)
 node_goes (m ∷ ns) at x n e = go (eqb m.number x) refl e (node_goes ns at x n)
   where
-    go : (b : Bool) → eqb m.number x ≡ b → cond b (some m) (node_in ns x) ≡ some n → (node_in ns x ≡ some n → Goes ns x (ParentDir at) n.parent) → Goes (m ∷ ns) x (ParentDir at) n.parent
-    go true q f k = rw (← eqb-true m.number x q, ← some-injective m n f) (up at 0 m refl)
+    go : (b : Bool) → eqb m.number x ≡ b → cond b (Some m) (node_in ns x) ≡ Some n → (node_in ns x ≡ Some n → Goes ns x (ParentDir at) n.parent) → Goes (m ∷ ns) x (ParentDir at) n.parent
+    go true q f k = rw (← eqb-true m.number x q, ← same_Some m n f) (up at 0 m refl)
     go false q f k = goes_later m ns x n.parent (ParentDir at) (k f)
 
-child_goes : (ns : List Node) (here at : ℕ) (p : List ℕ) (x : ℕ) → child_in ns here p ≡ some x → Goes ns here (Normal at p) x
+child_goes : (ns : List Node) (here at : ℕ) (p : List ℕ) (x : ℕ) → child_in ns here p ≡ Some x → Goes ns here (Normal at p) x
 unfolding child_in is_child At
-child_goes [] here at p x e = absurd (none-ne-some x e)
+child_goes [] here at p x e = absurd (none-some x e)
 child_goes (m ∷ ns) here at p x e = go (eqb m.parent here && same m.name p) refl e (child_goes ns here at p x)
   where
-    go : (b : Bool) → (eqb m.parent here && same m.name p) ≡ b → cond b (some m.number) (child_in ns here p) ≡ some x
-        → (child_in ns here p ≡ some x → Goes ns here (Normal at p) x) → Goes (m ∷ ns) here (Normal at p) x
+    go : (b : Bool) → (eqb m.parent here && same m.name p) ≡ b → cond b (Some m.number) (child_in ns here p) ≡ Some x
+        → (child_in ns here p ≡ Some x → Goes ns here (Normal at p) x) → Goes (m ∷ ns) here (Normal at p) x
     go true q f k =
         let t = and_both (eqb m.parent here) (same m.name p) q in
-        rw (← eqb-true m.parent here t.0, ← same_eq m.name p t.1, ← some-injective m.number x f) (down at 0 m refl)
+        rw (← eqb-true m.parent here t.0, ← same_eq m.name p t.1, ← same_Some m.number x f) (down at 0 m refl)
     go false q f k = goes_later m ns here x (Normal at p) (k f)
 
 parent_goes : (ns : List Node) (at x : ℕ) → Rooted ns x → Goes ns x (ParentDir at) (parent_in ns x)
@@ -70,24 +71,24 @@ parent_goes ns at x (under y n e h) = go (eqb x root_number) refl
     go false q = rw e (node_goes ns at x n e)
 
 -- the walk leads, and from a rooted number to a rooted one
-walk_leads : (ns : List Node) (high : ℕ) → Rises 2 (saved_nodes ns) high → (ps : List Part) (here x : ℕ) → Rooted ns here → walk ns here ps ≡ some x → Leads ns here ps x × Rooted ns x
+walk_leads : (ns : List Node) (high : ℕ) → Rises 2 (saved_nodes ns) high → (ps : List Part) (here x : ℕ) → Rooted ns here → walk ns here ps ≡ Some x → Leads ns here ps x × Rooted ns x
 unfolding walk
 walk_leads ns high r [] here x h e =
-    let same = some-injective here x e in
+    let same = same_Some here x e in
     (subst (Leads ns here []) same (end here), subst (Rooted ns) same h)
 walk_leads ns high r (ParentDir at ∷ ps) here x h e =
     let w = walk_leads ns high r ps (parent_in ns here) x (rooted_up ns here h) e in
     (on here (parent_in ns here) x (ParentDir at) ps (parent_goes ns at here h) w.0, w.1)
 walk_leads ns high r (Normal at p ∷ ps) here x h e = go (child_in ns here p) refl e (λ y. walk_leads ns high r ps y x)
   where
-    go : (o : Option ℕ) → child_in ns here p ≡ o → onward o (λ (y : ℕ). walk ns y ps) ≡ some x → ((y : ℕ) → Rooted ns y → walk ns y ps ≡ some x → Leads ns y ps x × Rooted ns x)
+    go : (o : Option ℕ) → child_in ns here p ≡ o → onward o (λ (y : ℕ). walk ns y ps) ≡ Some x → ((y : ℕ) → Rooted ns y → walk ns y ps ≡ Some x → Leads ns y ps x × Rooted ns x)
         → Leads ns here (Normal at p ∷ ps) x × Rooted ns x
-    go none q f k = absurd (none-ne-some x f)
-    go (some y) q f k =
+    go None q f k = absurd (none-some x f)
+    go (Some y) q f k =
         let w = k y (rooted_down ns high here p y r q h) f in
         (on here y x (Normal at p) ps (child_goes ns here at p y q) w.0, w.1)
 
-module _ (i : Instance) (high : ℕ) (r : Rises 2 (saved_nodes i.tree.nodes) high) (path : List ℕ) (x : ℕ) (e : reached i path ≡ some x) where
+module _ (i : Instance) (high : ℕ) (r : Rises 2 (saved_nodes i.tree.nodes) high) (path : List ℕ) (x : ℕ) (e : reached i path ≡ Some x) where
   path_both : Leads i.tree.nodes root_number (components 0 path) x × Rooted i.tree.nodes x
   unfolding reached
   path_both = walk_leads i.tree.nodes high r (components 0 path) root_number x top e
@@ -100,7 +101,7 @@ module _ (i : Instance) (high : ℕ) (r : Rises 2 (saved_nodes i.tree.nodes) hig
 
 -- ---- and where it goes is a step of the walk
 
-at_node : (ns : List Node) (low high k : ℕ) (n : Node) → Rises low (saved_nodes ns) high → At ns k n → (low ≤ n.number) × (node_in ns n.number ≡ some n)
+at_node : (ns : List Node) (low high k : ℕ) (n : Node) → Rises low (saved_nodes ns) high → At ns k n → (low ≤ n.number) × (node_in ns n.number ≡ Some n)
 unfolding saved_nodes Rises node_in At
 at_node [] low high k n r a = absurd a
 at_node (m ∷ ns) low high zero n r a = rw (← a) (r.0, rw (eq-eqb m.number m.number refl))
@@ -115,7 +116,7 @@ at_unused [] d k n u a = absurd a
 at_unused (m ∷ ns) d zero n u a = rw (← a) (or_neither (beside (saved_node m) d) (used d.parent d.name (saved_nodes ns)) u).0
 at_unused (m ∷ ns) d (suc k) n u a = at_unused ns d k n (or_neither (beside (saved_node m) d) (used d.parent d.name (saved_nodes ns)) u).1 a
 
-at_child : (ns : List Node) (k : ℕ) (n : Node) → Unique (saved_nodes ns) → At ns k n → child_in ns n.parent n.name ≡ some n.number
+at_child : (ns : List Node) (k : ℕ) (n : Node) → Unique (saved_nodes ns) → At ns k n → child_in ns n.parent n.name ≡ Some n.number
 unfolding saved_nodes Unique child_in is_child At
 at_child [] k n u a = absurd a
 at_child (m ∷ ns) zero n u a = rw (← a) (rw (eq-eqb m.parent m.parent refl, same_refl m.name))
@@ -130,12 +131,12 @@ module _ (ns : List Node) (high : ℕ) (s : Shape (saved_nodes ns) high) where
       rw (ne_eqb n.number root_number (λ q. omega (arith, f.0)), f.1)
   goes_walk x y p ps (down a k n t) = rw (at_child ns k n s.unique t)
 
-  leads_walk : (x z : ℕ) (ps : List Part) → Leads ns x ps z → walk ns x ps ≡ some z
+  leads_walk : (x z : ℕ) (ps : List Part) → Leads ns x ps z → walk ns x ps ≡ Some z
   unfolding walk
   leads_walk x z ps (end y) = refl
   leads_walk x z ps (on w y v p qs g l) = goes_walk x y p qs g ∙ leads_walk y z qs l
 
-pub leads_path : (i : Instance) (high : ℕ) → Shape (saved_nodes i.tree.nodes) high → (path : List ℕ) (x : ℕ) → Leads i.tree.nodes root_number (components 0 path) x → reached i path ≡ some x
+pub leads_path : (i : Instance) (high : ℕ) → Shape (saved_nodes i.tree.nodes) high → (path : List ℕ) (x : ℕ) → Leads i.tree.nodes root_number (components 0 path) x → reached i path ≡ Some x
 unfolding reached
 leads_path i high s path x = leads_walk i.tree.nodes high s root_number x (components 0 path)
 
@@ -198,8 +199,8 @@ module _ (t : Tree) where
   step_goes m (Normal at p) w = go (child_in (t.nodes ++ m.nodes) m.here p) refl
     where
       go : (o : Option ℕ) → child_in (t.nodes ++ m.nodes) m.here p ≡ o → Goes (t.nodes ++ (or_make t.next m p o).nodes) m.here (Normal at p) (or_make t.next m p o).here
-      go (some x) e = child_goes (t.nodes ++ m.nodes) m.here at p x e
-      go none e =
+      go (Some x) e = child_goes (t.nodes ++ m.nodes) m.here at p x e
+      go None e =
           let n = bare (t.next + length m.nodes) m.here p in
           rw (← append_assoc t.nodes m.nodes (n ∷ [])) (down at (length (t.nodes ++ m.nodes)) n (at_last (t.nodes ++ m.nodes) n))
 

@@ -2,7 +2,7 @@
 use mathlib.Core.Path.{◌≡◌, refl, sym, ap, ◌∙◌}
 use mathlib.Core.Bool.{true, false, true≢false}
 use mathlib.Core.Logic.{inl, inr, ⊎_elim}
-use mathlib.Core.Option.{Option, none, some}
+use Rattle.std.specs.Prelude.{Option, None, Some}
 use Prim.Native.Nat.{ℕ, ◌+◌, ◌%◌, ◌≤◌, ◌<◌}
 use native.Mathlib.Omega.{arith}
 use borrow.Author.Tests.{not-true, ltb-true}
@@ -62,12 +62,12 @@ module _ (i : Instance) (c : Call) where
 -- ---- mount: rows 5, 6 and 7
 
 -- 257 steps are one step further
-one_further : (i : Instance) → (allocation i).found ≡ none → (allocation i).counter ≡ (counter_of i + 1) % 256
+one_further : (i : Instance) → (allocation i).found ≡ None → (allocation i).counter ≡ (counter_of i + 1) % 256
 unfolding allocation allocate until_twice
 one_further i e = omega (arith, spent (free_of (held_in i)) 257 (counter_of i) e)
 
 module _ (i : Instance) (r : Request) where
-  row5 : (allocation i).found ≡ none → Leaves i (mount r) (allocated i FULL nothing (stepped i))
+  row5 : (allocation i).found ≡ None → Leaves i (mount r) (allocated i FULL nothing (stepped i))
   row5 e = record {
     full = λ f. ap (λ (n : ℕ). with_counter n i) (one_further i e);
     inval = λ f. absurd (omega arith);
@@ -96,8 +96,8 @@ module _ (i : Instance) (r : Request) where
 
   mount_as : Passed i r → (k : Option ℕ) → (allocation i).found ≡ k → Leaves i (mount r) (mount_by_index i r k)
   unfolding mount_by_index
-  mount_as p none e = row5 e
-  mount_as p (some k) e =
+  mount_as p None e = row5 e
+  mount_as p (Some k) e =
       first_of_lem (Leaves i (mount r)) _ _
       (λ a. row6 p.utf8 (not-true (rooted r.path) a), λ a. (λ b. row7 p.largest (ltb-true max_ino r.root b), λ b. done i (mount r) _ refl))
 

@@ -2,7 +2,7 @@
 use mathlib.Core.Path.{◌≡◌, refl, ◌∙◌}
 use mathlib.Core.Bool.{true, false, not, ◌&&◌}
 use mathlib.Core.List.{List}
-use mathlib.Core.Option.{Option, none, some}
+use Rattle.std.specs.Prelude.{Option, None, Some}
 use Prim.Native.Nat.{ℕ, ◌+◌}
 use native.Mathlib.Omega.{arith}
 use lib.ListN.{length, length-append, length-set}
@@ -42,8 +42,8 @@ taken_tree : (i : Instance) (x : ℕ) → TreeFacts i.fixed.capacity i.tree → 
 unfolding taken
 taken_tree i x f =
     let cap = i.fixed.capacity in
-    let g = set_tree cap i.tree x none f in
-    either (TreeFacts cap) (i.removal && not (eqb x root_number)) (λ e. cut_tree cap (set_mount i.tree x none) x g) (λ e. g)
+    let g = set_tree cap i.tree x None f in
+    either (TreeFacts cap) (i.removal && not (eqb x root_number)) (λ e. cut_tree cap (set_mount i.tree x None) x g) (λ e. g)
 
 -- ---- mounts
 
@@ -81,7 +81,7 @@ placed_facts k r x i w f =
     let m = mount_of_node i.tree x in
     let slots = freed_slots m i.indexes.slots in
     record {
-      tree = set_tree i.fixed.capacity i.tree x (some (requested_mount k r)) f.tree;
+      tree = set_tree i.fixed.capacity i.tree x (Some (requested_mount k r)) f.tree;
       mounts = record {
         slots = length-set slots k (held_by r.tag) ∙ (freed_slots_lem m i.indexes.slots ∙ f.mounts.slots);
         counter = f.mounts.counter;
@@ -102,8 +102,8 @@ module _ (i : Instance) (r : Request) (f : Facts i) (p : Passed i r) where
 
   pub mount_as : (k : Option ℕ) → Keeps (mount_by_index i r k)
   unfolding mount_by_index
-  mount_as none = stepped_facts i f
-  mount_as (some k) =
+  mount_as None = stepped_facts i f
+  mount_as (Some k) =
       let s = stepped_facts i f in
       first_of_lem Keeps _ _ (
         λ a. s,
@@ -120,7 +120,7 @@ module _ (i : Instance) (r : Request) (f : Facts i) (p : Passed i r) where
       let w = walked_facts i f r.path p.short p.utf8 n in
       each_of Keeps _ _ (search w, placed_facts _ _ _ _ (walks i f r.path p.short p.utf8 n).reached w)
 
-pub unmounted : (i : Instance) (x : ℕ) (m : Mount) → mount_of_node i.tree x ≡ some m → Facts i → Keeps (unmounts i x m)
+pub unmounted : (i : Instance) (x : ℕ) (m : Mount) → mount_of_node i.tree x ≡ Some m → Facts i → Keeps (unmounts i x m)
 unfolding unmounts
 unmounted i x m e f = record {
   tree = taken_tree i x f.tree;

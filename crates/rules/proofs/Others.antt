@@ -2,7 +2,7 @@
 use mathlib.Core.Path.{◌≡◌, refl, sym, ap, ◌∙◌}
 use mathlib.Core.Bool.{Bool, true, false, cond, not, ◌&&◌}
 use mathlib.Core.List.{List, [], ◌∷◌, ◌++◌}
-use mathlib.Core.Option.{Option, none, some}
+use Rattle.std.specs.Prelude.{Option, None, Some}
 use Prim.Native.Nat.{ℕ}
 use native.Mathlib.Decide.{ℕ_discrete}
 use lib.Dec.{eqb}
@@ -52,16 +52,16 @@ module _ (x y : ℕ) (apart : x ≡ y → ⊥) where
       go true e k = rw (other n e)
       go false e k = rw k
 
-behind_first : (b : Bool) (n : Node) (p q : Option Node) → mount_of_found p ≡ mount_of_found q → mount_of_found (cond b (some n) p) ≡ mount_of_found (cond b (some n) q)
+behind_first : (b : Bool) (n : Node) (p q : Option Node) → mount_of_found p ≡ mount_of_found q → mount_of_found (cond b (Some n) p) ≡ mount_of_found (cond b (Some n) q)
 behind_first true n p q e = refl
 behind_first false n p q e = e
 
 -- a new node has no mount
-on_more : (ns : List Node) (n : Node) (y : ℕ) → n.mount ≡ none → on (ns ++ (n ∷ [])) y ≡ on ns y
+on_more : (ns : List Node) (n : Node) (y : ℕ) → n.mount ≡ None → on (ns ++ (n ∷ [])) y ≡ on ns y
 unfolding node_in
 on_more [] n y e = go (eqb n.number y)
   where
-    go : (b : Bool) → mount_of_found (cond b (some n) none) ≡ none
+    go : (b : Bool) → mount_of_found (cond b (Some n) None) ≡ None
     go true = e
     go false = refl
 on_more (m ∷ ns) n y e = behind_first (eqb m.number y) m _ _ (on_more ns n y e)
@@ -93,20 +93,20 @@ module _ (x y : ℕ) (apart : x ≡ y → ⊥) where
   taken_same : (i : Instance) → mount_of_node (taken i x) y ≡ mount_of_node i.tree y
   unfolding taken
   taken_same i =
-      let s = set_same i.tree none in
-      either (λ (t : Tree). mount_of_node t y ≡ mount_of_node i.tree y) (i.removal && not (eqb x root_number)) (λ e. cut_same (set_mount i.tree x none) ∙ s) (λ e. s)
+      let s = set_same i.tree None in
+      either (λ (t : Tree). mount_of_node t y ≡ mount_of_node i.tree y) (i.removal && not (eqb x root_number)) (λ e. cut_same (set_mount i.tree x None) ∙ s) (λ e. s)
 
 -- ---- calls
 
 -- another node than the one that a mount was placed on
 placed_same : (k : ℕ) (r : Request) (x : ℕ) (i : Instance) (y : ℕ) → (x ≡ y → ⊥) → mount_of_node (placed k r x i).tree y ≡ mount_of_node i.tree y
 unfolding placed
-placed_same k r x i y n = set_same x y n i.tree (some (requested_mount k r))
+placed_same k r x i y n = set_same x y n i.tree (Some (requested_mount k r))
 
 mount_as : (i : Instance) (r : Request) (k : Option ℕ) (y : ℕ) → MountAfter i (mount r) (mount_by_index i r k) y
 unfolding mount_by_index
-mount_as i r none y = same_mount refl
-mount_as i r (some k) y =
+mount_as i r None y = same_mount refl
+mount_as i r (Some k) y =
     let w = grown_same i.tree r.path y in
     each_of (λ (o : Outcome). MountAfter i (mount r) o y) _ _ (
       same_mount refl,
@@ -131,17 +131,17 @@ restored_as i k r y =
       ],
     )
 
-unmounted : (i : Instance) (path : List ℕ) (x : ℕ) (m : Mount) → reached i path ≡ some x → (y : ℕ) → MountAfter i (umount path) (unmounts i x m) y
+unmounted : (i : Instance) (path : List ℕ) (x : ℕ) (m : Mount) → reached i path ≡ Some x → (y : ℕ) → MountAfter i (umount path) (unmounts i x m) y
 unfolding unmounts
 unmounted i path x m q y =
-    elim (ℕ_discrete x y) [ yes e ↦ by_unmount path refl refl (q ∙ ap {B = Option ℕ} some e) | no n ↦ same_mount (taken_same x y n i) ]
+    elim (ℕ_discrete x y) [ yes e ↦ by_unmount path refl refl (q ∙ ap {B = Option ℕ} Some e) | no n ↦ same_mount (taken_same x y n i) ]
 
-pub bare_nodes : (es : List SavedNode) (y : ℕ) → on (nodes_of_records es) y ≡ none
+pub bare_nodes : (es : List SavedNode) (y : ℕ) → on (nodes_of_records es) y ≡ None
 unfolding nodes_of_records node_in
 bare_nodes [] y = refl
 bare_nodes (e ∷ es) y = go (eqb e.number y) (bare_nodes es y)
   where
-    go : (b : Bool) → on (nodes_of_records es) y ≡ none → mount_of_found (cond b (some (bare e.number e.parent e.name)) (node_in (nodes_of_records es) y)) ≡ none
+    go : (b : Bool) → on (nodes_of_records es) y ≡ None → mount_of_found (cond b (Some (bare e.number e.parent e.name)) (node_in (nodes_of_records es) y)) ≡ None
     go true k = refl
     go false k = k
 
@@ -149,7 +149,7 @@ state_restored : (i : Instance) (b : List ℕ) → fresh i ≡ true → (y : ℕ
 unfolding state_restored_to mount_of_node node_in
 state_restored i b a y =
     let f = fresh_bare i a in
-    same_mount (rw (f.0, f.1) (of_nodes none y _ _ (bare_nodes (state_of b).nodes y)))
+    same_mount (rw (f.0, f.1) (of_nodes None y _ _ (bare_nodes (state_of b).nodes y)))
 
 -- the theorem
 pub every_mount_on : EveryMountOn

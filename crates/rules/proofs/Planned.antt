@@ -1,7 +1,8 @@
 -- A mount walk along a path that is there already makes nothing, and ends where the path leads. Assumes nothing.
 use mathlib.Core.Path.{◌≡◌, ap}
 use mathlib.Core.List.{List, [], ◌∷◌, append-nil}
-use mathlib.Core.Option.{Option, none, some, some-injective, none-ne-some}
+use Rattle.std.specs.Prelude.{Option, None, Some}
+use Rattle.std.proofs.lemmas.Option.{same_Some, none-some}
 use Prim.Native.Nat.{ℕ}
 use Rattle.rules.specs.Numbers.{root_number}
 use Rattle.rules.specs.Path.{Part, Normal, ParentDir, components}
@@ -11,17 +12,17 @@ use Rattle.rules.specs.Reached.{reached}
 use Rattle.rules.specs.claims.Walk.{PlannedNone}
 
 module _ (live : List Node) (next : ℕ) where
-  pub makes_none : (ps : List Part) (here x : ℕ) → walk live here ps ≡ some x → makes live next (record { nodes = []; here = here }) ps ≡ record { nodes = []; here = x }
+  pub makes_none : (ps : List Part) (here x : ℕ) → walk live here ps ≡ Some x → makes live next (record { nodes = []; here = here }) ps ≡ record { nodes = []; here = x }
   unfolding walk makes mount_step
-  makes_none [] here x e = ap (λ (y : ℕ). record { nodes = []; here = y }) (some-injective here x e)
+  makes_none [] here x e = ap (λ (y : ℕ). record { nodes = []; here = y }) (same_Some here x e)
   makes_none (ParentDir at ∷ ps) here x e = rw (append-nil live) (makes_none ps (parent_in live here) x e)
   makes_none (Normal at p ∷ ps) here x e = rw (append-nil live) (go (child_in live here p) e (λ y. makes_none ps y x))
     where
-      go : (o : Option ℕ) → onward o (λ (y : ℕ). walk live y ps) ≡ some x
-          → ((y : ℕ) → walk live y ps ≡ some x → makes live next (record { nodes = []; here = y }) ps ≡ record { nodes = []; here = x })
+      go : (o : Option ℕ) → onward o (λ (y : ℕ). walk live y ps) ≡ Some x
+          → ((y : ℕ) → walk live y ps ≡ Some x → makes live next (record { nodes = []; here = y }) ps ≡ record { nodes = []; here = x })
           → makes live next (or_make next (record { nodes = []; here = here }) p o) ps ≡ record { nodes = []; here = x }
-      go none f k = absurd (none-ne-some x f)
-      go (some y) f k = k y f
+      go None f k = absurd (none-some x f)
+      go (Some y) f k = k y f
 
 -- the theorem
 pub planned_none : PlannedNone

@@ -3,7 +3,8 @@ use mathlib.Core.Path.{◌≡◌, refl, sym, ap, ◌∙◌}
 use mathlib.Core.Bool.{true, false}
 use mathlib.Core.Logic.{◌⊎◌, inl, inr, ⊎_elim}
 use mathlib.Core.List.{List, ◌∷◌}
-use mathlib.Core.Option.{Option, none, some, none-ne-some}
+use Rattle.std.specs.Prelude.{Option, None, Some}
+use Rattle.std.proofs.lemmas.Option.{none-some}
 use Prim.Native.Nat.{ℕ, ◌+◌, ◌<◌}
 use native.Mathlib.Omega.{arith}
 use native.Mathlib.Decide.{ℕ_discrete}
@@ -53,7 +54,7 @@ module _ (i : Instance) (f : Facts i) (k : ℕ) where
   is_back j cs ks (one_aside _ c ds qs b p) a h =
       is_back (rule j c).after ds ks p (aside_along i j f a c b) (⊎_elim (λ e. inl (ap (λ (slots : List Slot). tag_in slots k) b.slots ∙ e)) inr h)
 
-  is_left_out : (j : Instance) (cs : List Call) (ks : List ℕ) → Putting i j cs ks → Along i j.tree j.indexes.slots → tag_of j k ≡ none → (Has k ks → ⊥) → tag_of (after_all j cs) k ≡ none
+  is_left_out : (j : Instance) (cs : List Call) (ks : List ℕ) → Putting i j cs ks → Along i j.tree j.indexes.slots → tag_of j k ≡ None → (Has k ks → ⊥) → tag_of (after_all j cs) k ≡ None
   unfolding after_all
   is_left_out j cs ks (none_left _) a e h = e
   is_left_out j cs ks (one_back _ c ds q qs b p) a e h =
@@ -79,7 +80,7 @@ done_room j b =
     first_of_lem (λ (o : Outcome). o.code ≡ 0 → (fresh j ≡ true) × (ltb j.fixed.capacity (1 + length (state_of b).nodes) ≡ false)) _ _
     (λ a z. absurd (omega arith), λ a. (λ c z. absurd (omega arith), λ c. (λ d z. absurd (omega arith), λ d. (λ e z. absurd (omega arith), λ e z. (not-false _ a, e)))))
 
-no_tag : (s : Slot) → s.held ≡ false → tag_in_slot s ≡ none
+no_tag : (s : Slot) → s.held ≡ false → tag_in_slot s ≡ None
 no_tag s e = rw e
 
 module _ (i f j : Instance) (cs : List Call) (ks : List ℕ) (b : Back i f j cs ks) where
@@ -89,9 +90,9 @@ module _ (i f j : Instance) (cs : List Call) (ks : List ℕ) (b : Back i f j cs 
       sym r.gives ∙ ((restore_done f (encode (saved_state i)) r.done).1 ∙ ap (λ (s : State). state_restored_to s f) (state_read (saved_state i) (saved_fits i (facts i b.before))))
 
   -- no mount stands, and no slot is held
-  no_mount : (y : ℕ) → mount_of_node (state_restored_to (saved_state i) f).tree y ≡ none
+  no_mount : (y : ℕ) → mount_of_node (state_restored_to (saved_state i) f).tree y ≡ None
   unfolding state_restored_to saved_state mount_of_node
-  no_mount y = of_nodes none y _ _ (bare_nodes (saved_nodes i.tree.nodes) y) ∙ either (λ (o : Option Mount). o ≡ none) (eqb y root_number) (λ q. refl) (λ q. refl)
+  no_mount y = of_nodes None y _ _ (bare_nodes (saved_nodes i.tree.nodes) y) ∙ either (λ (o : Option Mount). o ≡ None) (eqb y root_number) (λ q. refl) (λ q. refl)
 
   pub start : Along i j.tree j.indexes.slots
   unfolding state_restored_to saved_state
@@ -99,10 +100,10 @@ module _ (i f j : Instance) (cs : List Call) (ks : List ℕ) (b : Back i f j cs 
     next = refl;
     nodes = saved_from (saved_nodes i.tree.nodes);
     many = (facts f b.fresh).mounts.slots;
-    mounts = λ y m q. absurd (none-ne-some m (sym (no_mount y) ∙ q));
+    mounts = λ y m q. absurd (none-some m (sym (no_mount y) ∙ q));
   })
 
-  no_tag_yet : (k : ℕ) → tag_of j k ≡ none
+  no_tag_yet : (k : ℕ) → tag_of j k ≡ None
   unfolding state_restored_to
   no_tag_yet k =
       let free = untrue (held_in f k) (none_held f (facts f b.fresh) (done_room f (encode (saved_state i)) b.restored.done).0 k) in
@@ -118,8 +119,8 @@ module _ (i f j : Instance) (cs : List Call) (ks : List ℕ) (b : Back i f j cs 
       rw (by_tag l x p, by_tag i x p, t) (go (tag_of i k))
     where
       go : (o : Option ℕ) → AnswersAs (route_tag (after_all j cs) (index_of x) (number_of x) o) (route_tag i (index_of x) (number_of x) o)
-      go none = (refl, refl)
-      go (some t) = (refl, refl)
+      go None = (refl, refl)
+      go (Some t) = (refl, refl)
 
 -- the theorem: what was put back
 pub every_back : EveryBack
@@ -130,7 +131,7 @@ pub every_left_out : EveryLeftOut
 every_left_out i f j cs ks b x p h ds u =
     let k = index_of x in
     let l = after_all j cs in
-    let e : tag_of l k ≡ none = is_left_out i (facts i b.before) k j cs ks b.put (start i f j cs ks b) (no_tag_yet i f j cs ks b k) h in
+    let e : tag_of l k ≡ None = is_left_out i (facts i b.before) k j cs ks b.put (start i f j cs ks b) (no_tag_yet i f j cs ks b k) h in
     leads_off (after_all l ds) x p
     (⊎_elim (λ (s : slot_of (after_all l ds) k ≡ slot_of l k). ap tag_in_slot s ∙ e) (λ (s : slot_of (after_all l ds) k ≡ empty_slot). ap tag_in_slot s) (ungiven_slot ds l k u))
 

@@ -2,7 +2,8 @@
 use mathlib.Core.Path.{◌≡◌, refl, sym, ap, ◌∙◌, subst}
 use mathlib.Core.Logic.{⊎_elim}
 use mathlib.Core.List.{List, [], append-nil}
-use mathlib.Core.Option.{Option, none, some, some-injective, none-ne-some}
+use Rattle.std.specs.Prelude.{Option, None, Some}
+use Rattle.std.proofs.lemmas.Option.{same_Some, none-some}
 use Prim.Native.Nat.{ℕ, ◌≤◌, ◌<◌}
 use native.Mathlib.Nat.{add-zero}
 use native.Mathlib.Omega.{arith}
@@ -35,7 +36,7 @@ pub record Along (i : Instance) (t : Tree) (slots : List Slot) : Type 0 where
   pub nodes : saved_nodes t.nodes ≡ saved_nodes i.tree.nodes
   pub next : t.next ≡ i.tree.next
   pub many : length slots ≡ 256
-  pub mounts : (y : ℕ) (m : Mount) → mount_of_node t y ≡ some m → IsAt m.index (mount_of_node i.tree y)
+  pub mounts : (y : ℕ) (m : Mount) → mount_of_node t y ≡ Some m → IsAt m.index (mount_of_node i.tree y)
 
 abbrev pub tag_in : List Slot → ℕ → Option ℕ
 tag_in slots k = tag_in_slot (get_or slots k empty_slot)
@@ -45,21 +46,21 @@ tag_in slots k = tag_in_slot (get_or slots k empty_slot)
 grown_none : (t : Tree) → grown [] t ≡ t
 grown_none t = λ j. record { next = add-zero t.next j; root = t.root; nodes = append-nil t.nodes j }
 
-put_there : (j : Instance) (r : Request) (k x : ℕ) (a : Instance) (p : Put j r k a) → reached j r.path ≡ some x → a ≡ placed k r x (with_counter p.counter j)
+put_there : (j : Instance) (r : Request) (k x : ℕ) (a : Instance) (p : Put j r k a) → reached j r.path ≡ Some x → a ≡ placed k r x (with_counter p.counter j)
 put_there j r k x a p e =
     p.after
     ∙ ap (λ (m : Made). placed k r m.here (with_tree (grown m.nodes j.tree) (with_counter p.counter j))) (planned_none j r.path x e)
     ∙ ap (λ (t : Tree). placed k r x (with_tree t (with_counter p.counter j))) (grown_none j.tree)
 
 -- a path leads on the way where it leads in i
-pub reached_still : (i j : Instance) → Facts i → saved_nodes j.tree.nodes ≡ saved_nodes i.tree.nodes → (path : List ℕ) (x : ℕ) → reached i path ≡ some x → reached j path ≡ some x
+pub reached_still : (i j : Instance) → Facts i → saved_nodes j.tree.nodes ≡ saved_nodes i.tree.nodes → (path : List ℕ) (x : ℕ) → reached i path ≡ Some x → reached j path ≡ Some x
 reached_still i j f e path x h =
     leads_path j i.tree.next (rw e f.tree.shape) path x
     (leads_saved i.tree.nodes j.tree.nodes (sym e) root_number x (components 0 path) (path_leads i i.tree.next f.tree.shape.rises path x h))
 
 one_index : (o : Option Mount) (k q : ℕ) → IsAt k o → IsAt q o → k ≡ q
-one_index none k q a b = absurd a
-one_index (some m) k q a b = sym a ∙ b
+one_index None k q a b = absurd a
+one_index (Some m) k q a b = sym a ∙ b
 
 module _ (i j : Instance) (r : Request) (k x c : ℕ) (w : Rooted j.tree.nodes x) (a : Along i j.tree j.indexes.slots) (stood : IsAt k (mount_of_node i.tree x)) where
   abbrev left : Instance
@@ -68,8 +69,8 @@ module _ (i j : Instance) (r : Request) (k x c : ℕ) (w : Rooted j.tree.nodes x
   -- what stood on the node has that index, so no other slot is emptied
   freed_none : (o : Option Mount) → mount_of_node j.tree x ≡ o → (q : ℕ) → (q ≡ k → ⊥) → get_or (freed_slots o j.indexes.slots) q empty_slot ≡ get_or j.indexes.slots q empty_slot
   unfolding freed_slots
-  freed_none none e q n = refl
-  freed_none (some m) e q n =
+  freed_none None e q n = refl
+  freed_none (Some m) e q n =
       get_or-set_other j.indexes.slots m.index q empty_slot empty_slot (λ s. n (s ∙ one_index (mount_of_node i.tree x) m.index k (a.mounts x m e) stood))
 
   others_kept : (q : ℕ) → (q ≡ k → ⊥) → tag_of left q ≡ tag_of j q
@@ -77,14 +78,14 @@ module _ (i j : Instance) (r : Request) (k x c : ℕ) (w : Rooted j.tree.nodes x
   others_kept q n =
       ap tag_in_slot (get_or-set_other (freed_slots (mount_of_node j.tree x) j.indexes.slots) k q (held_by r.tag) empty_slot n ∙ freed_none (mount_of_node j.tree x) refl q n)
 
-  mounts_along : (y : ℕ) (m : Mount) → mount_of_node left.tree y ≡ some m → IsAt m.index (mount_of_node i.tree y)
+  mounts_along : (y : ℕ) (m : Mount) → mount_of_node left.tree y ≡ Some m → IsAt m.index (mount_of_node i.tree y)
   unfolding placed
   mounts_along y m e =
-      let t = some (requested_mount k r) in
+      let t = Some (requested_mount k r) in
       elim (ℕ_discrete x y) [
         | yes q ↦
-            let s : mount_of_node (set_mount j.tree x t) x ≡ some m = ap (mount_of_node (set_mount j.tree x t)) q ∙ e in
-            let n : m.index ≡ k = ap (λ (o : Mount). o.index) (some-injective m (requested_mount k r) (sym s ∙ set_there j.tree x t w)) in
+            let s : mount_of_node (set_mount j.tree x t) x ≡ Some m = ap (mount_of_node (set_mount j.tree x t)) q ∙ e in
+            let n : m.index ≡ k = ap (λ (o : Mount). o.index) (same_Some m (requested_mount k r) (sym s ∙ set_there j.tree x t w)) in
             rw (n, ← q) stood
         | no n ↦ a.mounts y m (sym (set_same x y n j.tree t) ∙ e)
       ]
@@ -92,8 +93,8 @@ module _ (i j : Instance) (r : Request) (k x c : ℕ) (w : Rooted j.tree.nodes x
   along_left : Along i left.tree left.indexes.slots
   unfolding placed
   along_left = record {
-    next = set_next j.tree x (some (requested_mount k r)) ∙ a.next;
-    nodes = set_saved j.tree x (some (requested_mount k r)) ∙ a.nodes;
+    next = set_next j.tree x (Some (requested_mount k r)) ∙ a.next;
+    nodes = set_saved j.tree x (Some (requested_mount k r)) ∙ a.nodes;
     many = length-set (freed_slots (mount_of_node j.tree x) j.indexes.slots) k (held_by r.tag) ∙ (freed_slots_lem (mount_of_node j.tree x) j.indexes.slots ∙ a.many);
     mounts = mounts_along;
   }
@@ -106,12 +107,12 @@ pub record Step (i j left : Instance) (k : ℕ) : Type 0 where
   pub here : tag_of left k ≡ tag_of i k
   pub elsewhere : (q : ℕ) → (q ≡ k → ⊥) → tag_of left q ≡ tag_of j q
 
-tag_low : (slots : List Slot) (k t : ℕ) → tag_in slots k ≡ some t → k < length slots
+tag_low : (slots : List Slot) (k t : ℕ) → tag_in slots k ≡ Some t → k < length slots
 tag_low slots k t e =
-    ⊎_elim (λ (l : length slots ≤ k). absurd (none-ne-some t (sym (ap tag_in_slot (get_or-eq_default slots empty_slot l)) ∙ e))) (λ (l : k < length slots). l) (le_or_lt (length slots) k)
+    ⊎_elim (λ (l : length slots ≤ k). absurd (none-some t (sym (ap tag_in_slot (get_or-eq_default slots empty_slot l)) ∙ e))) (λ (l : k < length slots). l) (le_or_lt (length slots) k)
 
 module _ (i j : Instance) (f : Facts i) (a : Along i j.tree j.indexes.slots) where
-  put_step : (r : Request) (k x : ℕ) → reached i r.path ≡ some x → IsAt k (mount_of_node i.tree x) → tag_of i k ≡ some r.tag → (rule j (restore_mount k r)).code ≡ 0
+  put_step : (r : Request) (k x : ℕ) → reached i r.path ≡ Some x → IsAt k (mount_of_node i.tree x) → tag_of i k ≡ Some r.tag → (rule j (restore_mount k r)).code ≡ 0
       → Step i j (rule j (restore_mount k r)).after k
   put_step r k x e s t z =
       let p = (restored_put j r k z).1 in

@@ -2,7 +2,7 @@
 use mathlib.Core.Path.{◌≡◌, refl, sym, ap, ◌∙◌}
 use mathlib.Core.Bool.{false}
 use mathlib.Core.List.{List, [], ◌∷◌}
-use mathlib.Core.Option.{some}
+use Rattle.std.specs.Prelude.{Some}
 use Prim.Native.Nat.{ℕ, ◌+◌, ◌≤◌}
 use native.Mathlib.Omega.{arith}
 use lib.ListN.{length}
@@ -49,7 +49,7 @@ module _ (i f j : Instance) (cs : List Call) (ks : List ℕ) (b : Back i f j cs 
       let m : length last.tree.nodes ≡ length (saved_nodes i.tree.nodes) = sym (saved_length last.tree.nodes) ∙ ap length a.nodes in
       omega (arith, same_room, n, m, ltb-false f.fixed.capacity (1 + length (state_of (encode (saved_state i))).nodes) (done_room f (encode (saved_state i)) b.restored.done).1)
 
-  no_need : (path : List ℕ) (x : ℕ) → reached i path ≡ some x → no_room last path ≡ false
+  no_need : (path : List ℕ) (x : ℕ) → reached i path ≡ Some x → no_room last path ≡ false
   unfolding no_room needed
   no_need path x e =
       let d = facts i b.before in

@@ -3,7 +3,8 @@ use mathlib.Core.Path.{◌≡◌, refl, sym, subst, ap, ◌∙◌}
 use mathlib.Core.Bool.{Bool, true, false, cond}
 use mathlib.Core.Logic.{◌⊎◌, inl, inr, ⊎_elim}
 use mathlib.Core.List.{List, [], ◌∷◌, ◌++◌}
-use mathlib.Core.Option.{none, some, none-ne-some}
+use Rattle.std.specs.Prelude.{None, Some}
+use Rattle.std.proofs.lemmas.Option.{none-some}
 use Prim.Native.Nat.{ℕ, zero, suc, ◌+◌, ◌%◌, ◌<◌}
 use native.Mathlib.Omega.{arith}
 use lib.ListN.{length}
@@ -32,16 +33,16 @@ module _ (free : ℕ → Bool) where
       ⊎_elim (λ (t : free c ≡ true). rw t) (λ (f : free c ≡ false). rw f (ap (λ (l : List ℕ). c ∷ l) (visited_round n (after c)))) (known (free c))
 
   -- where i is found, the counter has moved to the index after it
-  pub ends : (n c i : ℕ) → c < 256 → first_free free (going_round n c) ≡ some i → (c + length (visited free (going_round n c))) % 256 ≡ after i
+  pub ends : (n c i : ℕ) → c < 256 → first_free free (going_round n c) ≡ Some i → (c + length (visited free (going_round n c))) % 256 ≡ after i
   unfolding going_round visited first_free
-  ends zero c i h e = absurd (none-ne-some i e)
+  ends zero c i h e = absurd (none-some i e)
   ends (suc n) c i h e =
       ⊎_elim (λ (t : free c ≡ true). let same : c ≡ i = cc (rw t at e) in rw t (omega arith))
       (λ (f : free c ≡ false). let rest = ends n (after c) i (omega arith) (rw f at e) in rw f (omega arith)) (known (free c))
 
   -- each index that is visited is one that is not free, or the one found
   pub meets : (n c d : ℕ) → c < 256 → d < length (visited free (going_round n c))
-      → Has ((c + d) % 256) (visited free (going_round n c)) × ((free ((c + d) % 256) ≡ false) ⊎ (first_free free (going_round n c) ≡ some ((c + d) % 256)))
+      → Has ((c + d) % 256) (visited free (going_round n c)) × ((free ((c + d) % 256) ≡ false) ⊎ (first_free free (going_round n c) ≡ Some ((c + d) % 256)))
   unfolding going_round visited first_free
   meets zero c d h l = absurd (omega arith)
   meets (suc n) c zero h l =
@@ -52,31 +53,31 @@ module _ (free : ℕ → Bool) where
       (λ (f : free c ≡ false).
       let on : (c + suc d) % 256 ≡ (after c + d) % 256 = omega arith in
       let rest = meets n (after c) d (omega arith) (omega (arith, rw f at l)) in
-      let P : ℕ → Type 0 = λ x. Has x (visited free (going_round (suc n) c)) × ((free x ≡ false) ⊎ (first_free free (going_round (suc n) c) ≡ some x)) in
+      let P : ℕ → Type 0 = λ x. Has x (visited free (going_round (suc n) c)) × ((free x ≡ false) ⊎ (first_free free (going_round (suc n) c) ≡ Some x)) in
       subst P (sym on) (rw f (inr rest.0, rest.1))) (known (free c))
 
   -- none is free: none is found
-  pub finds_none : (n c : ℕ) → c < 256 → ((j : ℕ) → j < 256 → free j ≡ false) → first_free free (going_round n c) ≡ none
+  pub finds_none : (n c : ℕ) → c < 256 → ((j : ℕ) → j < 256 → free j ≡ false) → first_free free (going_round n c) ≡ None
   unfolding going_round first_free
   finds_none zero c h all = refl
   finds_none (suc n) c h all = rw (all c h) (finds_none n (after c) (omega arith) all)
 
   -- none is found: all are visited
   -- what is found is free, of whatever indexes are met
-  pub found_free : (is : List ℕ) (k : ℕ) → first_free free is ≡ some k → free k ≡ true
+  pub found_free : (is : List ℕ) (k : ℕ) → first_free free is ≡ Some k → free k ≡ true
   unfolding first_free
-  found_free [] k e = absurd (none-ne-some k e)
+  found_free [] k e = absurd (none-some k e)
   found_free (i ∷ is) k e = go (free i) refl (found_free is k) e
     where
-      go : (b : Bool) → free i ≡ b → (first_free free is ≡ some k → free k ≡ true) → cond b (some i) (first_free free is) ≡ some k → free k ≡ true
+      go : (b : Bool) → free i ≡ b → (first_free free is ≡ Some k → free k ≡ true) → cond b (Some i) (first_free free is) ≡ Some k → free k ≡ true
       go true f later q = let s : i ≡ k = cc in ap free (sym s) ∙ f
       go false f later q = later q
 
-  pub spent : (n c : ℕ) → first_free free (going_round n c) ≡ none → length (visited free (going_round n c)) ≡ n
+  pub spent : (n c : ℕ) → first_free free (going_round n c) ≡ None → length (visited free (going_round n c)) ≡ n
   unfolding going_round first_free visited
   spent zero c e = refl
   spent (suc n) c e =
-      ⊎_elim (λ (t : free c ≡ true). absurd (none-ne-some c (sym (rw t at e))))
+      ⊎_elim (λ (t : free c ≡ true). absurd (none-some c (sym (rw t at e))))
       (λ (f : free c ≡ false). rw f (ap suc (spent n (after c) (rw f at e)))) (known (free c))
 
   -- k is the first free one, d steps on
@@ -87,9 +88,9 @@ module _ (free : ℕ → Bool) where
     pub before : (e : ℕ) → e < d → free ((c + e) % 256) ≡ false
     pub counted : length (visited free (going_round n c)) ≡ d + 1
 
-  pub found_at : (n c k : ℕ) → c < 256 → first_free free (going_round n c) ≡ some k → (d : ℕ) × FoundAt n c k d
+  pub found_at : (n c k : ℕ) → c < 256 → first_free free (going_round n c) ≡ Some k → (d : ℕ) × FoundAt n c k d
   unfolding going_round first_free visited
-  found_at zero c k h e = absurd (none-ne-some k e)
+  found_at zero c k h e = absurd (none-some k e)
   found_at (suc n) c k h e =
       ⊎_elim (λ (t : free c ≡ true).
       let same : c ≡ k = cc (rw t at e) in
@@ -114,7 +115,7 @@ module _ (free : ℕ → Bool) where
 
   -- the first free one is found
   pub at_found : (n c d : ℕ) → c < 256 → d < n → free ((c + d) % 256) ≡ true → ((e : ℕ) → e < d → free ((c + e) % 256) ≡ false)
-      → first_free free (going_round n c) ≡ some ((c + d) % 256)
+      → first_free free (going_round n c) ≡ Some ((c + d) % 256)
   unfolding going_round first_free
   at_found zero c d h l t b = absurd (omega arith)
   at_found (suc n) c zero h l t b =

@@ -8,6 +8,7 @@ use native.Mathlib.Omega.{arith}
 use lib.ListN.{length}
 use lib.Dec.{eqb}
 use borrow.Author.Tests.{eqb-true, eqb-false, eq-eqb, ne_eqb}
+use lib.Pointwise.{pointwise}
 use Rattle.rules.specs.Bytes.{same}
 use Rattle.rules.proofs.Tests.{and_both}
 
@@ -75,3 +76,11 @@ same_append [] b [] d e = refl
 same_append [] b (y ∷ c) d e = absurd (omega arith)
 same_append (x ∷ a) b [] d e = absurd (omega arith)
 same_append (x ∷ a) b (y ∷ c) d e = ap (λ (t : Bool). eqb x y && t) (same_append a b c d (suc_inj e)) ∙ sym (and_assoc (eqb x y) (same a c) (same b d))
+
+-- the program's `==` of byte strings tells the same
+pub same_eq_of_slices : (p q : List ℕ) → pointwise eqb p q ≡ same p q
+unfolding same
+same_eq_of_slices [] [] = refl
+same_eq_of_slices [] (y ∷ q) = refl
+same_eq_of_slices (x ∷ p) [] = refl
+same_eq_of_slices (x ∷ p) (y ∷ q) = ap (λ (t : Bool). eqb x y && t) (same_eq_of_slices p q)

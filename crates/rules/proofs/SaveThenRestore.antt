@@ -4,7 +4,7 @@ use mathlib.Core.Path.{◌≡◌, refl, sym, ap, ◌∙◌}
 use mathlib.Core.Bool.{Bool, true, false, cond, not, ◌||◌, true≢false, or-true}
 use mathlib.Core.Logic.{◌⊎◌, inl, inr, ⊎_elim}
 use mathlib.Core.List.{List, [], ◌∷◌}
-use mathlib.Core.Option.{some}
+use Rattle.std.specs.Prelude.{Some}
 use Prim.Native.Nat.{ℕ, ◌+◌, ◌≤◌}
 use native.Mathlib.Omega.{arith}
 use lib.ListN.{length}
@@ -37,7 +37,7 @@ unfolding node_in saved_nodes HasNumber
 node_in_lem [] x h = absurd (true≢false h)
 node_in_lem (n ∷ ns) x h = go (eqb n.number x) refl h (node_in_lem ns x)
   where
-    go : (b : Bool) → eqb n.number x ≡ b → is_none (cond b (some n) (node_in ns x)) ≡ false → (is_none (node_in ns x) ≡ false → HasNumber x (saved_nodes ns)) → (n.number ≡ x) ⊎ HasNumber x (saved_nodes ns)
+    go : (b : Bool) → eqb n.number x ≡ b → is_none (cond b (Some n) (node_in ns x)) ≡ false → (is_none (node_in ns x) ≡ false → HasNumber x (saved_nodes ns)) → (n.number ≡ x) ⊎ HasNumber x (saved_nodes ns)
     go true e f k = inl (eqb-true n.number x e)
     go false e f k = inr (k f)
 
@@ -47,7 +47,7 @@ in_node [] x h = absurd h
 in_node (n ∷ ns) x (inl h) = rw (eq-eqb n.number x h)
 in_node (n ∷ ns) x (inr h) = go (eqb n.number x) (in_node ns x h)
   where
-    go : (b : Bool) → is_none (node_in ns x) ≡ false → is_none (cond b (some n) (node_in ns x)) ≡ false
+    go : (b : Bool) → is_none (node_in ns x) ≡ false → is_none (cond b (Some n) (node_in ns x)) ≡ false
     go true k = refl
     go false k = k
 

@@ -2,7 +2,8 @@
 use mathlib.Core.Path.{◌≡◌, refl, sym, ap, ◌∙◌}
 use mathlib.Core.Bool.{Bool, true, false, cond, ◌&&◌, ◌||◌}
 use mathlib.Core.List.{List, [], ◌∷◌, ◌++◌}
-use mathlib.Core.Option.{Option, none, some, none-ne-some}
+use Rattle.std.specs.Prelude.{Option, None, Some}
+use Rattle.std.proofs.lemmas.Option.{none-some}
 use Prim.Native.Nat.{ℕ, suc, ◌+◌, ◌≤◌, ◌<◌}
 use native.Mathlib.Omega.{arith}
 use lib.ListN.{length}
@@ -56,13 +57,13 @@ saved_length [] = refl
 saved_length (n ∷ ns) = ap suc (saved_length ns)
 
 -- a missing child is a name that is not used
-pub child_unused : (ns : List Node) (here : ℕ) (p : List ℕ) → child_in ns here p ≡ none → used here p (saved_nodes ns) ≡ false
+pub child_unused : (ns : List Node) (here : ℕ) (p : List ℕ) → child_in ns here p ≡ None → used here p (saved_nodes ns) ≡ false
 unfolding child_in is_child saved_nodes used
 child_unused [] here p e = refl
 child_unused (n ∷ ns) here p e = go (eqb n.parent here && same n.name p) e (child_unused ns here p)
   where
-    go : (b : Bool) → cond b (some n.number) (child_in ns here p) ≡ none → (child_in ns here p ≡ none → used here p (saved_nodes ns) ≡ false) → (b || used here p (saved_nodes ns)) ≡ false
-    go true f k = absurd (none-ne-some n.number (sym f))
+    go : (b : Bool) → cond b (Some n.number) (child_in ns here p) ≡ None → (child_in ns here p ≡ None → used here p (saved_nodes ns) ≡ false) → (b || used here p (saved_nodes ns)) ≡ false
+    go true f k = absurd (none-some n.number (sym f))
     go false f k = k f
 
 -- ---- the same parent and name, either way round

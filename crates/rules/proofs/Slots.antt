@@ -2,7 +2,8 @@
 use mathlib.Core.Path.{◌≡◌, refl, sym, ap, ◌∙◌}
 use mathlib.Core.Logic.{◌⊎◌, inl, inr, ⊎_elim}
 use mathlib.Core.List.{List}
-use mathlib.Core.Option.{Option, none, some, none-ne-some}
+use Rattle.std.specs.Prelude.{Option, None, Some}
+use Rattle.std.proofs.lemmas.Option.{none-some}
 use Prim.Native.Nat.{ℕ, ◌≤◌, ◌<◌}
 use native.Mathlib.Decide.{ℕ_discrete}
 use lib.ListN.{length, get_or, set, length-set, get_or-eq_default}
@@ -38,29 +39,29 @@ cleared slots k j =
     ]
 
 -- the slot of a mount that loses its index is empty
-pub freed_empty : (m : Option Mount) (slots : List Slot) (j : ℕ) → index_in m ≡ some j → get_or (freed_slots m slots) j empty_slot ≡ empty_slot
+pub freed_empty : (m : Option Mount) (slots : List Slot) (j : ℕ) → index_in m ≡ Some j → get_or (freed_slots m slots) j empty_slot ≡ empty_slot
 unfolding freed_slots
-freed_empty none slots j e = absurd (none-ne-some j e)
-freed_empty (some m) slots j e =
+freed_empty None slots j e = absurd (none-some j e)
+freed_empty (Some m) slots j e =
     let s : m.index ≡ j = cc in
     ap (λ (k : ℕ). get_or (set slots k empty_slot) j empty_slot) s ∙ emptied_slot slots j
 
 -- each slot is as it was, or is that one
-freed : (m : Option Mount) (slots : List Slot) (j : ℕ) → (get_or (freed_slots m slots) j empty_slot ≡ get_or slots j empty_slot) ⊎ ((index_in m ≡ some j) × (get_or (freed_slots m slots) j empty_slot ≡ empty_slot))
+freed : (m : Option Mount) (slots : List Slot) (j : ℕ) → (get_or (freed_slots m slots) j empty_slot ≡ get_or slots j empty_slot) ⊎ ((index_in m ≡ Some j) × (get_or (freed_slots m slots) j empty_slot ≡ empty_slot))
 unfolding freed_slots
-freed none slots j = inl refl
-freed (some m) slots j = ⊎_elim inl (λ a. inr (ap {B = Option ℕ} some a.0, a.1)) (cleared slots m.index j)
+freed None slots j = inl refl
+freed (Some m) slots j = ⊎_elim inl (λ a. inr (ap {B = Option ℕ} Some a.0, a.1)) (cleared slots m.index j)
 
 -- freeing leaves as many slots
 pub freed_slots_lem : (m : Option Mount) (slots : List Slot) → length (freed_slots m slots) ≡ length slots
 unfolding freed_slots
-freed_slots_lem none slots = refl
-freed_slots_lem (some m) slots = length-set slots m.index empty_slot
+freed_slots_lem None slots = refl
+freed_slots_lem (Some m) slots = length-set slots m.index empty_slot
 
 -- ---- calls
 
 -- another slot than the one that a mount was placed in
-other_slot : (k : ℕ) (r : Request) (x : ℕ) (i : Instance) (j : ℕ) → (j ≡ k → ⊥) → (slot_of (placed k r x i) j ≡ slot_of i j) ⊎ ((index_in (mount_of_node i.tree x) ≡ some j) × (slot_of (placed k r x i) j ≡ empty_slot))
+other_slot : (k : ℕ) (r : Request) (x : ℕ) (i : Instance) (j : ℕ) → (j ≡ k → ⊥) → (slot_of (placed k r x i) j ≡ slot_of i j) ⊎ ((index_in (mount_of_node i.tree x) ≡ Some j) × (slot_of (placed k r x i) j ≡ empty_slot))
 unfolding placed
 other_slot k r x i j n =
     let slots = freed_slots (mount_of_node i.tree x) i.indexes.slots in
@@ -69,14 +70,14 @@ other_slot k r x i j n =
 
 mount_as : (i : Instance) (r : Request) (k : Option ℕ) → (allocation i).found ≡ k → (j : ℕ) → SlotAfter i (mount r) (mount_by_index i r k) j
 unfolding mount_by_index
-mount_as i r none e j = same_slot refl
-mount_as i r (some k) e j =
+mount_as i r None e j = same_slot refl
+mount_as i r (Some k) e j =
     each_of (λ o. SlotAfter i (mount r) o j) _ _ (
       same_slot refl,
       (
         same_slot refl,
         elim (ℕ_discrete j k) [
-          | yes s ↦ handed_out refl (e ∙ ap {B = Option ℕ} some (sym s))
+          | yes s ↦ handed_out refl (e ∙ ap {B = Option ℕ} Some (sym s))
           | no n ↦ ⊎_elim same_slot (λ a. emptied refl a.0 a.1) (other_slot k _ _ _ j n)
         ],
       ),
@@ -88,16 +89,16 @@ restored_as i k r j =
     each_of (λ o. SlotAfter i (restore_mount k r) o j) _ _ (
       same_slot refl,
       elim (ℕ_discrete j k) [
-        | yes s ↦ by_restored refl (ap {B = Option ℕ} some (sym s))
+        | yes s ↦ by_restored refl (ap {B = Option ℕ} Some (sym s))
         | no n ↦ ⊎_elim same_slot (λ a. emptied refl a.0 a.1) (other_slot k _ _ _ j n)
       ],
     )
 
-unmounted : (i : Instance) (path : List ℕ) (x : ℕ) (m : Mount) → reached i path ≡ some x → mount_of_node i.tree x ≡ some m → (j : ℕ) → SlotAfter i (umount path) (unmounts i x m) j
+unmounted : (i : Instance) (path : List ℕ) (x : ℕ) (m : Mount) → reached i path ≡ Some x → mount_of_node i.tree x ≡ Some m → (j : ℕ) → SlotAfter i (umount path) (unmounts i x m) j
 unfolding unmounts
 unmounted i path x m q e j =
-    let old : index_in (reached_mount i (reached i path)) ≡ some m.index = ap (λ (y : Option ℕ). index_in (reached_mount i y)) q ∙ ap index_in e in
-    ⊎_elim same_slot (λ a. emptied refl (old ∙ ap {B = Option ℕ} some a.0) a.1) (cleared i.indexes.slots m.index j)
+    let old : index_in (reached_mount i (reached i path)) ≡ Some m.index = ap (λ (y : Option ℕ). index_in (reached_mount i y)) q ∙ ap index_in e in
+    ⊎_elim same_slot (λ a. emptied refl (old ∙ ap {B = Option ℕ} Some a.0) a.1) (cleared i.indexes.slots m.index j)
 
 state_restored : (i : Instance) (b : List ℕ) (j : ℕ) → SlotAfter i (restore_from_bytes b) (says nothing (state_restored_to (state_of b) i)) j
 unfolding state_restored_to

@@ -2,7 +2,7 @@
 use mathlib.Core.Path.{◌≡◌, refl, sym, ap, ◌∙◌, subst}
 use mathlib.Core.Bool.{true, not, ◌&&◌}
 use mathlib.Core.List.{List, [], ◌∷◌}
-use mathlib.Core.Option.{Option, none, some}
+use Rattle.std.specs.Prelude.{Option, None, Some}
 use Prim.Native.Nat.{ℕ, ◌+◌, ◌≤◌, ◌<◌}
 use native.Mathlib.Omega.{arith}
 use lib.Dec.{eqb}
@@ -65,8 +65,8 @@ placed_next n k r x i l = rw (set_next i.tree x _) l
 
 mount_as : (i : Instance) (r : Request) (k : Option ℕ) → Keeps i (mount_by_index i r k)
 unfolding mount_by_index
-mount_as i r none = record { others = rest i _ _; next = omega arith }
-mount_as i r (some k) =
+mount_as i r None = record { others = rest i _ _; next = omega arith }
+mount_as i r (Some k) =
     each_of (Keeps i) _ _ (
       record { others = rest i _ _; next = omega arith },
       (
@@ -86,7 +86,7 @@ restored_as i k r =
 taken_next : (i : Instance) (x : ℕ) → (taken i x).next ≡ i.tree.next
 unfolding taken
 taken_next i x =
-    either (λ (s : Tree). s.next ≡ i.tree.next) (i.removal && not (eqb x root_number)) (λ e. set_next i.tree x none) (λ e. set_next i.tree x none)
+    either (λ (s : Tree). s.next ≡ i.tree.next) (i.removal && not (eqb x root_number)) (λ e. set_next i.tree x None) (λ e. set_next i.tree x None)
 
 unmounted : (i : Instance) (x : ℕ) (m : Mount) → Keeps i (unmounts i x m)
 unfolding unmounts

@@ -3,7 +3,7 @@ use mathlib.Core.Path.{◌≡◌, refl}
 use mathlib.Core.Bool.{Bool}
 use mathlib.Core.Logic.{◌⊎◌, inl, inr}
 use mathlib.Core.List.{List, []}
-use mathlib.Core.Option.{Option, none, some}
+use Rattle.std.specs.Prelude.{Option, None, Some}
 use Prim.Native.Nat.{ℕ}
 use native.Mathlib.Omega.{arith}
 use lib.Dec.{eqb}
@@ -23,7 +23,7 @@ use Rattle.rules.proofs.Rows.{each_of, either}
 -- nothing is visited, and the instance stays; a refusal has no values
 pub record Still (i : Instance) (o : Outcome) : Type 0 where
   pub visits : o.visits ≡ []
-  pub found : o.found ≡ none
+  pub found : o.found ≡ None
   pub after : o.after ≡ i
   pub not_full : o.code ≡ FULL → ⊥
   pub bare : (o.code ≡ 0) ⊎ ((o.answer ≡ nothing) × (o.written ≡ []))
@@ -53,13 +53,13 @@ module _ (i : Instance) where
 
   root_held_lem : (k : ℕ) (t : Option ℕ) → Still i (root_held i k t)
   unfolding root_held
-  root_held_lem k none = notfound_still
-  root_held_lem k (some t) = still_says _
+  root_held_lem k None = notfound_still
+  root_held_lem k (Some t) = still_says _
 
   root_at_lem : (m : Option Mount) → Still i (root_at i m)
   unfolding root_at
-  root_at_lem none = still_says _
-  root_at_lem (some m) = root_held_lem m.index (tag_of i m.index)
+  root_at_lem None = still_says _
+  root_at_lem (Some m) = root_held_lem m.index (tag_of i m.index)
 
   pub root_still : (path : List ℕ) → Still i (root_rule i path)
   unfolding root_rule
@@ -67,13 +67,13 @@ module _ (i : Instance) where
 
   route_tag_lem : (k x : ℕ) (t : Option ℕ) → Still i (route_tag i k x t)
   unfolding route_tag
-  route_tag_lem k x none = noent_still
-  route_tag_lem k x (some t) = still_says _
+  route_tag_lem k x None = noent_still
+  route_tag_lem k x (Some t) = still_says _
 
   route_tree_lem : (x : ℕ) (m : Option Mount) → Still i (route_tree i x m)
   unfolding route_tree
-  route_tree_lem x none = still_says _
-  route_tree_lem x (some m) = either (Still i) (eqb x root_number) (λ e. route_tag_lem m.index m.root (tag_of i m.index)) (λ e. still_says _)
+  route_tree_lem x None = still_says _
+  route_tree_lem x (Some m) = either (Still i) (eqb x root_number) (λ e. route_tag_lem m.index m.root (tag_of i m.index)) (λ e. still_says _)
 
   pub route_still : (x : ℕ) → Still i (route_rule i x)
   unfolding route_rule
@@ -82,19 +82,19 @@ module _ (i : Instance) where
 
   entry_of_lem : (x : ℕ) (m : Option Mount) → Still i (entry_of i x m)
   unfolding entry_of
-  entry_of_lem x none = still_says _
-  entry_of_lem x (some m) = still_says _
+  entry_of_lem x None = still_says _
+  entry_of_lem x (Some m) = still_says _
 
   entry_at_lem : (mounts : ℕ → Option Mount) (x : Option ℕ) → Still i (entry_at mounts i x)
   unfolding entry_at
-  entry_at_lem mounts none = noent_still
-  entry_at_lem mounts (some x) = entry_of_lem x (mounts x)
+  entry_at_lem mounts None = noent_still
+  entry_at_lem mounts (Some x) = entry_of_lem x (mounts x)
 
   lookup_by_still : (mounts : ℕ → Option Mount) (x : ℕ) (p : List ℕ) → Still i (lookup_by mounts i x p)
   unfolding lookup_by
   lookup_by_still mounts x p =
       each_of (Still i) _ _
-      (noent_still, (inval_still, (entry_at_lem mounts (some x), (entry_at_lem mounts (some (parent_in i.tree.nodes x)), (noent_still, entry_at_lem mounts (child_in i.tree.nodes x p))))))
+      (noent_still, (inval_still, (entry_at_lem mounts (Some x), (entry_at_lem mounts (Some (parent_in i.tree.nodes x)), (noent_still, entry_at_lem mounts (child_in i.tree.nodes x p))))))
 
   pub lookup_still : (x : ℕ) (p : List ℕ) → Still i (lookup_rule i x p)
   unfolding lookup_rule

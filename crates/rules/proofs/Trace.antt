@@ -2,7 +2,8 @@
 use mathlib.Core.Path.{◌≡◌, sym, ◌∙◌, subst}
 use mathlib.Core.Logic.{inl, inr, ⊎_elim}
 use mathlib.Core.List.{List, [], ◌∷◌}
-use mathlib.Core.Option.{none, some, none-ne-some}
+use Rattle.std.specs.Prelude.{None, Some}
+use Rattle.std.proofs.lemmas.Option.{none-some}
 use Prim.Native.Nat.{ℕ, ◌+◌, ◌%◌, ◌<◌}
 use native.Mathlib.Omega.{arith}
 use lib.ListN.{length}
@@ -42,19 +43,19 @@ pub goes_round : EveryRun
 goes_round cs i h u = record { round = runs_round (steps_of i cs) (counter_of i) h (steps_going cs i h u); moved = all_moved cs i h u }
 
 -- a call that hands an index out is a search
-pub searches : (i : Instance) (c : Call) (k : ℕ) → (rule i c).found ≡ some k → Searches (counter_of i) (step_of i c) × (counter_of (rule i c).after ≡ (allocation i).counter)
+pub searches : (i : Instance) (c : Call) (k : ℕ) → (rule i c).found ≡ Some k → Searches (counter_of i) (step_of i c) × (counter_of (rule i c).after ≡ (allocation i).counter)
 unfolding allocation
 searches i c k e =
-    ⊎_elim (λ q. absurd (none-ne-some k (sym q.found ∙ e))) (λ q. ((q.1.visits, q.1.found), q.1.counter)) (only_mounts i c (found_no_restore i c k e))
+    ⊎_elim (λ q. absurd (none-some k (sym q.found ∙ e))) (λ q. ((q.1.visits, q.1.found), q.1.counter)) (only_mounts i c (found_no_restore i c k e))
 
 -- and the counter that it leaves is a byte
-pub low_after : (i : Instance) (c : Call) (k : ℕ) → (rule i c).found ≡ some k → counter_of (rule i c).after < 256
+pub low_after : (i : Instance) (c : Call) (k : ℕ) → (rule i c).found ≡ Some k → counter_of (rule i c).after < 256
 unfolding allocation allocate
 low_after i c k e = omega (arith, (searches i c k e).1)
 
 -- after a call that handed k out, steps up to one that hands k out again
-pub laps_from : (i : Instance) → counter_of i < 256 → (c : Call) (k : ℕ) → (rule i c).found ≡ some k → (ss : List SearchStep) → Going (counter_of (rule i c).after) ss
-    → last_found none ss ≡ some k → Laps ss
+pub laps_from : (i : Instance) → counter_of i < 256 → (c : Call) (k : ℕ) → (rule i c).found ≡ Some k → (ss : List SearchStep) → Going (counter_of (rule i c).after) ss
+    → last_found None ss ≡ Some k → Laps ss
 unfolding allocation
 laps_from i h c k first ss g = let s = searches i c k first in every_allocator (counter_of i) h (step_of i c) k s.0 first ss (subst (λ n. Going n ss) s.1 g)
 

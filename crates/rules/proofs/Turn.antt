@@ -1,7 +1,8 @@
 -- What one call does to the counter. Assumes nothing.
 use mathlib.Core.Path.{◌≡◌, refl, sym, ap, ◌∙◌}
 use mathlib.Core.Logic.{◌⊎◌, inl, inr}
-use mathlib.Core.Option.{Option, none, some, none-ne-some}
+use Rattle.std.specs.Prelude.{Option, None, Some}
+use Rattle.std.proofs.lemmas.Option.{none-some}
 use mathlib.Core.List.{List}
 use Prim.Native.Nat.{ℕ, ◌+◌, ◌%◌, ◌<◌}
 use native.Mathlib.Omega.{arith}
@@ -29,7 +30,7 @@ placed_counter k r x i = refl
 moves : (i j : Instance) (r : Request) (code : ℕ) (a : Answer) → counter_of j ≡ counter_of (stepped i) → Moves i (mount r) (allocated i code a j) r
 moves i j r code a e = record { call = refl; visits = refl; found = refl; counter = e }
 
-pub placed_tag : (k : ℕ) (r : Request) (x : ℕ) (i : Instance) → k < length i.indexes.slots → tag_of (placed k r x i) k ≡ some r.tag
+pub placed_tag : (k : ℕ) (r : Request) (x : ℕ) (i : Instance) → k < length i.indexes.slots → tag_of (placed k r x i) k ≡ Some r.tag
 unfolding placed
 placed_tag k r x i h =
     let j = freed (mount_of_node i.tree x) i in
@@ -37,8 +38,8 @@ placed_tag k r x i h =
 
 mount_as : (i : Instance) (r : Request) (k : Option ℕ) → Moves i (mount r) (mount_by_index i r k) r
 unfolding mount_by_index
-mount_as i r none = moves i (stepped i) r _ _ refl
-mount_as i r (some k) =
+mount_as i r None = moves i (stepped i) r _ _ refl
+mount_as i r (Some k) =
     let j = walked_to r.path (stepped i) in
     each_of (λ (o : Outcome). Moves i (mount r) o r) _ _
     (moves i (stepped i) r _ _ refl, (moves i j r _ _ refl, moves i _ r _ _ (placed_counter _ _ _ _)))
@@ -46,8 +47,8 @@ mount_as i r (some k) =
 -- a done one answers what its allocation found
 answers_as : (i : Instance) (r : Request) (k : Option ℕ) → (allocation i).found ≡ k → (mount_by_index i r k).code ≡ 0 → (j : ℕ) × MountAnswers i r (mount_by_index i r k) j
 unfolding mount_by_index
-answers_as i r none e = λ z. absurd (omega arith)
-answers_as i r (some k) e =
+answers_as i r None e = λ z. absurd (omega arith)
+answers_as i r (Some k) e =
     each_of (λ (o : Outcome). o.code ≡ 0 → (j : ℕ) × MountAnswers i r o j) _ _ (
       λ z. absurd (omega arith),
       (
@@ -109,11 +110,11 @@ unfolding allocation allocate until_twice going_round visited
 visits_some i = omega arith
 
 -- a call that handed an index out is no state restore
-restore_finds : (i : Instance) (b : List ℕ) → (restore_state_rule i b).found ≡ none
+restore_finds : (i : Instance) (b : List ℕ) → (restore_state_rule i b).found ≡ None
 unfolding restore_state_rule
-restore_finds i b = each_of (λ (o : Outcome). o.found ≡ none) _ _ (refl, (refl, (refl, (refl, refl))))
+restore_finds i b = each_of (λ (o : Outcome). o.found ≡ None) _ _ (refl, (refl, (refl, (refl, refl))))
 
-pub found_no_restore : (i : Instance) (c : Call) (k : ℕ) → (rule i c).found ≡ some k → NoStateRestore c (rule i c)
+pub found_no_restore : (i : Instance) (c : Call) (k : ℕ) → (rule i c).found ≡ Some k → NoStateRestore c (rule i c)
 unfolding rule
 found_no_restore i c k e b is done =
-    none-ne-some k (sym (ap (λ (d : Call). (rule i d).found) is ∙ restore_finds i b) ∙ e)
+    none-some k (sym (ap (λ (d : Call). (rule i d).found) is ∙ restore_finds i b) ∙ e)

@@ -3,7 +3,7 @@ use mathlib.Core.Path.{◌≡◌, refl, sym, ◌∙◌, subst}
 use mathlib.Core.Bool.{Bool, true, false, cond, not, ◌&&◌, true≢false, false≢true}
 use mathlib.Core.Logic.{◌⊎◌, inl, inr}
 use mathlib.Core.List.{List, [], ◌∷◌}
-use mathlib.Core.Option.{Option, none, some}
+use Rattle.std.specs.Prelude.{Option, None, Some}
 use Prim.Native.Nat.{ℕ, ◌+◌, ◌<◌}
 use native.Mathlib.Omega.{arith}
 use lib.Dec.{eqb}
@@ -27,18 +27,18 @@ use Rattle.rules.proofs.Found.{set_saved, node_set, set_there}
 -- ---- lists of nodes
 
 -- no node has a number below all of theirs
-node_below : (ns : List Node) (low high x : ℕ) → Rises low (saved_nodes ns) high → x < low → node_in ns x ≡ none
+node_below : (ns : List Node) (low high x : ℕ) → Rises low (saved_nodes ns) high → x < low → node_in ns x ≡ None
 unfolding node_in saved_nodes Rises
 node_below [] low high x r l = refl
 node_below (n ∷ ns) low high x r l = rw (ne_eqb n.number x (λ q. omega (arith, r.0))) (node_below ns (n.number + 1) high x r.1 (omega (arith, r.0)))
 
 -- a node that was taken out is gone
-node_gone : (ns : List Node) (low high x : ℕ) → Rises low (saved_nodes ns) high → node_in (without ns x) x ≡ none
+node_gone : (ns : List Node) (low high x : ℕ) → Rises low (saved_nodes ns) high → node_in (without ns x) x ≡ None
 unfolding node_in without saved_nodes Rises
 node_gone [] low high x r = refl
 node_gone (n ∷ ns) low high x r = go (eqb n.number x) refl (node_gone ns (n.number + 1) high x r.1)
   where
-    go : (b : Bool) → eqb n.number x ≡ b → node_in (without ns x) x ≡ none → node_in (cond b ns (n ∷ without ns x)) x ≡ none
+    go : (b : Bool) → eqb n.number x ≡ b → node_in (without ns x) x ≡ None → node_in (cond b ns (n ∷ without ns x)) x ≡ None
     go true q k = node_below ns (n.number + 1) high x r.1 (omega (arith, eqb-true n.number x q))
     go false q k = rw q k
 
@@ -50,20 +50,20 @@ other_set x y n t m = either (λ (u : Tree). node_in u.nodes y ≡ node_in t.nod
 
 module _ (i : Instance) (x : ℕ) (high : ℕ) (r : Rises 2 (saved_nodes i.tree.nodes) high) (w : Rooted i.tree.nodes x) where
   abbrev off : Tree
-  off = set_mount i.tree x none
+  off = set_mount i.tree x None
 
   rises_off : Rises 2 (saved_nodes off.nodes) high
-  rises_off = rw (set_saved i.tree x none) r
+  rises_off = rw (set_saved i.tree x None) r
 
   -- on the node itself: known and without a mount, or taken out
   known_off : is_known off.nodes x ≡ true
   unfolding is_known set_mount
   known_off = go (eqb x root_number) refl (reached_live i.tree.nodes x w)
     where
-      go : (b : Bool) → eqb x root_number ≡ b → (x ≡ root_number) ⊎ ((n : Node) × (node_in i.tree.nodes x ≡ some n)) → is_known off.nodes x ≡ true
+      go : (b : Bool) → eqb x root_number ≡ b → (x ≡ root_number) ⊎ ((n : Node) × (node_in i.tree.nodes x ≡ Some n)) → is_known off.nodes x ≡ true
       go true e k = rw e
       go false e (inl q) = absurd (eqb-false x root_number e q)
-      go false e (inr (n, q)) = rw (e, node_set none i.tree.nodes x n q)
+      go false e (inr (n, q)) = rw (e, node_set None i.tree.nodes x n q)
 
   left : Unmounted i (taken i x) x
   unfolding taken is_known mount_of_node
@@ -72,34 +72,34 @@ module _ (i : Instance) (x : ℕ) (high : ℕ) (r : Rises 2 (saved_nodes i.tree.
       go : (a : Bool) → i.removal ≡ a → (b : Bool) → eqb x root_number ≡ b → Unmounted i (cond (a && not b) (cut x off) off) x
       go true p true q = record {
         out = (λ e. absurd (true≢false (sym known_off ∙ e)), λ h. absurd (h.1 (eqb-true x root_number q)));
-        bare = set_there i.tree x none w;
-        others = λ y n. other_set x y n i.tree none;
-        all = λ e. set_saved i.tree x none;
+        bare = set_there i.tree x None w;
+        others = λ y n. other_set x y n i.tree None;
+        all = λ e. set_saved i.tree x None;
       }
       go true p false q = record {
         out = (λ e. (p, eqb-false x root_number q), λ h. rw (q, node_gone off.nodes 2 high x rises_off));
         bare = rw (q, node_gone off.nodes 2 high x rises_off);
-        others = λ y n. node_without x y n off.nodes ∙ other_set x y n i.tree none;
+        others = λ y n. node_without x y n off.nodes ∙ other_set x y n i.tree None;
         all = λ e. absurd (true≢false (sym p ∙ e));
       }
       go false p b q = record {
         out = (λ e. absurd (true≢false (sym known_off ∙ e)), λ h. absurd (false≢true (sym p ∙ h.0)));
-        bare = set_there i.tree x none w;
-        others = λ y n. other_set x y n i.tree none;
-        all = λ e. set_saved i.tree x none;
+        bare = set_there i.tree x None w;
+        others = λ y n. other_set x y n i.tree None;
+        all = λ e. set_saved i.tree x None;
       }
 
 -- ---- the call
 
 module _ (i : Instance) (path : List ℕ) where
   abbrev TakesOff : Outcome → Type 0
-  TakesOff o = o.code ≡ 0 → (x : ℕ) × (reached i path ≡ some x) × (o.after.tree ≡ taken i x)
+  TakesOff o = o.code ≡ 0 → (x : ℕ) × (reached i path ≡ Some x) × (o.after.tree ≡ taken i x)
 
   takes_at : (y : Option ℕ) (m : Option Mount) → reached i path ≡ y → TakesOff (unmount_at i y m)
   unfolding unmount_at unmounts
-  takes_at none m e = λ z. absurd (omega arith)
-  takes_at (some x) none e = λ z. absurd (omega arith)
-  takes_at (some x) (some m) e = λ z. (x, e, refl)
+  takes_at None m e = λ z. absurd (omega arith)
+  takes_at (Some x) None e = λ z. absurd (omega arith)
+  takes_at (Some x) (Some m) e = λ z. (x, e, refl)
 
   takes_off : TakesOff (rule i (umount path))
   unfolding rule unmount_rule

@@ -3,7 +3,8 @@ use mathlib.Core.Path.{◌≡◌, refl, sym, ap, ◌∙◌}
 use mathlib.Core.Bool.{Bool, true, false, cond, not, ◌&&◌, false≢true}
 use mathlib.Core.Logic.{◌⊎◌, inl, inr, ⊎_elim}
 use mathlib.Core.List.{List, [], ◌∷◌, ◌++◌}
-use mathlib.Core.Option.{Option, none, some, none-ne-some}
+use Rattle.std.specs.Prelude.{Option, None, Some}
+use Rattle.std.proofs.lemmas.Option.{none-some}
 use Prim.Native.Nat.{ℕ, zero, suc, ◌+◌, ◌≤◌, ◌<◌}
 use native.Mathlib.Omega.{arith}
 use native.Mathlib.Decide.{ℕ_discrete}
@@ -74,7 +75,7 @@ has_right j [] ls h = h
 has_right j (k ∷ ks) ls h = inr (has_right j ks ls h)
 
 -- what the last step hands out is handed out
-last_has : (ss : List SearchStep) (x : Option ℕ) (k : ℕ) → last_found x ss ≡ some k → (x ≡ some k) ⊎ Has k (indexes_handed_out ss)
+last_has : (ss : List SearchStep) (x : Option ℕ) (k : ℕ) → last_found x ss ≡ Some k → (x ≡ Some k) ⊎ Has k (indexes_handed_out ss)
 unfolding last_found indexes_handed_out
 last_has [] x k e = inl e
 last_has (s ∷ ss) x k e = inr (⊎_elim (λ f. has_first s.found k (indexes_handed_out ss) f) (λ w. has_later s.found k (indexes_handed_out ss) w) (last_has ss s.found k e))
@@ -102,7 +103,7 @@ every_wait i h c k first cs u last =
     let a = (rule i c).after in
     let outs = indexes_handed_out (steps_of a cs) in
     let lap = laps i h c k first cs u last in
-    let again : Has k outs = ⊎_elim (λ (e : none ≡ some k). absurd (none-ne-some k e)) (λ (w : Has k outs). w) (last_has (steps_of a cs) none k last) in
+    let again : Has k outs = ⊎_elim (λ (e : None ≡ Some k). absurd (none-some k e)) (λ (w : Has k outs). w) (last_has (steps_of a cs) None k last) in
     let all : Covers (held_in a) k 255 (outs ++ named_in cs) =
     λ j p q.
     elim (ℕ_discrete j k) [

@@ -4,7 +4,7 @@ use mathlib.Core.Path.{◌≡◌, refl, sym}
 use mathlib.Core.Bool.{Bool, true, false, ◌&&◌, ◌||◌}
 use mathlib.Core.Logic.{inl, inr}
 use mathlib.Core.List.{List}
-use mathlib.Core.Option.{Option, none, some}
+use Rattle.std.specs.Prelude.{Option, None, Some}
 use Prim.Native.Nat.{ℕ, ◌+◌, ◌≤◌, ◌<◌}
 use native.Mathlib.Omega.{arith}
 use lib.ListN.{length}
@@ -104,7 +104,7 @@ module _ (P : Instance → Call → Outcome → Type 0) where
     pub early : (i : Instance) (c : Call) (code : ℕ) → Early c code → P i c (refused code i)
     pub mounts : (i : Instance) (r : Request) → Passed i r → P i (mount r) (mount_by_index i r (allocation i).found)
     pub restores_mount : (i : Instance) (k : ℕ) (r : Request) → Passed i r → rooted r.path ≡ true → P i (restore_mount k r) (restore_mount_by_index i k r)
-    pub unmounted : (i : Instance) (path : List ℕ) (x : ℕ) (m : Mount) → reached i path ≡ some x → mount_of_node i.tree x ≡ some m → P i (umount path) (unmounts i x m)
+    pub unmounted : (i : Instance) (path : List ℕ) (x : ℕ) (m : Mount) → reached i path ≡ Some x → mount_of_node i.tree x ≡ Some m → P i (umount path) (unmounts i x m)
     pub sets_removal : (i : Instance) → P i set_remove_pseudo_root (says nothing (removing i))
     pub state_restored : (i : Instance) (b : List ℕ) → Restorable i b → P i (restore_from_bytes b) (says nothing (state_restored_to (state_of b) i))
 
@@ -158,9 +158,9 @@ module _ (P : Instance → Call → Outcome → Type 0) where
 
     unmount_at_lem : (path : List ℕ) (x : Option ℕ) (m : Option Mount) → reached i path ≡ x → reached_mount i x ≡ m → P i (umount path) (unmount_at i x m)
     unfolding unmount_at
-    unmount_at_lem path none m q e = refusal (umount path) refl _ (λ f. omega arith)
-    unmount_at_lem path (some x) none q e = refusal (umount path) refl _ (λ f. omega arith)
-    unmount_at_lem path (some x) (some m) q e = h.unmounted i path x m q e
+    unmount_at_lem path None m q e = refusal (umount path) refl _ (λ f. omega arith)
+    unmount_at_lem path (Some x) None q e = refusal (umount path) refl _ (λ f. omega arith)
+    unmount_at_lem path (Some x) (Some m) q e = h.unmounted i path x m q e
 
     unmount_case : (path : List ℕ) → P i (umount path) (unmount_rule i path)
     unfolding unmount_rule

@@ -1,7 +1,6 @@
 -- The tables of an instance.
-use Rattle.std.specs.Prelude.{ℕ, ◌+◌, ◌^◌, Bool, true, false, cond, List, [], ◌∷◌, ◌++◌, length, replicate, get_or, set, eqb}
+use Rattle.std.specs.Prelude.{ℕ, ◌+◌, ◌^◌, Bool, true, false, cond, List, [], ◌∷◌, ◌++◌, length, replicate, get_or, set, eqb, Option, None, Some}
 use Prim.Native.String.{String}
-use Rattle.std.proofs.Math.Option.{Option, none, some}
 use Rattle.rules.specs.Numbers.{root_number, first_number, slot_count}
 use Rattle.rules.specs.Ids.{Mapping}
 use Rattle.rules.specs.Tree.{Mount, Node, node_in, nodes_with_mount, without}
@@ -90,7 +89,7 @@ slot_of i k = get_or i.indexes.slots k empty_slot
 
 -- the tag in a slot, or none, which is kept apart from tag 0 (R78, R97)
 abbrev pub tag_in_slot : Slot → Option ℕ
-tag_in_slot s = cond s.held (some s.tag) none
+tag_in_slot s = cond s.held (Some s.tag) None
 
 -- the tag in the slot of an index, or none
 abbrev pub tag_of : Instance → ℕ → Option ℕ
@@ -116,8 +115,8 @@ new_indexes = record { slots = replicate slot_count empty_slot; counter = 1 }
 
 -- the mount on a node that was found
 abbrev pub mount_of_found : Option Node → Option Mount
-mount_of_found none = none
-mount_of_found (some n) = n.mount
+mount_of_found None = None
+mount_of_found (Some n) = n.mount
 
 -- the mount on a node; 1 is the root before any node is asked (R52, R53)
 unfoldable pub mount_of_node : Tree → ℕ → Option Mount
@@ -134,7 +133,7 @@ set_mount t x m =
 
 -- a new instance's tree: the root alone, next number 2 (R12, R31)
 abbrev pub new_tree : Tree
-new_tree = record { next = first_number; root = none; nodes = [] }
+new_tree = record { next = first_number; root = None; nodes = [] }
 
 -- the nodes that a mount walk made stand last, and the next number has risen by one for each (R48, R49)
 abbrev pub grown : List Node → Tree → Tree

@@ -4,6 +4,7 @@ pub mod Bytes
 pub mod Utf8
 pub mod Path
 pub mod Numbers
+pub mod Codes
 pub mod Fields
 pub mod Ids
 pub mod Round

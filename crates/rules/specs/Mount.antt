@@ -1,6 +1,5 @@
 -- Mount and restored mount.
-use Rattle.std.specs.Prelude.{ℕ, ◌+◌, Bool, not, ◌&&◌, ◌||◌, List, [], ◌∷◌, length, set, eqb, ltb}
-use Rattle.std.proofs.Math.Option.{Option, none, some}
+use Rattle.std.specs.Prelude.{ℕ, ◌+◌, Bool, not, ◌&&◌, ◌||◌, List, [], ◌∷◌, length, set, eqb, ltb, Option, None, Some}
 use Rattle.rules.specs.Numbers.{max_ino, top_number, TOOLONG, INVAL, INODE, FULL, NOROOM, BADINDEX}
 use Rattle.rules.specs.Utf8.{well_formed}
 use Rattle.rules.specs.Path.{components, rooted, too_long}
@@ -49,8 +48,8 @@ ended_mount i path = mount_of_node (walked_to path i).tree (ended i path)
 
 -- a mount that was there loses its index: its slot is emptied (R56, R76)
 unfoldable pub freed_slots : Option Mount → List Slot → List Slot
-freed_slots none slots = slots
-freed_slots (some m) slots = set slots m.index empty_slot
+freed_slots None slots = slots
+freed_slots (Some m) slots = set slots m.index empty_slot
 
 -- in an instance
 abbrev pub freed : Option Mount → Instance → Instance
@@ -58,8 +57,8 @@ freed m i = with_slots (freed_slots m i.indexes.slots) i
 
 -- the tag that a mount's index holds, whoever put it there (R78)
 unfoldable pub tag_at : Option Mount → Instance → Option ℕ
-tag_at none i = none
-tag_at (some m) i = tag_of i m.index
+tag_at None i = None
+tag_at (Some m) i = tag_of i m.index
 
 -- the mount of a request at an index; the numbers are converted and mapped where they are answered (R77, R108)
 abbrev pub requested_mount : ℕ → Request → Mount
@@ -69,7 +68,7 @@ requested_mount k r = record { index = k; root = r.root; uid = r.uid; gid = r.gi
 unfoldable pub placed : ℕ → Request → ℕ → Instance → Instance
 placed k r x i =
     let j = freed (mount_of_node i.tree x) i in
-    with_slot k (held_by r.tag) (with_tree (set_mount j.tree x (some (requested_mount k r))) j)
+    with_slot k (held_by r.tag) (with_tree (set_mount j.tree x (Some (requested_mount k r))) j)
 
 -- ---- mount
 
@@ -87,8 +86,8 @@ allocated i code a j = record { code = code; answer = a; visits = (allocation i)
 
 -- rows 5 to 8, by what the allocation found: FULL, INVAL, INODE, done (R72 to R79)
 unfoldable pub mount_by_index : Instance → Request → Option ℕ → Outcome
-mount_by_index i r none = allocated i FULL nothing (stepped i)
-mount_by_index i r (some k) =
+mount_by_index i r None = allocated i FULL nothing (stepped i)
+mount_by_index i r (Some k) =
     first_of
     ((not (rooted r.path) ⟹ allocated i INVAL nothing (stepped i))
     ∷ (ltb max_ino r.root ⟹ allocated i INODE nothing (walked_to r.path (stepped i)))

@@ -1,6 +1,5 @@
 -- The numbers of the trade, inode numbers, and the numbers of the refusals.
-use Rattle.std.specs.Prelude.{ℕ, ◌+◌, ◌*◌, ◌-◌, ◌/◌, ◌%◌, ◌^◌, cond, List, ◌∷◌, eqb, ltb}
-use Rattle.std.proofs.Math.Option.{Option, none, some}
+use Rattle.std.specs.Prelude.{ℕ, ◌+◌, ◌*◌, ◌-◌, ◌/◌, ◌%◌, ◌^◌, cond, List, ◌∷◌, eqb, ltb, Option, None, Some}
 
 -- VFS_MAX_INO: the largest node number and the largest backend number (R5)
 abbrev pub max_ino : ℕ
@@ -56,13 +55,13 @@ storage_for n = 512 * n + 8192
 
 -- a number, or 0 where there is none (R16, R47)
 abbrev pub or_zero : Option ℕ → ℕ
-or_zero none = 0
-or_zero (some x) = x
+or_zero None = 0
+or_zero (Some x) = x
 
 -- a number before others, if there is one
 abbrev pub before : Option ℕ → List ℕ → List ℕ
-before none ks = ks
-before (some k) ks = k ∷ ks
+before None ks = ks
+before (Some k) ks = k ∷ ks
 
 -- ---- full inode numbers
 
@@ -72,7 +71,7 @@ full index number = cond (eqb number 0) 0 (index * 2 ^ 56 + number)
 
 -- the conversion; none, which is answered INODE, where the number is above 2^56 − 1; it takes no instance (R7, R24)
 unfoldable pub convert : ℕ → ℕ → Option ℕ
-convert index number = cond (ltb max_ino number) none (some (full index number))
+convert index number = cond (ltb max_ino number) None (Some (full index number))
 
 -- the index of a full number: its top 8 bits (R6)
 unfoldable pub index_of : ℕ → ℕ

@@ -1,6 +1,5 @@
 -- What a call gives, and ordered rows of tests: the first row that applies decides.
-use Rattle.std.specs.Prelude.{ℕ, Bool, cond, List, [], ◌∷◌, length}
-use Rattle.std.proofs.Math.Option.{Option, none}
+use Rattle.std.specs.Prelude.{ℕ, Bool, cond, List, [], ◌∷◌, length, Option, None}
 use Rattle.rules.specs.Instance.{Options, Instance}
 
 -- the values of an answer
@@ -48,15 +47,15 @@ count o = length o.visits
 
 -- refused: every value none, nothing written, everything as it was (R15, R16, R17)
 abbrev pub refused : ℕ → Instance → Outcome
-refused code i = record { code = code; answer = nothing; visits = []; found = none; written = []; after = i }
+refused code i = record { code = code; answer = nothing; visits = []; found = None; written = []; after = i }
 
 -- done, with these values
 abbrev pub says : Answer → Instance → Outcome
-says a i = record { code = 0; answer = a; visits = []; found = none; written = []; after = i }
+says a i = record { code = 0; answer = a; visits = []; found = None; written = []; after = i }
 
 -- done, with bytes laid down, and their number answered (R66, R125)
 abbrev pub writes : List ℕ → Instance → Outcome
-writes bs i = record { code = 0; answer = wrote (length bs); visits = []; found = none; written = bs; after = i }
+writes bs i = record { code = 0; answer = wrote (length bs); visits = []; found = None; written = bs; after = i }
 
 -- ---- rows
 

@@ -1,6 +1,5 @@
 -- Walk: the check of a path, the node that it leads to, and the mount there. Unmount and root query begin with it.
-use Rattle.std.specs.Prelude.{ℕ, Bool, not, ◌||◌, List, [], ◌∷◌}
-use Rattle.std.proofs.Math.Option.{Option, none, some}
+use Rattle.std.specs.Prelude.{ℕ, Bool, not, ◌||◌, List, [], ◌∷◌, Option, None, Some}
 use Rattle.rules.specs.Numbers.{root_number, INVAL}
 use Rattle.rules.specs.Utf8.{well_formed}
 use Rattle.rules.specs.Path.{components, rooted}
@@ -18,8 +17,8 @@ reached i path = walk i.tree.nodes root_number (components 0 path)
 
 -- the mount on the node that was reached
 abbrev pub reached_mount : Instance → Option ℕ → Option Mount
-reached_mount i none = none
-reached_mount i (some x) = mount_of_node i.tree x
+reached_mount i None = None
+reached_mount i (Some x) = mount_of_node i.tree x
 
 -- INVAL, or the node, or none (R46, R47)
 unfoldable pub walk_rule : Instance → List ℕ → Outcome

@@ -1,6 +1,5 @@
 -- Root query: what is mounted where a path leads.
-use Rattle.std.specs.Prelude.{ℕ, List, [], ◌∷◌}
-use Rattle.std.proofs.Math.Option.{Option, none, some}
+use Rattle.std.specs.Prelude.{ℕ, List, [], ◌∷◌, Option, None, Some}
 use Rattle.rules.specs.Numbers.{INVAL, NOTFOUND}
 use Rattle.rules.specs.Tree.{Mount}
 use Rattle.rules.specs.Instance.{Instance, tag_of}
@@ -9,13 +8,13 @@ use Rattle.rules.specs.Reached.{bad_path, reached, reached_mount}
 
 -- a mount whose slot is empty is not found; else tag and index (R103)
 unfoldable pub root_held : Instance → ℕ → Option ℕ → Outcome
-root_held i k none = refused NOTFOUND i
-root_held i k (some t) = says (rootfs (some (t, k))) i
+root_held i k None = refused NOTFOUND i
+root_held i k (Some t) = says (rootfs (Some (t, k))) i
 
 -- no path or no mount is none (R103, R104)
 unfoldable pub root_at : Instance → Option Mount → Outcome
-root_at i none = says (rootfs none) i
-root_at i (some m) = root_held i m.index (tag_of i m.index)
+root_at i None = says (rootfs None) i
+root_at i (Some m) = root_held i m.index (tag_of i m.index)
 
 -- INVAL, none, NOTFOUND, or tag and index (R103)
 unfoldable pub root_rule : Instance → List ℕ → Outcome

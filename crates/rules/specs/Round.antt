@@ -1,6 +1,5 @@
 -- The search for an index: which indexes are met, which of them are visited, and which is found. It goes over a test of "free".
-use Rattle.std.specs.Prelude.{ℕ, zero, suc, ◌+◌, ◌%◌, Bool, cond, not, ◌&&◌, List, [], ◌∷◌, length, eqb}
-use Rattle.std.proofs.Math.Option.{Option, none, some}
+use Rattle.std.specs.Prelude.{ℕ, zero, suc, ◌+◌, ◌%◌, Bool, cond, not, ◌&&◌, List, [], ◌∷◌, length, eqb, Option, None, Some}
 
 -- the index after i: after 255 comes 0 (R80)
 abbrev pub after : ℕ → ℕ
@@ -22,8 +21,8 @@ visited free (i ∷ is) = i ∷ cond (free i) [] (visited free is)
 
 -- the first free one of the indexes met (R81)
 unfoldable pub first_free : (ℕ → Bool) → List ℕ → Option ℕ
-first_free free [] = none
-first_free free (i ∷ is) = cond (free i) (some i) (first_free free is)
+first_free free [] = None
+first_free free (i ∷ is) = cond (free i) (Some i) (first_free free is)
 
 -- an index can be handed out: it is not 0, and not held (R11, R81)
 abbrev pub free_of : (ℕ → Bool) → ℕ → Bool

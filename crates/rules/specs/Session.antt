@@ -1,6 +1,5 @@
 -- A session: a line of text in, a line of text out.
-use Rattle.std.specs.Prelude.{ℕ, zero, suc, ◌+◌, ◌-◌, ◌*◌, ◌/◌, ◌%◌, ◌^◌, Bool, true, false, cond, not, ◌&&◌, ◌||◌, List, [], ◌∷◌, ◌++◌, length, leb, ltb}
-use Rattle.std.proofs.Math.Option.{Option, none, some}
+use Rattle.std.specs.Prelude.{ℕ, zero, suc, ◌+◌, ◌-◌, ◌*◌, ◌/◌, ◌%◌, ◌^◌, Bool, true, false, cond, not, ◌&&◌, ◌||◌, List, [], ◌∷◌, ◌++◌, length, leb, ltb, Option, None, Some}
 use Rattle.rules.specs.Numbers.{max_line, dir_mode, or_zero}
 use Rattle.rules.specs.Bytes.{same, ascii}
 use Rattle.rules.specs.Path.{parts_by, joined_by}
@@ -32,7 +31,7 @@ spelt n (b ∷ s) = spelt (n * 10 + (b - 48)) s
 
 -- a number of so many bits, where it is one (R148, R149)
 unfoldable pub number : ℕ → List ℕ → Option ℕ
-number bits s = cond (not (same s []) && all_digits s && ltb (spelt 0 s) (2 ^ bits)) (some (spelt 0 s)) none
+number bits s = cond (not (same s []) && all_digits s && ltb (spelt 0 s) (2 ^ bits)) (Some (spelt 0 s)) None
 
 -- the decimal digits of a number that has at most k of them, without leading zeros (R152)
 unfoldable pub digits : ℕ → ℕ → List ℕ
@@ -64,21 +63,21 @@ pub data Line : Type 0 where
 -- a mount line, where its three numbers are numbers (R138, R149)
 abbrev pub mount_line : List ℕ → Option ℕ → Option ℕ → Option ℕ → Option Line
 mount_line path tag root largest =
-    onward tag (λ (t : ℕ). onward root (λ (r : ℕ). onward largest (λ (m : ℕ). some (mount path t r m))))
+    onward tag (λ (t : ℕ). onward root (λ (r : ℕ). onward largest (λ (m : ℕ). Some (mount path t r m))))
 
 -- by its fields: mount PATH TAG ROOT MAX, umount PATH, walk PATH, look NODE NAME; TAG has 32 bits, the others 64 (R138 to R141, R147, R149)
 unfoldable pub line_of : List (List ℕ) → Option Line
-line_of [] = none
-line_of (v ∷ []) = none
-line_of (v ∷ p ∷ []) = cond (same v (ascii "umount")) (some (umount p)) (cond (same v (ascii "walk")) (some (walk p)) none)
-line_of (v ∷ x ∷ p ∷ []) = cond (same v (ascii "look")) (onward (number 64 x) (λ (n : ℕ). some (look n p))) none
-line_of (v ∷ a ∷ b ∷ c ∷ []) = none
-line_of (v ∷ p ∷ t ∷ r ∷ m ∷ []) = cond (same v (ascii "mount")) (mount_line p (number 32 t) (number 64 r) (number 64 m)) none
-line_of (v ∷ a ∷ b ∷ c ∷ d ∷ e ∷ fs) = none
+line_of [] = None
+line_of (v ∷ []) = None
+line_of (v ∷ p ∷ []) = cond (same v (ascii "umount")) (Some (umount p)) (cond (same v (ascii "walk")) (Some (walk p)) None)
+line_of (v ∷ x ∷ p ∷ []) = cond (same v (ascii "look")) (onward (number 64 x) (λ (n : ℕ). Some (look n p))) None
+line_of (v ∷ a ∷ b ∷ c ∷ []) = None
+line_of (v ∷ p ∷ t ∷ r ∷ m ∷ []) = cond (same v (ascii "mount")) (mount_line p (number 32 t) (number 64 r) (number 64 m)) None
+line_of (v ∷ a ∷ b ∷ c ∷ d ∷ e ∷ fs) = None
 
 -- over 8,192 bytes, or of another form: none (R145, R150)
 unfoldable pub parsed : List ℕ → Option Line
-parsed s = cond (ltb max_line (length s) || any_empty (words s)) none (line_of (words s))
+parsed s = cond (ltb max_line (length s) || any_empty (words s)) None (line_of (words s))
 
 -- ---- a line out
 
@@ -157,8 +156,8 @@ line_reply i (look x p) = routed i p (rule i (ask (route x))) (rule i (ask (rout
 
 -- a line of no such form answers `?` and changes nothing (R145)
 unfoldable pub answers : Instance → Option Line → Reply
-answers i none = record { text = ascii "?"; instance = i }
-answers i (some l) = line_reply i l
+answers i None = record { text = ascii "?"; instance = i }
+answers i (Some l) = line_reply i l
 
 -- one line in, one line out, and the instance after (R137)
 unfoldable pub reply_to : Instance → List ℕ → Reply

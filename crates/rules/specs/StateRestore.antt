@@ -1,6 +1,5 @@
 -- Save and state restore.
-use Rattle.std.specs.Prelude.{ℕ, ◌+◌, Bool, true, false, not, ◌&&◌, List, [], ◌∷◌, length, eqb, ltb}
-use Rattle.std.proofs.Math.Option.{none}
+use Rattle.std.specs.Prelude.{ℕ, ◌+◌, Bool, true, false, not, ◌&&◌, List, [], ◌∷◌, length, eqb, ltb, None}
 use Rattle.rules.specs.Numbers.{BADSAVE, BADOPT, NOROOM, NOTFRESH, SMALL}
 use Rattle.rules.specs.Tree.{Node, bare, is_none}
 use Rattle.rules.specs.Instance.{Instance}
@@ -47,7 +46,7 @@ state_restored_to s i = record {
   initialized = not (eqb s.options.in_opts 0);
   options = s.options;
   indexes = record { slots = i.indexes.slots; counter = s.counter };
-  tree = record { next = s.next; root = none; nodes = nodes_of_records s.nodes };
+  tree = record { next = s.next; root = None; nodes = nodes_of_records s.nodes };
 }
 
 -- NOTFRESH, BADSAVE, BADOPT, NOROOM, or done; BADMAP is not tested (R128, R130, R131, R133)

@@ -1,6 +1,5 @@
 -- The nodes of the pseudo tree, the walk along a path, and the mount walk, which makes what is missing. All of it for any rows.
-use Rattle.std.specs.Prelude.{ℕ, ◌+◌, Bool, true, false, cond, ◌&&◌, ◌||◌, not, List, [], ◌∷◌, ◌++◌, length, eqb}
-use Rattle.std.proofs.Math.Option.{Option, none, some}
+use Rattle.std.specs.Prelude.{ℕ, ◌+◌, Bool, true, false, cond, ◌&&◌, ◌||◌, not, List, [], ◌∷◌, ◌++◌, length, eqb, Option, None, Some}
 use Rattle.rules.specs.Bytes.{same}
 use Rattle.rules.specs.Numbers.{root_number}
 use Rattle.rules.specs.Path.{Part, Normal, ParentDir}
@@ -22,8 +21,8 @@ pub record Node : Type 0 where
 
 -- there is none
 abbrev pub is_none : {A : Type 0} → Option A → Bool
-is_none none = true
-is_none (some a) = false
+is_none None = true
+is_none (Some a) = false
 
 -- ---- finding: of several nodes that fit, the first is meant
 
@@ -33,13 +32,13 @@ is_child here p n = eqb n.parent here && same n.name p
 
 -- the number of the child of that name: the first in table order (R45)
 unfoldable pub child_in : List Node → ℕ → List ℕ → Option ℕ
-child_in [] here p = none
-child_in (n ∷ ns) here p = cond (is_child here p n) (some n.number) (child_in ns here p)
+child_in [] here p = None
+child_in (n ∷ ns) here p = cond (is_child here p n) (Some n.number) (child_in ns here p)
 
 -- the node of that number: the first in table order (R53)
 unfoldable pub node_in : List Node → ℕ → Option Node
-node_in [] x = none
-node_in (n ∷ ns) x = cond (eqb n.number x) (some n) (node_in ns x)
+node_in [] x = None
+node_in (n ∷ ns) x = cond (eqb n.number x) (Some n) (node_in ns x)
 
 -- the number is the root's, before any row is asked, or a node's (R52, R57)
 unfoldable pub is_known : List Node → ℕ → Bool
@@ -47,8 +46,8 @@ is_known nodes x = eqb x root_number || not (is_none (node_in nodes x))
 
 -- the parent of a node; of none it is the root (R54)
 abbrev pub parent_of : Option Node → ℕ
-parent_of none = root_number
-parent_of (some n) = n.parent
+parent_of None = root_number
+parent_of (Some n) = n.parent
 
 -- the parent's number, also where that parent was removed (R58, R102); of the root (R12, R39, R52) and of a number that is no node (R54) it is the root's
 unfoldable pub parent_in : List Node → ℕ → ℕ
@@ -63,12 +62,12 @@ children_in (n ∷ ns) x = cond (eqb n.parent x) (n ∷ children_in ns x) (child
 
 -- none stays none
 abbrev pub onward : {A B : Type 0} → Option A → (A → Option B) → Option B
-onward none f = none
-onward (some a) f = f a
+onward None f = None
+onward (Some a) f = f a
 
 -- from a node on, one component after another, to the node where it ends; a missing name answers none (R39, R46, R47, R55)
 unfoldable pub walk : List Node → ℕ → List Part → Option ℕ
-walk nodes here [] = some here
+walk nodes here [] = Some here
 walk nodes here (ParentDir at ∷ ps) = walk nodes (parent_in nodes here) ps
 walk nodes here (Normal at p ∷ ps) = onward (child_in nodes here p) (λ (x : ℕ). walk nodes x ps)
 
@@ -81,12 +80,12 @@ pub record Made : Type 0 where
 
 -- a new node has no mount (R48)
 abbrev pub bare : ℕ → ℕ → List ℕ → Node
-bare x parent p = record { number = x; parent = parent; name = p; mount = none }
+bare x parent p = record { number = x; parent = parent; name = p; mount = None }
 
 -- the child that was found, or a new node with the next number, last of all (R48, R49)
 abbrev pub or_make : ℕ → Made → List ℕ → Option ℕ → Made
-or_make next m p (some x) = record { nodes = m.nodes; here = x }
-or_make next m p none =
+or_make next m p (Some x) = record { nodes = m.nodes; here = x }
+or_make next m p None =
     let x = next + length m.nodes in
     record { nodes = m.nodes ++ (bare x m.here p ∷ []); here = x }
 

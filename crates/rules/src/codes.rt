@@ -1,29 +1,36 @@
-// The numbers of the answers (R15).
+// Why a call is refused, and the numbers of the answers (R15).
+ghost use Rattle.std.specs.Prelude.{◌≡◌};
+ghost use Rattle.rules.specs.Codes.{code_of};
 
+// The number of an answer that is done.
 pub const DONE: u32 = 0;
 
-pub const NOENT: u32 = 1;
+// Why a call is refused: each refusal by its number.
+#[derive(Clone, Copy, Debug, PartialEq, Eq)]
+pub enum VfsError {
+    NoEnt = 1,
+    Inval = 2,
+    TooLong = 3,
+    Inode = 4,
+    Full = 5,
+    NoRoom = 6,
+    NotFound = 7,
+    BadIndex = 8,
+    BadMap = 9,
+    BadSave = 10,
+    NotFresh = 11,
+    Small = 12,
+    BadOpt = 13,
+}
 
-pub const INVAL: u32 = 2;
+// What a call answers that may be refused.
+pub type VfsResult<T> = Result<T, VfsError>;
 
-pub const TOOLONG: u32 = 3;
-
-pub const INODE: u32 = 4;
-
-pub const FULL: u32 = 5;
-
-pub const NOROOM: u32 = 6;
-
-pub const NOTFOUND: u32 = 7;
-
-pub const BADINDEX: u32 = 8;
-
-pub const BADMAP: u32 = 9;
-
-pub const BADSAVE: u32 = 10;
-
-pub const NOTFRESH: u32 = 11;
-
-pub const SMALL: u32 = 12;
-
-pub const BADOPT: u32 = 13;
+impl VfsError {
+    // The number of the refusal (R15).
+    pub fn code(self) -> u32
+        ensures { result ≡ code_of self }
+    {
+        self as u32
+    }
+}

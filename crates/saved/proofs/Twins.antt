@@ -1,34 +1,33 @@
 -- Records with one parent and equal names have one key. Assumes nothing.
-use Rattle.std.proofs.Common.{◌≡◌, ℕ, ◌+◌, ◌-◌, ◌%◌, ◌^◌, true, false, eqb, List, ◌++◌, length, sym, ap, ◌∙◌, ap₂, arith, eq-eqb, ne_eqb, eqb-true}
-use mathlib.Core.Bool.{and-false}
+use Rattle.std.proofs.Common.{◌≡◌, ℕ, ◌+◌, ◌-◌, ◌%◌, ◌^◌, true, false, eqb, List, [], ◌∷◌, ◌++◌, length, refl, sym, ap, ◌∙◌, ap₂, arith, eq-eqb, eqb-true}
+use Rattle.std.specs.Cmp.Lexicographic.{pointwise}
 use Rattle.rules.specs.Bytes.{Bytes, same}
 use Rattle.rules.specs.Fields.{read, value, bytes_of, get}
 use Rattle.rules.specs.Saved.{name_length, name_start, saved_node_at, behind}
 use Rattle.rules.proofs.Tests.{untrue, and_both}
-use Rattle.rules.proofs.Same.{same_eq, same_length}
+use Rattle.rules.proofs.Same.{same_eq}
 use Rattle.rules.proofs.Fields.{length_read, read_add, bytes_back}
 use Rattle.le.proofs.Lens.{read_part}
 use Rattle.saved.specs.Scan.{twin}
-use Rattle.saved.specs.Columns.{key_at}
+use Rattle.saved.specs.Kept.{key_at}
 
--- ---- the tests of `is_twin`
+-- ---- the test of `is_twin`
 
-module _ (b : List ℕ) (p q : ℕ) where
-  pub other_parent : ((saved_node_at b p).parent ≡ (saved_node_at b q).parent → ⊥) → twin (saved_node_at b p) (saved_node_at b q) ≡ false
+same_is : (xs ys : List ℕ) → pointwise eqb xs ys ≡ same xs ys
+unfolding same
+same_is [] [] = refl
+same_is [] (y ∷ ys) = refl
+same_is (x ∷ xs) [] = refl
+same_is (x ∷ xs) (y ∷ ys) = rw (same_is xs ys)
+
+module _ (b : List ℕ) (p q x y : ℕ) (e : x ≡ (saved_node_at b p).parent) (f : y ≡ (saved_node_at b q).parent) where
+  pub other_parent : eqb x y ≡ false → false ≡ twin (saved_node_at b p) (saved_node_at b q)
   unfolding twin
-  other_parent h = rw (ne_eqb (saved_node_at b p).parent (saved_node_at b q).parent h)
+  other_parent h = let g : eqb (saved_node_at b p).parent (saved_node_at b q).parent ≡ false = rw (← e, ← f) h in rw g
 
-  pub other_length : (name_length b p ≡ name_length b q → ⊥) → twin (saved_node_at b p) (saved_node_at b q) ≡ false
-  unfolding twin saved_node_at
-  other_length h =
-      let P : List ℕ = read b (name_start p) (name_length b p) in
-      let Q : List ℕ = read b (name_start q) (name_length b q) in
-      rw (same_length P Q (λ e. h (omega (arith, length_read b (name_start p) (name_length b p), length_read b (name_start q) (name_length b q)))), and-false)
-
-  pub by_name : (saved_node_at b p).parent ≡ (saved_node_at b q).parent → (len : ℕ) → len ≡ name_length b q → name_length b p ≡ len
-      → same (read b (name_start p) len) (read b (name_start q) len) ≡ twin (saved_node_at b p) (saved_node_at b q)
-  unfolding twin saved_node_at
-  by_name e len l m = rw (eq-eqb (get 8 b (p + 8)) (get 8 b (q + 8)) e, m, ← l)
+  pub by_name : x ≡ y → (m n : List ℕ) → m ≡ (saved_node_at b p).name → n ≡ (saved_node_at b q).name → pointwise eqb m n ≡ twin (saved_node_at b p) (saved_node_at b q)
+  unfolding twin
+  by_name h m n k l = rw (eq-eqb (saved_node_at b p).parent (saved_node_at b q).parent (sym e ∙ h ∙ f), k, l) (same_is (saved_node_at b p).name (saved_node_at b q).name)
 
 -- ---- the key
 

@@ -1,12 +1,13 @@
 -- A walk over the records: where each starts, which stand before it, and what they say of one record. Assumes nothing.
-use Rattle.std.proofs.Common.{◌≡◌, ℕ, zero, suc, ◌+◌, ◌-◌, ◌<◌, ◌≤◌, Bool, true, false, not, eqb, List, [], ◌∷◌, get_or, sym, refl, ap, ◌∙◌, add-zero, add-suc, zero-add, add-one, arith, eq-eqb, ne_eqb, eqb-true}
+use Rattle.std.proofs.Common.{◌≡◌, ℕ, zero, suc, ◌+◌, ◌-◌, ◌<◌, ◌≤◌, Bool, true, false, not, ◌||◌, eqb, List, [], ◌∷◌, length, get_or, refl, sym, ap, ◌∙◌, add-zero, add-suc, zero-add, add-one, arith, eqb-true}
 use mathlib.Core.Bool.{and-true, or-true}
-use native.Mathlib.Nat.{sub-zero}
+use Rattle.std.proofs.Math.Bool.{or_comm}
 use Rattle.rules.specs.Tests.{every}
 use Rattle.rules.specs.Saved.{SavedNode, saved_node_at, behind, saved_nodes_at, end_at, present, used}
 use Rattle.rules.proofs.Tests.{passed, fails}
+use Rattle.std.specs.List.{list_all, enumerate_from}
+use Rattle.saved_parts.specs.Starts.{places_at}
 use Rattle.saved.specs.Scan.{start_of, earlier, sound_to, twin, well_placed, all_placed}
-use Rattle.saved.specs.Columns.{Column, listed}
 
 -- ---- where records start
 
@@ -28,7 +29,7 @@ starts_up b j i h =
 pub within : (b : List ℕ) (i j p : ℕ) → p ≡ start_of b j → j < i → behind b p ≤ start_of b i
 within b i j p e h = omega (arith, start_next b j p e, starts_up b (j + 1) i (omega arith))
 
-ends_start : (b : List ℕ) (k i : ℕ) → end_at b k (start_of b i) ≡ start_of b (i + k)
+pub ends_start : (b : List ℕ) (k i : ℕ) → end_at b k (start_of b i) ≡ start_of b (i + k)
 unfolding end_at start_of
 ends_start b zero i = rw add-zero
 ends_start b (suc k) i =
@@ -50,13 +51,9 @@ earlier_next b j p e = rw (add-one, e)
 
 -- going up: one more is passed
 module _ (b : List ℕ) (n : SavedNode) (j p : ℕ) (e : p ≡ start_of b j) where
-  pub present_here : (saved_node_at b p).number ≡ n.parent → present n.parent (earlier b (j + 1)) ≡ true
+  pub present_next : present n.parent (earlier b (j + 1)) ≡ (present n.parent (earlier b j) || eqb (saved_node_at b p).number n.parent)
   unfolding present
-  present_here h = rw (earlier_next b j p e, eq-eqb (saved_node_at b p).number n.parent h)
-
-  pub present_on : ((saved_node_at b p).number ≡ n.parent → ⊥) → present n.parent (earlier b (j + 1)) ≡ present n.parent (earlier b j)
-  unfolding present
-  present_on h = rw (earlier_next b j p e, ne_eqb (saved_node_at b p).number n.parent h)
+  present_next = rw (earlier_next b j p e) (or_comm (eqb (saved_node_at b p).number n.parent) (present n.parent (earlier b j)))
 
   used_here : twin (saved_node_at b p) n ≡ true → used n.parent n.name (earlier b (j + 1)) ≡ true
   unfolding used twin
@@ -75,15 +72,6 @@ pub used_among : (b : List ℕ) (n : SavedNode) (i j p : ℕ) → p ≡ start_of
 used_among b n i j p e h t =
     let s : j + 1 + (i - (j + 1)) ≡ i = omega arith in
     rw s at (used_stays b n.parent n.name (j + 1) (i - (j + 1)) (used_here b n j p e t))
-
--- going down: the last of the first j is passed
-module _ (b : List ℕ) (n : SavedNode) where
-  pub used_down : (j m p : ℕ) → j ≡ m + 1 → p ≡ start_of b m → twin (saved_node_at b p) n ≡ false → used n.parent n.name (earlier b j) ≡ used n.parent n.name (earlier b m)
-  used_down j m p e q t = rw e (used_on b n m p q t)
-
-  pub used_none : (j : ℕ) → j ≡ 0 → used n.parent n.name (earlier b j) ≡ false
-  unfolding used earlier
-  used_none j e = rw e
 
 -- ---- a record is placed, or not
 
@@ -110,52 +98,70 @@ scanned b n i j found h g f u =
     let s : i ≡ j = omega arith in
     rw s (f ∙ if_present (earlier b j) n u)
 
--- ---- all records, of which i of `count` are passed
+-- ---- all records, by their places
 
-module _ (b : List ℕ) (count at i : ℕ) where
-  pub all_bad : i < count → well_placed (earlier b i) (saved_node_at b at) ≡ false → all_placed (earlier b i) (saved_nodes_at b (count - i) at) ≡ false
-  unfolding all_placed saved_nodes_at
-  all_bad h g =
-      let left : count - i ≡ suc (count - (i + 1)) = omega arith in
-      rw (left, g)
+module _ (b : List ℕ) where
+  -- the test of `are_all_placed`
+  abbrev pub placed : ℕ × ℕ → Bool
+  placed p = well_placed (earlier b p.0) (saved_node_at b p.1)
 
-  pub all_on : i < count → at ≡ start_of b i → well_placed (earlier b i) (saved_node_at b at) ≡ true → (end : ℕ) → end ≡ behind b at
-      → all_placed (earlier b i) (saved_nodes_at b (count - i) at) ≡ all_placed (earlier b (i + 1)) (saved_nodes_at b (count - (i + 1)) end)
-  unfolding all_placed saved_nodes_at
-  all_on h e g end q =
-      let left : count - i ≡ suc (count - (i + 1)) = omega arith in
-      rw (left, g, earlier_next b i at e, q)
+  -- the places of k records from record i on, each with how many stand before it
+  abbrev pub numbered : ℕ → ℕ → List (ℕ × ℕ)
+  numbered k i = enumerate_from i (places_at b k (start_of b i))
 
-  pub all_done : count ≤ i → all_placed (earlier b i) (saved_nodes_at b (count - i) at) ≡ true
-  unfolding all_placed saved_nodes_at
-  all_done h =
-      let z : count - i ≡ 0 = omega arith in
-      rw z
+  all_from : (k i : ℕ) → list_all placed (numbered k i) ≡ all_placed (earlier b i) (saved_nodes_at b k (start_of b i))
+  unfolding places_at saved_nodes_at all_placed earlier start_of
+  all_from zero i = refl
+  all_from (suc k) i = rw (add-one, all_from k (suc i))
 
-pub all_start : (b : List ℕ) (count : ℕ) → all_placed (earlier b 0) (saved_nodes_at b (count - 0) 0) ≡ all_placed [] (saved_nodes_at b count 0)
-unfolding earlier
-all_start b count = rw sub-zero
+  pub all_by : (count : ℕ) → list_all placed (enumerate_from 0 (places_at b count 0)) ≡ all_placed [] (saved_nodes_at b count 0)
+  unfolding earlier start_of
+  all_by count = all_from count 0
 
--- ---- a column of numbers, from the last of the first j down
+  numbered_at : (k i j : ℕ) (d : ℕ × ℕ) → j < k → get_or (numbered k i) j d ≡ (i + j, start_of b (i + j))
+  unfolding places_at start_of
+  numbered_at zero i j d h = absurd (omega arith)
+  numbered_at (suc k) i zero d h = rw add-zero
+  numbered_at (suc k) i (suc j) d h = let e : suc i + j ≡ i + suc j = omega arith in rw add-one (rw e at (numbered_at k (suc i) j d (omega arith)))
 
-module _ (c : List ℕ) (x : ℕ) where
-  pub listed_here : (j m : ℕ) → j ≡ m + 1 → get_or c m 0 ≡ x → listed x c j ≡ true
-  unfolding listed
-  listed_here j m e h = rw (e, add-one, eq-eqb (get_or c m 0) x h)
+  numbered_length : (k i : ℕ) → length (numbered k i) ≡ k
+  unfolding places_at start_of
+  numbered_length zero i = refl
+  numbered_length (suc k) i = rw add-one (ap suc (numbered_length k (suc i)))
 
-  pub listed_on : (j m : ℕ) → j ≡ m + 1 → (get_or c m 0 ≡ x → ⊥) → listed x c j ≡ listed x c m
-  unfolding listed
-  listed_on j m e h = rw (e, add-one, ne_eqb (get_or c m 0) x h)
+  -- the same, of the places alone
+  place_at : (k i j d : ℕ) → j < k → get_or (places_at b k (start_of b i)) j d ≡ start_of b (i + j)
+  unfolding places_at start_of
+  place_at zero i j d h = absurd (omega arith)
+  place_at (suc k) i zero d h = rw add-zero
+  place_at (suc k) i (suc j) d h = let e : suc i + j ≡ i + suc j = omega arith in rw e at (place_at k (suc i) j d (omega arith))
 
-  pub listed_none : (j : ℕ) → j ≡ 0 → listed x c j ≡ eqb x 1
-  unfolding listed
-  listed_none j e = rw e
+  pub places_length : (k at : ℕ) → length (places_at b k at) ≡ k
+  unfolding places_at
+  places_length zero at = refl
+  places_length (suc k) at = ap suc (places_length k (behind b at))
 
-  listed_present : (b : List ℕ) (i : ℕ) → Column (λ (j : ℕ). (saved_node_at b (start_of b j)).number) i c → listed x c i ≡ present x (earlier b i)
-  unfolding listed present earlier
-  listed_present b zero h = refl
-  listed_present b (suc i) h = rw (h i (omega arith), listed_present b i (λ j l. h j (omega arith)))
+  -- a turn of a `for` over the first k: the place is that of the next record
+  pub turn : (k j p : ℕ) → (j < length (places_at b k 0)) × (p ≡ get_or (places_at b k 0) j p) → (j < k) × (p ≡ start_of b j)
+  unfolding start_of
+  turn k j p t =
+      let l = places_length k 0 in
+      let h : j < k = omega (arith, t.0) in
+      (h, t.1 ∙ place_at k 0 j p h ∙ ap (start_of b) (zero-add j))
 
--- the answer of a search of the numbers, for the parent that was read
-pub present_by : (c b : List ℕ) (i p x : ℕ) (r : Bool) → Column (λ (j : ℕ). (saved_node_at b (start_of b j)).number) i c → p ≡ x → r ≡ listed p c i → present x (earlier b i) ≡ r
-present_by c b i p x r h e f = sym (f ∙ ap (λ (y : ℕ). listed y c i) e ∙ listed_present c x b i h)
+  -- and its end
+  pub last_turn : (k j : ℕ) → j ≡ length (places_at b k 0) → j ≡ k
+  last_turn k j e = e ∙ places_length k 0
+
+  -- a turn of such a `for` that counts
+  pub numbered_turn : (k i at j : ℕ) → j < length (enumerate_from 0 (places_at b k 0)) → (i, at) ≡ get_or (enumerate_from 0 (places_at b k 0)) j (i, at) → (i < k) × (at ≡ start_of b i)
+  unfolding start_of
+  numbered_turn k i at j h e =
+      let l = numbered_length k 0 in
+      let q : (i, at) ≡ (0 + j, start_of b (0 + j)) = e ∙ numbered_at k 0 j (i, at) (omega arith) in
+      let n : i ≡ j = ap (λ (p : ℕ × ℕ). p.0) q ∙ zero-add j in
+      (omega arith, ap (λ (p : ℕ × ℕ). p.1) q ∙ ap (start_of b) (zero-add j ∙ sym n))
+
+  pub first_whole : (k : ℕ) → start_of b k ≤ length b → end_at b k 0 ≤ length b
+  unfolding start_of
+  first_whole k h = omega (arith, ends_start b k 0, ap (start_of b) (zero-add k))

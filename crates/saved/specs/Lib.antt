@@ -1,3 +1,3 @@
 -- What the contracts say besides the rules: saved bytes walked record by record.
 pub mod Scan
-pub mod Columns
+pub mod Kept

@@ -1,16 +1,26 @@
 -- The fields of each part, as the code reads them: at places that it reckons, and two of them as one number. Assumes nothing.
-use mathlib.Core.Path.{◌≡◌, ap, ◌∙◌}
+use mathlib.Core.Path.{◌≡◌, sym, ap, ◌∙◌}
 use mathlib.Core.List.{List}
-use Prim.Native.Nat.{ℕ, ◌+◌, ◌*◌, ◌/◌, ◌^◌, ◌≤◌}
+use Prim.Native.Nat.{ℕ, ◌+◌, ◌-◌, ◌*◌, ◌/◌, ◌^◌, ◌≤◌}
 use native.Mathlib.Omega.{arith}
-use lib.ListN.{length}
+use lib.ListN.{length, take, drop}
 use Rattle.rules.specs.Bytes.{Bytes}
 use Rattle.rules.specs.Fields.{get, row_length, field_at}
-use Rattle.rules.specs.Saved.{options_row, saved_in_opts_field, saved_out_opts_field, saved_internal_field, saved_external_field, saved_range_field, saved_flags_field, saved_zeros_field, trailer_row, trailer_version_field, trailer_zeros_field, tail_length, saved_options_at, options_start, trailer_start, options_field, trailer_field}
+use Rattle.rules.specs.Saved.{options_row, saved_in_opts_field, saved_out_opts_field, saved_internal_field, saved_external_field, saved_range_field, saved_flags_field, saved_zeros_field, trailer_row, trailer_version_field, trailer_zeros_field, tail_length, name_length, name_start, saved_node_at, behind, saved_options_at, options_start, trailer_start, options_field, trailer_field}
+use Rattle.rules.proofs.Fields.{read_slice}
 use Rattle.rules.proofs.Encoded.{options_start_lem, trailer_start_lem}
 use Rattle.le.proofs.Lens.{get_add, get_split}
 use Rattle.vfs_options.specs.declared.VfsOptions.{VfsOptions}
 use Rattle.vfs_options.specs.Given.{options_in}
+
+-- ---- a record
+
+-- its name, as the part of the bytes that is passed on
+pub name_is : (b : List ℕ) (at end : ℕ) → end ≡ behind b at → behind b at ≤ length b → take (end - (name_start at)) (drop (name_start at) b) ≡ (saved_node_at b at).name
+unfolding saved_node_at
+name_is b at end e h =
+    let d : end - (name_start at) ≡ name_length b at = omega arith in
+    rw d (sym (read_slice b (name_start at) (name_length b at) (omega arith)))
 
 -- ---- the options
 

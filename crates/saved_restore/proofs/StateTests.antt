@@ -1,44 +1,34 @@
 -- What the tests of a state restore say, and what one record writes. Assumes nothing.
 use mathlib.Core.Path.{◌≡◌, refl, sym, ap, ◌∙◌}
-use mathlib.Core.Bool.{Bool, true, false, and-false}
+use mathlib.Core.Bool.{Bool, true, false}
+use Rattle.std.specs.Prelude.{Option, Some, None, is_some, not}
 use mathlib.Core.Logic.{⊎_elim}
 use mathlib.Core.List.{List, [], ◌∷◌}
-use Prim.Native.Nat.{ℕ, ◌+◌, ◌-◌, ◌≤◌, ◌<◌}
+use Prim.Native.Nat.{ℕ, ◌+◌, ◌≤◌, ◌<◌}
 use native.Mathlib.Omega.{arith}
-use lib.ListN.{length, take, drop}
+use lib.ListN.{length}
 use lib.Dec.{leb, ltb}
-use borrow.Author.Tests.{eq-eqb, ne_eqb, le-leb, lt-leb, lt-ltb, le-ltb}
+use borrow.Author.Tests.{le-leb, lt-leb, lt-ltb, le-ltb}
 use Rattle.le.specs.Mem.{get, put}
 use Rattle.rules.specs.Tree.{Node, is_none}
 use Rattle.rules.specs.Create.{unknown}
-use Rattle.rules.specs.Saved.{name_start, saved_node_at, behind, saved_options_at, options_start, saved_records, saved_next, saved_counter, state_of}
+use Rattle.rules.specs.Saved.{saved_node_at, saved_options_at, options_start, saved_records, saved_next, saved_counter, state_of}
 use Rattle.rules.specs.StateRestore.{no_nodes, fresh}
 use Rattle.rules.proofs.Tests.{le_or_lt}
 use Rattle.vfs_options.specs.declared.VfsOptions.{VfsOptions}
 use Rattle.vfs_options.specs.Given.{options_in}
-use Rattle.saved.proofs.Naming.{name_is}
 use Rattle.tables.specs.Table.{row}
 use Rattle.tables.specs.Layout.{capacity_of, count_of}
 use Rattle.tables.specs.View.{nodes_of, view}
 use Rattle.tables.specs.Laid.{laid}
-use Rattle.tables.specs.Write.{yes_byte, set_next, append_node}
+use Rattle.tables.specs.Write.{set_next, append_node}
 use Rattle.tables.specs.Answer.{mount_in}
 use Rattle.tables.specs.declared.mounts.MountPoint.{MountPoint}
-use Rattle.tables.specs.declared.mounts.MountOn.{MountOn}
-use Rattle.tables.specs.declared.mounts.MountOn.TheVariants.{Point, Nothing}
 use Rattle.tables.proofs.Writes.{put_next}
 use Rattle.tables.proofs.RowOf.{nodes_count}
-use Rattle.saved_restore.specs.Parts.{has_bits, Loads, load_node, load_nodes, set_state, state_mem}
+use Rattle.saved_restore.specs.Parts.{Loads, load_node, load_nodes, set_state, state_mem}
 use Rattle.saved_restore.proofs.Records.{count_is}
 use Rattle.saved_restore.proofs.Loads.{Ready, ready}
-
--- ---- the byte of `initialized`
-
-pub no_bits : (bits : ℕ) → bits ≡ 0 → 0 ≡ yes_byte (has_bits bits)
-no_bits bits e = rw (eq-eqb bits 0 e)
-
-pub some_bits : (bits : ℕ) → (bits ≡ 0 → ⊥) → 1 ≡ yes_byte (has_bits bits)
-some_bits bits h = rw (ne_eqb bits 0 h)
 
 -- ---- fresh
 
@@ -52,23 +42,20 @@ unfolding no_nodes
 none_there [] h = refl
 none_there (n ∷ ns) h = absurd (omega arith)
 
+bare : (r : Option MountPoint) (x : Bool) → is_some r ≡ not x → x ≡ is_none (mount_in r)
+bare None true e = refl
+bare None false e = e
+bare (Some m) true e = e
+bare (Some m) false e = refl
+
 module _ (mem : List ℕ) where
-  pub has_nodes : 0 < count_of mem → false ≡ fresh (view mem)
+  pub has_nodes : (count_of mem ≡ 0 → ⊥) → false ≡ fresh (view mem)
   unfolding fresh view
   has_nodes h = rw (some_nodes (nodes_of mem) (omega (arith, nodes_count mem)))
 
-  module _ (r : MountOn) (is : mount_in r ≡ (view mem).tree.root) where
-    pub root_mounted : (m : MountPoint) → r ≡ Point m → false ≡ fresh (view mem)
-    unfolding fresh mount_in
-    root_mounted m e =
-        let z : is_none (view mem).tree.root ≡ false = ap is_none (sym is ∙ ap mount_in e) in
-        rw (z, and-false)
-
-    pub root_bare : r ≡ Nothing → count_of mem ≤ 0 → true ≡ fresh (view mem)
-    unfolding fresh mount_in view
-    root_bare e h =
-        let z : is_none (view mem).tree.root ≡ true = ap is_none (sym is ∙ ap mount_in e) in
-        rw (none_there (nodes_of mem) (omega (arith, nodes_count mem)), z)
+  pub root_decides : count_of mem ≡ 0 → (r : Option MountPoint) (x : Bool) → mount_in r ≡ (view mem).tree.root → is_some r ≡ not x → x ≡ fresh (view mem)
+  unfolding fresh view
+  root_decides e r x is f = rw (none_there (nodes_of mem) (omega (arith, nodes_count mem))) (bare r x f ∙ ap is_none is)
 
 -- ---- the mask, and room
 
@@ -93,15 +80,10 @@ module _ (mem b : List ℕ) (at x : ℕ) (m' : List ℕ) (i : x ≡ (saved_node_
   pub set_ready : laid mem ≡ true → count_of mem + 1 < capacity_of mem → Loads (saved_node_at b at) → Ready m'
   set_ready k room f = rw set_is (ready (saved_node_at b at) mem k f room)
 
-  pub record_put : (end parent : ℕ) (after : List ℕ) → end ≡ behind b at → behind b at ≤ length b → parent ≡ (saved_node_at b at).parent
-      → after ≡ append_node parent (take (end - (name_start at)) (drop (name_start at) b)) m' → after ≡ load_node (saved_node_at b at) mem
+  pub record_put : (parent : ℕ) (name : List ℕ) (after : List ℕ) → parent ≡ (saved_node_at b at).parent → name ≡ (saved_node_at b at).name
+      → after ≡ append_node parent name m' → after ≡ load_node (saved_node_at b at) mem
   unfolding load_node
-  record_put end parent after e w a h =
-      let name : take (end - (name_start at)) (drop (name_start at) b) ≡ (saved_node_at b at).name = name_is b at end e w in
-      h ∙ (λ t. append_node (a t) (name t) (set_is t))
-
-pub short_name : (b : List ℕ) (at end : ℕ) → end ≡ behind b at → behind b at ≤ length b → Loads (saved_node_at b at) → length (take (end - (name_start at)) (drop (name_start at) b)) ≤ 255
-short_name b at end e w f = rw (name_is b at end e w) f.short
+  record_put parent name after a n h = h ∙ (λ t. append_node (a t) (n t) (set_is t))
 
 -- ---- all of it
 

@@ -95,7 +95,7 @@ sized_start mem c l e = record {
 }
 
 module _ (mem : List ℕ) (c size i : ℕ) (s : Sized mem c size i) where
-  pub sized_on : i < c → (l : ℕ) → l ≡ length (node mem i).name → Sized mem c (size + row_length node_row + l) (i + 1)
+  pub sized_on : i < c → (l : ℕ) → l ≡ length (node mem i).name → Sized mem c (size + (row_length node_row + l)) (i + 1)
   sized_on h l e = record {
     rows = omega arith;
     most = s.most;

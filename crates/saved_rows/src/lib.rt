@@ -20,12 +20,9 @@ pub fn records_size(s: &[u8]) -> usize
     requires { Bounds s.now }
     ensures { Sizes s.now result }
 {
-    let c = tables::header::count(s);
     let mut size = 0;
-    let mut i = 0;
-    while i < c {
-        size = size + RECORD + name_len(s, i);
-        i += 1;
+    for i in 0..tables::header::count(s) {
+        size += RECORD + name_len(s, i);
     }
     size
 }
@@ -49,13 +46,9 @@ pub fn put_records(s: &[u8], out: &mut [u8])
     requires s_in_bounds { length (nodes_bytes (saved_nodes (nodes_of s.now))) ≤ length out.old }
     ensures { out.new ≡ write out.old 0 (nodes_bytes (saved_nodes (nodes_of s.now))) }
 {
-    let c = tables::header::count(s);
     let mut at = 0;
-    let mut i = 0;
-    while i < c {
-        let n = put_record(s, i, &mut out[at..]);
-        at += n;
-        i += 1;
+    for i in 0..tables::header::count(s) {
+        at += put_record(s, i, &mut out[at..]);
     }
 }
 
@@ -65,6 +58,5 @@ pub fn put_options(s: &[u8], out: &mut [u8], at: usize)
     requires options_row_in_bounds { at + row_length options_row ≤ length out.old }
     ensures { out.new ≡ write out.old at (options_bytes (options_from (head_of s.now))) }
 {
-    let o = storage::inner::options_in(s);
-    saved_parts::options::put_options(out, at, o);
+    saved_parts::options::put_options(out, at, storage::inner::options_in(s));
 }

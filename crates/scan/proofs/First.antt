@@ -7,6 +7,9 @@ use native.Mathlib.Nat.{zero-add}
 use native.Mathlib.Omega.{arith}
 use borrow.Author.Tests.{eq-eqb, ne_eqb}
 use lib.Bits.{bit_and}
+use Rattle.std.specs.Prelude.{Option, None, Some}
+use Rattle.std.specs.Option.{option_or}
+use Rattle.std.proofs.lemmas.Option.{none-some, same_Some}
 use Rattle.rules.proofs.Tests.{or_neither}
 use Rattle.le.specs.Mem.{get}
 use Rattle.scan.specs.First.{cell_is, any_of, first_place}
@@ -59,15 +62,27 @@ module _ (f : ℕ → Bool) (i : ℕ) where
 
 -- ---- the first
 
--- places where the test fails are passed over
-first_skip : (f : ℕ → Bool) (i j k : ℕ) → any_of f i j ≡ false → first_place f i (j + k) ≡ first_place f (i + j) k
+-- j places and then k: the first of them, or else the first of these
+pub first_add : (f : ℕ → Bool) (i j k : ℕ) → first_place f i (j + k) ≡ option_or (first_place f i j) (first_place f (i + j) k)
+unfolding first_place
+first_add f i zero k = let z : zero + k ≡ k = omega arith in let y : i + zero ≡ i = omega arith in rw (z, y)
+first_add f i (suc j) k =
+    let z : suc j + k ≡ suc (j + k) = omega arith in
+    let y : i + 1 + j ≡ i + suc j = omega arith in
+    ap (first_place f i) z ∙ go (f i) _ _ _ (first_add f (i + 1) j k ∙ ap (λ (m : ℕ). option_or (first_place f (i + 1) j) (first_place f m k)) y)
+  where
+    go : (b : Bool) (o p q : Option ℕ) → o ≡ option_or p q → cond b (Some i) o ≡ option_or (cond b (Some i) p) q
+    go true o p q e = refl
+    go false o p q e = e
+
+-- where none was hit there is no first
+pub none_first : (f : ℕ → Bool) (i k : ℕ) → any_of f i k ≡ false → first_place f i k ≡ None
 unfolding any_of first_place
-first_skip f i zero k e = let z : zero + k ≡ k = omega arith in let y : i + zero ≡ i = omega arith in rw (z, y)
-first_skip f i (suc j) k e =
-    let n = or_neither (any_of f i j) (f (i + j)) e in
-    let z : suc j + k ≡ j + suc k = omega arith in
-    let y : i + j + 1 ≡ i + suc j = omega arith in
-    ap (first_place f i) z ∙ first_skip f i j (suc k) n.0 ∙ rw n.1 (ap (λ (m : ℕ). first_place f m k) y)
+none_first f i zero e = refl
+none_first f i (suc k) e =
+    let n = or_neither (any_of f i k) (f (i + k)) e in
+    let z : suc k ≡ k + 1 = omega arith in
+    ap (first_place f i) z ∙ first_add f i k 1 ∙ rw (none_first f i k n.0, n.1)
 
 -- the first from `from` on is the first from i on
 abbrev pub Left : (ℕ → Bool) → ℕ → ℕ → ℕ → Type 0
@@ -77,61 +92,73 @@ module _ (f : ℕ → Bool) (from n : ℕ) where
   pub all_left : from ≤ n → Left f from n from
   all_left h = (h, refl)
 
-  pub here_left : (i : ℕ) → Left f from n i → i < n → f i ≡ true → i ≡ first_place f from (n - from)
+  pub here_left : (i : ℕ) → Left f from n i → i < n → f i ≡ true → Some i ≡ first_place f from (n - from)
   unfolding first_place
   here_left i l h e = let z : n - i ≡ suc (n - (i + 1)) = omega arith in sym (l.1 ∙ ap (first_place f i) z ∙ rw e)
 
+  -- k places without a hit are passed over
+  pub passed_left : (i k : ℕ) → Left f from n i → k ≤ n - i → first_place f i k ≡ None → Left f from n (i + k)
+  passed_left i k l h e =
+      let z : n - i ≡ k + (n - (i + k)) = omega arith in
+      (omega (arith, l.0), l.1 ∙ ap (first_place f i) z ∙ first_add f i k (n - (i + k)) ∙ rw e)
+
   pub on_left : (i : ℕ) → Left f from n i → i < n → f i ≡ false → Left f from n (i + 1)
   unfolding first_place
-  on_left i l h e = let z : n - i ≡ suc (n - (i + 1)) = omega arith in (omega arith, l.1 ∙ ap (first_place f i) z ∙ rw e)
+  on_left i l h e = passed_left i 1 l (omega arith) (rw e)
 
-  pub done_left : (i : ℕ) → Left f from n i → n ≤ i → i ≡ first_place f from (n - from)
+  pub done_left : (i : ℕ) → Left f from n i → n ≤ i → None ≡ first_place f from (n - from)
   unfolding first_place
   done_left i l h = let z : n - i ≡ zero = omega arith in sym (l.1 ∙ ap (first_place f i) z)
 
   pub eight_left : (i : ℕ) → Left f from n i → 8 ≤ n - i → any_of f i 8 ≡ false → Left f from n (i + 8)
-  eight_left i l h e = let z : n - i ≡ 8 + (n - (i + 8)) = omega arith in (omega arith, l.1 ∙ ap (first_place f i) z ∙ first_skip f i 8 (n - (i + 8)) e)
+  eight_left i l h e = passed_left i 8 l h (none_first f i 8 e)
+
+-- of the places before n, those before m come first
+module _ (f : ℕ → Bool) (from m n : ℕ) (h : from ≤ m) (l : m ≤ n) where
+  parts : first_place f from (n - from) ≡ option_or (first_place f from (m - from)) (first_place f m (n - m))
+  parts =
+      let z : n - from ≡ (m - from) + (n - m) = omega arith in
+      let y : from + (m - from) ≡ m = omega arith in
+      ap (first_place f from) z ∙ first_add f from (m - from) (n - m) ∙ ap (λ (j : ℕ). option_or (first_place f from (m - from)) (first_place f j (n - m))) y
+
+  pub part_found : (i : ℕ) → Some i ≡ first_place f from (m - from) → Some i ≡ first_place f from (n - from)
+  part_found i e = sym (parts ∙ rw (← e))
+
+  pub part_none : None ≡ first_place f from (m - from) → first_place f m (n - m) ≡ first_place f from (n - from)
+  part_none e = sym (parts ∙ rw (← e))
 
 -- ---- for callers
 
--- what holds at i, and holds one further on wherever the test fails, holds at the first place
-pub first_passes : (f : ℕ → Bool) (P : ℕ → Type 0) (i k : ℕ) → ((j : ℕ) → j < i + k → f j ≡ false → P j → P (j + 1)) → P i → P (first_place f i k)
+-- what is found is one of the places, and the test holds there
+pub found_holds : (f : ℕ → Bool) (i k r : ℕ) → first_place f i k ≡ Some r → (i ≤ r) × (r < i + k) × (f r ≡ true)
 unfolding first_place
-first_passes f P i zero on p = p
-first_passes f P i (suc k) on p = go (f i) refl (λ q. first_passes f P (i + 1) k (λ j l. on j (omega arith)) q)
+found_holds f i zero r e = absurd (none-some r e)
+found_holds f i (suc k) r e = go (f i) refl e (found_holds f (i + 1) k r)
   where
-    go : (b : Bool) → f i ≡ b → (P (i + 1) → P (first_place f (i + 1) k)) → P (cond b i (first_place f (i + 1) k))
-    go true e r = p
-    go false e r = r (on i (omega arith) e p)
+    go : (b : Bool) → f i ≡ b → cond b (Some i) (first_place f (i + 1) k) ≡ Some r → (first_place f (i + 1) k ≡ Some r → (i + 1 ≤ r) × (r < i + 1 + k) × (f r ≡ true))
+        → (i ≤ r) × (r < i + suc k) × (f r ≡ true)
+    go true t e h = let q = same_Some i r e in (omega (arith, q), omega (arith, q), ap f (sym q) ∙ t)
+    go false t e h = let g = h e in (omega (arith, g.0), omega (arith, g.1), g.2)
 
-pub first_finds : (f : ℕ → Bool) (i k : ℕ) → first_place f i k < i + k → f (first_place f i k) ≡ true
-unfolding first_place
-first_finds f i zero h = absurd (omega arith)
-first_finds f i (suc k) h = go (f i) refl h (first_finds f (i + 1) k)
-  where
-    go : (b : Bool) → f i ≡ b → cond b i (first_place f (i + 1) k) < i + suc k → (first_place f (i + 1) k < i + 1 + k → f (first_place f (i + 1) k) ≡ true)
-        → f (cond b i (first_place f (i + 1) k)) ≡ true
-    go true e l r = e
-    go false e l r = r (omega (arith, l))
+-- what holds at i, and holds one further on wherever the test fails, holds at the place found, or behind all where there is none
+module _ (f : ℕ → Bool) (P : ℕ → Type 0) where
+  pub found_passes : (i k r : ℕ) → first_place f i k ≡ Some r → ((j : ℕ) → j < i + k → f j ≡ false → P j → P (j + 1)) → P i → P r
+  unfolding first_place
+  found_passes i zero r e on p = absurd (none-some r e)
+  found_passes i (suc k) r e on p = go (f i) refl e (λ h q. found_passes (i + 1) k r h (λ j l. on j (omega arith)) q)
+    where
+      go : (b : Bool) → f i ≡ b → cond b (Some i) (first_place f (i + 1) k) ≡ Some r → (first_place f (i + 1) k ≡ Some r → P (i + 1) → P r) → P r
+      go true t e h = rw (← same_Some i r e) p
+      go false t e h = h e (on i (omega arith) t p)
 
-pub first_after : (f : ℕ → Bool) (i k : ℕ) → i ≤ first_place f i k
-unfolding first_place
-first_after f i zero = omega arith
-first_after f i (suc k) = go (f i) (first_after f (i + 1) k)
-  where
-    go : (b : Bool) → i + 1 ≤ first_place f (i + 1) k → i ≤ cond b i (first_place f (i + 1) k)
-    go true h = omega arith
-    go false h = omega (arith, h)
-
--- i is the first of the places before m: it leaves the first of all, and is that where it is one of them
-module _ (f : ℕ → Bool) (from m n i : ℕ) (e : i ≡ first_place f from (m - from)) (h : from ≤ m) (l : m ≤ n) where
-  pub part_left : Left f from n i
-  part_left = rw e (first_passes f (Left f from n) from (m - from) (λ j k no p. on_left f from n j p (omega arith) no) (all_left f from n (omega arith)))
-
-  pub part_found : i < m → i ≡ first_place f from (n - from)
-  part_found less =
-      let there : first_place f from (m - from) < from + (m - from) = omega arith in
-      here_left f from n i part_left (omega arith) (ap f e ∙ first_finds f from (m - from) there)
+  pub none_passes : (i k : ℕ) → first_place f i k ≡ None → ((j : ℕ) → j < i + k → f j ≡ false → P j → P (j + 1)) → P i → P (i + k)
+  unfolding first_place
+  none_passes i zero e on p = let z : i + zero ≡ i = omega arith in rw z p
+  none_passes i (suc k) e on p = go (f i) refl e (λ h q. none_passes (i + 1) k h (λ j l. on j (omega arith)) q)
+    where
+      go : (b : Bool) → f i ≡ b → cond b (Some i) (first_place f (i + 1) k) ≡ None → (first_place f (i + 1) k ≡ None → P (i + 1) → P (i + 1 + k)) → P (i + suc k)
+      go true t e h = absurd (none-some i (sym e))
+      go false t e h = let z : i + suc k ≡ i + 1 + k = omega arith in rw z (h e (on i (omega arith) t p))
 
 -- ---- one of many
 

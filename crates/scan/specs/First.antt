@@ -1,5 +1,6 @@
 -- Cells of eight bytes in a row, read under a mask, and the first place where a test holds.
-use Rattle.std.specs.Prelude.{ℕ, zero, suc, ◌+◌, ◌*◌, Bool, false, cond, ◌||◌, List, eqb}
+use Rattle.std.specs.Prelude.{ℕ, zero, suc, ◌+◌, ◌*◌, Bool, false, ◌||◌, List, Option, eqb}
+use Rattle.std.specs.List.{find, range_with_len}
 use Rattle.std.specs.Int.Bits.{bit_and}
 use Rattle.le.specs.Mem.{get}
 
@@ -12,7 +13,6 @@ unfoldable pub any_of : (ℕ → Bool) → ℕ → ℕ → Bool
 any_of f i zero = false
 any_of f i (suc k) = any_of f i k || f (i + k)
 
--- the first of the k places from i on where the test holds; i + k where it holds at none
-unfoldable pub first_place : (ℕ → Bool) → ℕ → ℕ → ℕ
-first_place f i zero = i
-first_place f i (suc k) = cond (f i) i (first_place f (i + 1) k)
+-- the first of the k places from i on where the test holds
+unfoldable pub first_place : (ℕ → Bool) → ℕ → ℕ → Option ℕ
+first_place f i k = find f (range_with_len i k)

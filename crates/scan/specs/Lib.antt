@@ -1,3 +1,4 @@
--- What the contracts of this crate say: cells under a mask, the first of them, and the cell of a name.
+-- What the contracts of this crate say: a test of bytes, cells under a mask, the first of them, and the cell of a name.
+pub mod Bytes
 pub mod First
 pub mod Key

@@ -18,24 +18,22 @@ fn any_of_eight(s: &[u8], at: usize, i: usize, mask: u64, x: u64) -> bool
     hit
 }
 
-// The first cell from `from` on that is x under the mask, one by one; n where there is none.
-fn find_by_one(s: &[u8], at: usize, from: usize, n: usize, mask: u64, x: u64) -> usize
+// The first cell from `from` on that is x under the mask, one by one.
+fn find_by_one(s: &[u8], at: usize, from: usize, n: usize, mask: u64, x: u64) -> Option<usize>
     requires n_in_bounds { at + 8 * n ≤ length s.now }
     requires from_le_n { from ≤ n }
     ensures { result ≡ first_place (cell_is s.now at mask x) from (n - from) }
 {
-    let mut i = from;
-    while i < n {
+    for i in from..n {
         if le::fields::get_u64(s, at + 8 * i) & mask == x {
-            return i;
+            return Some(i);
         }
-        i += 1;
     }
-    i
+    None
 }
 
-// The first cell from `from` on that is x under the mask, eight at a time; n where there is none.
-fn find_by_eight(s: &[u8], at: usize, from: usize, n: usize, mask: u64, x: u64) -> usize
+// The first cell from `from` on that is x under the mask, eight at a time.
+fn find_by_eight(s: &[u8], at: usize, from: usize, n: usize, mask: u64, x: u64) -> Option<usize>
     requires n_in_bounds { at + 8 * n ≤ length s.now }
     requires from_le_n { from ≤ n }
     ensures { result ≡ first_place (cell_is s.now at mask x) from (n - from) }
@@ -53,8 +51,8 @@ fn find_by_eight(s: &[u8], at: usize, from: usize, n: usize, mask: u64, x: u64) 
 // The mask under which a cell is compared whole.
 pub const ALL: u64 = u64::MAX;
 
-// The first cell from `from` on that is x under the mask; n where there is none (R45, R53). The eight at `from` are asked one by one: in a short table, and where many fit, the first is near. Where the mask is of all bits, the cells are compared without it.
-pub fn find_cell(s: &[u8], at: usize, from: usize, n: usize, mask: u64, x: u64) -> usize
+// The first cell from `from` on that is x under the mask (R45, R53). The eight at `from` are asked one by one: in a short table, and where many fit, the first is near. Where the mask is of all bits, the cells are compared without it.
+pub fn find_cell(s: &[u8], at: usize, from: usize, n: usize, mask: u64, x: u64) -> Option<usize>
     requires n_in_bounds { at + 8 * n ≤ length s.now }
     requires from_le_n { from ≤ n }
     ensures { result ≡ first_place (cell_is s.now at mask x) from (n - from) }
@@ -62,12 +60,12 @@ pub fn find_cell(s: &[u8], at: usize, from: usize, n: usize, mask: u64, x: u64) 
     if n - from < 8 {
         return find_by_one(s, at, from, n, mask, x);
     }
-    let i = find_by_one(s, at, from, from + 8, mask, x);
-    if i < from + 8 {
-        return i;
+    let near = from + 8;
+    if let Some(i) = find_by_one(s, at, from, near, mask, x) {
+        return Some(i);
     }
     if mask == ALL {
-        return find_by_eight(s, at, i, n, ALL, x);
+        return find_by_eight(s, at, near, n, ALL, x);
     }
-    find_by_eight(s, at, i, n, mask, x)
+    find_by_eight(s, at, near, n, mask, x)
 }

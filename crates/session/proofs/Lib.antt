@@ -1,3 +1,2 @@
--- Laws of what is told of a write, and of where the feeds of a read and the turns of a run have led.
-pub mod Writing
+-- Laws of where the feeds of a read and the turns of a run have led.
 pub mod Feeding

@@ -4,7 +4,7 @@ use native.Mathlib.Omega.{arith}
 use mathlib.Core.Path.{◌≡◌, refl, sym, ap, ◌∙◌}
 use mathlib.Core.Bool.{Bool, true, false, cond, ◌||◌, true≢false}
 use mathlib.Core.List.{List, [], ◌∷◌, ◌++◌}
-use mathlib.Core.Option.{Option, none, some}
+use Rattle.std.specs.Prelude.{Option, None, Some}
 use lib.Dec.{eqb, ltb}
 use borrow.Author.Tests.{ltb-true, ltb-false, ne_eqb}
 use Rattle.rules.specs.Bytes.{holds, ascii}
@@ -91,7 +91,7 @@ module _ (b : ℕ) (no_digit : (n : ℕ) → n < 10 → 48 + n ≡ b → ⊥) (n
   in_says i (walk path) = in_text _
   in_says i (look x p) = in_routed i p _ _
 
-  in_small : (l : Line) → holds b (small_text (some l)) ≡ false
+  in_small : (l : Line) → holds b (small_text (Some l)) ≡ false
   unfolding small_text
   in_small (mount path tag root largest) = in_text _
   in_small (umount path) = in_text _
@@ -106,12 +106,12 @@ in_question = refl
 
 end_in_answers : (i : Instance) (l : Option Line) → holds 10 (answers i l).text ≡ false
 unfolding answers
-end_in_answers i none = in_question
-end_in_answers i (some l) = in_says 10 (λ n h e. omega arith) (λ e. omega arith) (λ e. omega arith) i l
+end_in_answers i None = in_question
+end_in_answers i (Some l) = in_says 10 (λ n h e. omega arith) (λ e. omega arith) (λ e. omega arith) i l
 
 end_in_small : (l : Option Line) → holds 10 (small_text l) ≡ false
-end_in_small none = unfold small_text in in_question
-end_in_small (some l) = in_small 10 (λ n h e. omega arith) (λ e. omega arith) (λ e. omega arith) l
+end_in_small None = unfold small_text in in_question
+end_in_small (Some l) = in_small 10 (λ n h e. omega arith) (λ e. omega arith) (λ e. omega arith) l
 
 pub one_line : OneLine
 unfolding line_text
@@ -130,14 +130,14 @@ question_held = refl
 not_question : (s : List ℕ) → holds 63 s ≡ false → s ≡ ascii "?" → ⊥
 not_question s e f = true≢false (sym question_held ∙ ap (holds 63) (sym f) ∙ e)
 
-no_form : (i : Instance) (l : Option Line) → (answers i l).text ≡ ascii "?" → (l ≡ none) × ((answers i l).instance ≡ i)
+no_form : (i : Instance) (l : Option Line) → (answers i l).text ≡ ascii "?" → (l ≡ None) × ((answers i l).instance ≡ i)
 unfolding answers
-no_form i none e = (refl, refl)
-no_form i (some l) e = absurd (not_question _ (in_says 63 (λ n h f. omega arith) (λ f. omega arith) (λ f. omega arith) i l) e)
+no_form i None e = (refl, refl)
+no_form i (Some l) e = absurd (not_question _ (in_says 63 (λ n h f. omega arith) (λ f. omega arith) (λ f. omega arith) i l) e)
 
-no_form_small : (l : Option Line) → small_text l ≡ ascii "?" → l ≡ none
-no_form_small none e = refl
-no_form_small (some l) e = absurd (not_question _ (in_small 63 (λ n h f. omega arith) (λ f. omega arith) (λ f. omega arith) l) e)
+no_form_small : (l : Option Line) → small_text l ≡ ascii "?" → l ≡ None
+no_form_small None e = refl
+no_form_small (Some l) e = absurd (not_question _ (in_small 63 (λ n h f. omega arith) (λ f. omega arith) (λ f. omega arith) l) e)
 
 pub question_still : QuestionStill
 unfolding reply_to
@@ -149,7 +149,7 @@ question_still_bytes mem line e =
     let n = go (laid mem) e in
     (n, ap (λ (l : Option Line). line_mem l mem) n)
   where
-    go : (t : Bool) → cond t (answers (view mem) (parsed line)).text (small_text (parsed line)) ≡ ascii "?" → parsed line ≡ none
+    go : (t : Bool) → cond t (answers (view mem) (parsed line)).text (small_text (parsed line)) ≡ ascii "?" → parsed line ≡ None
     go true f = (no_form (view mem) (parsed line) f).0
     go false f = no_form_small (parsed line) f
 
@@ -160,11 +160,11 @@ no_form_question mem line e = rw e (question_text mem)
 
 small_line : (mem : List ℕ) (l : Option Line) → laid mem ≡ false → line_mem l mem ≡ mem
 unfolding line_mem mount_mem unmount_mem
-small_line mem none h = refl
-small_line mem (some (mount path tag root largest)) h = rw h
-small_line mem (some (umount path)) h = rw h
-small_line mem (some (walk path)) h = refl
-small_line mem (some (look x p)) h = refl
+small_line mem None h = refl
+small_line mem (Some (mount path tag root largest)) h = rw h
+small_line mem (Some (umount path)) h = rw h
+small_line mem (Some (walk path)) h = refl
+small_line mem (Some (look x p)) h = refl
 
 pub small_still : SmallStill
 small_still mem line h = small_line mem (parsed line) h
@@ -172,5 +172,5 @@ small_still mem line h = small_line mem (parsed line) h
 -- ---- one result
 
 pub one_reply : OneReply
-one_reply mem l was at r q left out after end f g =
-    (f.text.end ∙ sym g.text.end, (f.text.bytes ∙ sym g.text.bytes, f.bytes ∙ sym g.bytes))
+one_reply mem l was left out after end f g =
+    (f.text.wrote.end ∙ sym g.text.wrote.end, (f.text.wrote.bytes ∙ sym g.text.wrote.bytes, f.bytes ∙ sym g.bytes))

@@ -1,7 +1,5 @@
 -- What is proved of a line.
 pub mod Fields
-pub mod Cutting
-pub mod Verbs
-pub mod Formed
+pub mod Forms
 pub mod Replying
 pub mod Claims

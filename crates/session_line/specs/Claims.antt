@@ -1,25 +1,25 @@
 -- What is claimed of every line: a `?` changes nothing, no text has a line end, and the contract allows one result only.
-use Rattle.std.specs.Prelude.{ℕ, false, List, ◌≡◌}
-use Rattle.std.proofs.Math.Option.{Option, none}
+use Rattle.std.specs.Prelude.{ℕ, false, List, ◌≡◌, Option, None}
 use Rattle.rules.specs.Bytes.{holds, ascii}
 use Rattle.rules.specs.Instance.{Instance}
 use Rattle.rules.specs.Session.{Line, parsed, reply_to}
 use Rattle.rules.specs.Whole.{line_end}
 use Rattle.tables.specs.Laid.{laid}
+use Rattle.decimal.specs.declared.inner.Text.{Text}
 use Rattle.session_calls.specs.Answered.{Answered}
 use Rattle.session_line.specs.Reply.{reply_text, reply_mem}
 
 -- `?` is answered to lines of no form alone, and leaves the instance (R145)
 abbrev pub QuestionStill : Type 0
-QuestionStill = (i : Instance) (line : List ℕ) → (reply_to i line).text ≡ ascii "?" → (parsed line ≡ none) × ((reply_to i line).instance ≡ i)
+QuestionStill = (i : Instance) (line : List ℕ) → (reply_to i line).text ≡ ascii "?" → (parsed line ≡ None) × ((reply_to i line).instance ≡ i)
 
 -- the same of bytes, whether or not they keep the layout rule: every one stays (R145)
 abbrev pub QuestionStillBytes : Type 0
-QuestionStillBytes = (mem line : List ℕ) → reply_text mem line ≡ ascii "?" → (parsed line ≡ none) × (reply_mem mem line ≡ mem)
+QuestionStillBytes = (mem line : List ℕ) → reply_text mem line ≡ ascii "?" → (parsed line ≡ None) × (reply_mem mem line ≡ mem)
 
 -- a line of no form is answered `?` (R145)
 abbrev pub NoFormQuestion : Type 0
-NoFormQuestion = (mem line : List ℕ) → parsed line ≡ none → reply_text mem line ≡ ascii "?"
+NoFormQuestion = (mem line : List ℕ) → parsed line ≡ None → reply_text mem line ≡ ascii "?"
 
 -- no text has the byte that ends a line, so one line is answered by one line (R151, R152)
 abbrev pub OneLine : Type 0
@@ -31,5 +31,5 @@ SmallStill = (mem line : List ℕ) → laid mem ≡ false → reply_mem mem line
 
 -- the place behind the text, the lent output and the bytes are those of one result (R164)
 abbrev pub OneReply : Type 0
-OneReply = (mem : List ℕ) (l : Option Line) (was : List ℕ) (at r q : ℕ) (left out after end : List ℕ) → Answered mem l was at r left after → Answered mem l was at q out end
-    → (r ≡ q) × ((left ≡ out) × (after ≡ end))
+OneReply = (mem : List ℕ) (l : Option Line) (was left out : Text) (after end : List ℕ) → Answered mem l was left after → Answered mem l was out end
+    → (left.at ≡ out.at) × ((left.out.now ≡ out.out.now) × (after ≡ end))

@@ -1,62 +1,82 @@
--- A line cut into its fields, by the places of its spaces.
-use Rattle.std.specs.Prelude.{ℕ, ◌+◌, ◌≤◌, cond, List, [], ◌∷◌, ◌≡◌, length, eqb, ltb}
-use Rattle.std.proofs.Math.Option.{Option, none, some}
-use Rattle.rules.specs.Numbers.{max_line}
-use Rattle.rules.specs.Outcome.{◌⟹◌, first_of}
-use Rattle.rules.specs.Session.{space, Line, any_empty, line_of}
-use Rattle.path.specs.Steps.{between, part_end}
-use Rattle.session_line.specs.declared.Cut.{Cut}
-use Rattle.session_line.specs.declared.Cut.TheVariants.{Two, Three, Five, Other}
-use Rattle.session_line.specs.declared.forms.MountNumbers.{MountNumbers}
-use Rattle.session_line.specs.declared.forms.MountNumbers.TheVariants.{Numbers, Bad}
+-- A line read by its fields, one after another.
+use Rattle.std.specs.Prelude.{ℕ, cond, List, [], ◌∷◌, Option, None, Some}
+use Rattle.std.specs.Borrow.{Bor}
+use Rattle.std.specs.Str.{bytes_eq}
+use Rattle.rules.specs.Tree.{onward}
+use Rattle.rules.specs.Session.{words, Line, mount, umount, walk, look}
+use Rattle.decimal.specs.Read.{number_to}
+use Rattle.session_line.specs.declared.parsing.TheConstants.{UMOUNT, WALK, LOOK, MOUNT}
+use Rattle.session_line.specs.declared.parsing.Fields.{Fields}
+use Rattle.session_line.specs.declared.parsing.Line.{Line as Read}
+use Rattle.session_line.specs.declared.parsing.Line.TheVariants.{Mount, Umount, Walk, Look}
 
--- where the field that stands at a place ends
-abbrev pub field_end : List ℕ → ℕ → ℕ
-field_end s at = part_end space s at
+-- the fields that are left (R146)
+abbrev pub left_of : Option (Bor (List ℕ)) → List (List ℕ)
+left_of None = []
+left_of (Some s) = words s.now
 
--- the end of a field: not before its start, and within the line
-pub record FieldEnds (s : List ℕ) (at r : ℕ) : Type 0 where
-  pub end : r ≡ field_end s at
-  pub from : at ≤ r
-  pub within : r ≤ length s
+abbrev pub left : Fields → List (List ℕ)
+left f = left_of f.rest
 
--- a line of these fields (R138 to R141, R145, R146)
-unfoldable pub formed : List (List ℕ) → Option Line
-formed ws = cond (any_empty ws) none (line_of ws)
+-- the first of some fields, where it is not empty, and those behind it (R145)
+abbrev pub first : List (List ℕ) → Option (List ℕ × List (List ℕ))
+first [] = None
+first ([] ∷ ws) = None
+first ((b ∷ w) ∷ ws) = Some (b ∷ w, ws)
 
--- a line of two fields, by the place of its space
-unfoldable pub two_at : List ℕ → ℕ → Option Line
-two_at s a = formed (between s 0 a ∷ between s (a + 1) (length s) ∷ [])
+-- the first as a number (R148, R149)
+abbrev pub number_first : ℕ → List (List ℕ) → Option (ℕ × List (List ℕ))
+number_first max ws = onward (first ws) (λ n. onward (number_to max n.0) (λ x. Some (x, n.1)))
 
--- of three
-unfoldable pub three_at : List ℕ → ℕ → ℕ → Option Line
-three_at s a b = formed (between s 0 a ∷ between s (a + 1) b ∷ between s (b + 1) (length s) ∷ [])
+-- one that has none behind it
+abbrev pub alone : List ℕ → List (List ℕ) → Option (List ℕ)
+alone w [] = Some w
+alone w (v ∷ ws) = None
 
--- of five
-unfoldable pub five_at : List ℕ → ℕ → ℕ → ℕ → ℕ → Option Line
-five_at s a b c d = formed (between s 0 a ∷ between s (a + 1) b ∷ between s (b + 1) c ∷ between s (c + 1) d ∷ between s (d + 1) (length s) ∷ [])
+-- the only one, where it is not empty (R145)
+abbrev pub only : List (List ℕ) → Option (List ℕ)
+only ws = onward (first ws) (λ n. alone n.0 n.1)
 
--- where a line is cut: by which of its fields is the last one; a line over 8,192 bytes, or of another number of fields, has no form (R145, R146, R150)
-unfoldable pub cut_of : List ℕ → Cut
-cut_of s =
-    let a = field_end s 0 in
-    let b = field_end s (a + 1) in
-    let c = field_end s (b + 1) in
-    let d = field_end s (c + 1) in
-    let e = field_end s (d + 1) in
-    first_of
-    ((ltb max_line (length s) ⟹ Other)
-    ∷ (eqb a (length s) ⟹ Other)
-    ∷ (eqb b (length s) ⟹ Two a)
-    ∷ (eqb c (length s) ⟹ Three a b)
-    ∷ (eqb d (length s) ⟹ Other)
-    ∷ (eqb e (length s) ⟹ Five a b c d)
-    ∷ [])
-    Other
+-- what was read: a field, and with it the fields behind it
+abbrev pub field_in : Option (Bor (List ℕ)) → Option (List ℕ)
+field_in None = None
+field_in (Some w) = Some w.now
 
--- three numbers, where each is one (R138, R149)
-unfoldable pub mount_numbers_from : Option ℕ → Option ℕ → Option ℕ → MountNumbers
-mount_numbers_from none root largest = Bad
-mount_numbers_from (some t) none largest = Bad
-mount_numbers_from (some t) (some r) none = Bad
-mount_numbers_from (some t) (some r) (some m) = Numbers t r m
+abbrev pub next_in : Option (Bor (List ℕ) × Fields) → Option (List ℕ × List (List ℕ))
+next_in None = None
+next_in (Some n) = Some (n.0.now, left n.1)
+
+abbrev pub number_next : Option (ℕ × Fields) → Option (ℕ × List (List ℕ))
+number_next None = None
+number_next (Some n) = Some (n.0, left n.1)
+
+-- the line that was read (R138 to R141)
+abbrev pub form_of : Read → Line
+form_of (Mount path tag root largest) = mount path.now tag root largest
+form_of (Umount path) = umount path.now
+form_of (Walk path) = walk path.now
+form_of (Look node name) = look node name.now
+
+abbrev pub line_in : Option Read → Option Line
+line_in None = None
+line_in (Some l) = Some (form_of l)
+
+-- the fields behind `look` (R141, R149)
+abbrev pub look_by : List (List ℕ) → Option Line
+look_by ws = onward (number_first 18446744073709551615 ws) (λ x. onward (only x.1) (λ p. Some (look x.0 p)))
+
+-- the fields behind `mount` (R138, R149)
+abbrev pub mount_by : List (List ℕ) → Option Line
+mount_by ws =
+    onward (first ws) (λ p.
+    onward (number_first 4294967295 p.1) (λ t.
+    onward (number_first 18446744073709551615 t.1) (λ r.
+    onward (only r.1) (λ w. onward (number_to 18446744073709551615 w) (λ m. Some (mount p.0 t.0 r.0 m))))))
+
+-- by the verb, and the fields behind it (R138 to R141, R147)
+abbrev pub form_by : List ℕ → List (List ℕ) → Option Line
+form_by verb ws =
+    cond (bytes_eq verb UMOUNT.now) (onward (only ws) (λ p. Some (umount p)))
+    (cond (bytes_eq verb WALK.now) (onward (only ws) (λ p. Some (walk p)))
+    (cond (bytes_eq verb LOOK.now) (look_by ws)
+    (cond (bytes_eq verb MOUNT.now) (mount_by ws) None)))

@@ -10,7 +10,11 @@ use lib.ListN.{length, take, drop, get_or, length-append, drop_of_length-le}
 use lib.Seq.{drop-cons}
 use lib.Dec.{eqb, ltb}
 use borrow.Author.Tests.{lt-ltb, le-ltb, le-leb, lt-leb, eq-eqb, ne_eqb}
+use Rattle.std.specs.Prelude.{Result, Ok, Err}
 use Rattle.rules.specs.Instance.{Instance}
+use Rattle.rules.specs.declared.codes.VfsError.{VfsError}
+use Rattle.rules.specs.declared.codes.VfsError.TheVariants.{Small}
+use Rattle.decimal.specs.declared.inner.Text.{Text}
 use Rattle.rules.specs.Session.{reply_to}
 use Rattle.le.specs.Mem.{write}
 use Rattle.le.proofs.Lens.{length-write, write_append}
@@ -20,9 +24,7 @@ use Rattle.session_calls.specs.Answered.{line_text}
 use Rattle.session_script.specs.Step.{Answers, by_bytes, by_rules, end_text, byte_text, byte_kept, Ended, Took}
 use Rattle.session_script.specs.Feed.{FeedGoing, start, feed_step, fed, accepts, goes, went, viewed, Feeds, last_text, last_next, end_accepts, Finishes}
 use Rattle.session_script.proofs.Carry.{length_carry, accepts_true, accepts_short, accepts_many}
-use Rattle.session_script.specs.declared.Next.{Next}
-use Rattle.session_script.specs.declared.Fed.TheVariants.{Went, Refused}
-use Rattle.session_script.specs.declared.Finished.TheVariants.{Done, Refused as NotDone}
+use Rattle.session_script.specs.declared.Fed.{Fed}
 
 -- how far a piece has come
 abbrev pub here : (S : Type 0) → S → List ℕ → ℕ → ℕ → List ℕ → FeedGoing S
@@ -66,67 +68,67 @@ laid_on : (out xs ys : List ℕ) → write (write out 0 xs) (length xs) ys ≡ w
 laid_on out xs ys = (λ j. write (write out 0 xs) (sym (zero-add (length xs)) j) ys) ∙ sym (write_append out 0 xs ys)
 
 -- the invariant: what the rest of the piece leads to from here is what the whole piece leads to
-pub record SoFar (mem₀ carry₀ : List ℕ) (kept₀ : ℕ) (piece out₀ mem carry out : List ℕ) (line at i : ℕ) : Type 0 where
+pub record SoFar (mem₀ carry₀ : List ℕ) (kept₀ : ℕ) (piece out₀ mem carry : List ℕ) (t : Text) (line i : ℕ) : Type 0 where
   pub text : List ℕ
-  pub place : at ≡ length text
-  pub bytes : out ≡ write out₀ 0 text
-  pub within : at ≤ length out₀
+  pub place : t.at ≡ length text
+  pub bytes : t.out.now ≡ write out₀ 0 text
+  pub within : t.at ≤ length out₀
   pub inside : i ≤ length piece
   pub wide : length carry ≡ length carry₀
   pub fits : 8192 ≤ length carry₀
   pub few : kept₀ ≤ 8193
-  pub long : length out ≡ length out₀
+  pub long : length t.out.now ≡ length out₀
   pub rest : fed (List ℕ) by_bytes (length out₀) (drop i piece) (here (List ℕ) mem carry line i text) ≡ fed (List ℕ) by_bytes (length out₀) piece (start (List ℕ) mem₀ carry₀ kept₀)
   pub rules : laid mem₀ ≡ true → fed Instance by_rules (length out₀) (drop i piece) (here Instance (view mem) carry line i text) ≡ fed Instance by_rules (length out₀) piece (start Instance (view mem₀) carry₀ kept₀)
   pub keeps : laid mem₀ ≡ true → laid mem ≡ true
 
 module _ (mem₀ carry₀ : List ℕ) (kept₀ : ℕ) (piece out₀ : List ℕ) where
-  pub so_far_start : 8192 ≤ length carry₀ → kept₀ ≤ 8193 → SoFar mem₀ carry₀ kept₀ piece out₀ mem₀ carry₀ out₀ kept₀ 0 0
+  pub so_far_start : 8192 ≤ length carry₀ → kept₀ ≤ 8193 → (t : Text) → t.at ≡ 0 → t.out.now ≡ out₀ → SoFar mem₀ carry₀ kept₀ piece out₀ mem₀ carry₀ t kept₀ 0
   unfolding start
-  so_far_start h k = record {
+  so_far_start h k t z o = record {
     text = [];
-    place = refl;
-    bytes = refl;
+    place = z;
+    bytes = o;
     within = omega arith;
     inside = omega arith;
     wide = refl;
     fits = h;
     few = k;
-    long = refl;
+    long = ap length o;
     rest = refl;
     rules = λ l. refl;
     keeps = λ l. l;
   }
 
-  module _ (mem carry out : List ℕ) (line at i : ℕ) (v : SoFar mem₀ carry₀ kept₀ piece out₀ mem carry out line at i) where
-    pub so_far_more : i < length piece → 64 ≤ length out - at → (b : ℕ) → b ≡ get_or piece i 0 → (r : Next) (after carried left : List ℕ)
-        → Took mem carry line b out at r after carried left → SoFar mem₀ carry₀ kept₀ piece out₀ after carried left r.kept r.at (i + 1)
+  module _ (mem carry : List ℕ) (t : Text) (line i : ℕ) (v : SoFar mem₀ carry₀ kept₀ piece out₀ mem carry t line i) where
+    pub so_far_more : i < length piece → 64 ≤ length t.out.now - t.at → (b : ℕ) → b ≡ get_or piece i 0 → (now : Text) (after carried : List ℕ) (many : ℕ)
+        → Took mem carry line b t now after carried many → SoFar mem₀ carry₀ kept₀ piece out₀ after carried now many (i + 1)
     unfolding feed_step
-    so_far_more h room b e r after carried left f =
+    so_far_more h room b e now after carried many f =
         let more : List ℕ = byte_text (List ℕ) by_bytes mem carry line b in
         let d : drop i piece ≡ b ∷ drop (i + 1) piece = drop-cons piece i 0 h ∙ (λ j. sym e j ∷ drop (sym (add-one i) j) piece) in
         let z : ltb (length out₀ - length v.text) 64 ≡ false =
         let n : 64 ≤ length out₀ - length v.text = omega (arith, v.place, v.long) in
         le-ltb (length out₀ - length v.text) 64 n in
-        let k : r.kept ≡ byte_kept line b = f.many in
+        let k : many ≡ byte_kept line b = f.keeps_many in
         let w : length (v.text ++ more) ≡ length v.text + length more = length-append v.text more in
         record {
           text = v.text ++ more;
-          place = omega (arith, f.text.end, v.place);
-          bytes = f.text.bytes ∙ (λ j. write (v.bytes j) (v.place j) more) ∙ laid_on out₀ v.text more;
-          within = omega (arith, f.text.within, v.long);
+          place = omega (arith, f.text.wrote.end, v.place);
+          bytes = f.text.wrote.bytes ∙ (λ j. write (v.bytes j) (v.place j) more) ∙ laid_on out₀ v.text more;
+          within = omega (arith, f.text.wrote.within, v.long);
           inside = omega arith;
           wide = ap length f.begun ∙ length_carry carry line b ∙ v.wide;
           fits = v.fits;
           few = v.few;
-          long = ap length f.text.bytes ∙ length-write out at more ∙ v.long;
+          long = f.text.same_length ∙ v.long;
           rest =
-              sym (fed_byte (List ℕ) by_bytes (length out₀) b (drop (i + 1) piece) (drop i piece) (here (List ℕ) mem carry line i v.text) (here (List ℕ) after carried r.kept (i + 1) (v.text ++ more)) d z
+              sym (fed_byte (List ℕ) by_bytes (length out₀) b (drop (i + 1) piece) (drop i piece) (here (List ℕ) mem carry line i v.text) (here (List ℕ) after carried many (i + 1) (v.text ++ more)) d z
               (λ j. here (List ℕ) (sym f.bytes j) (sym f.begun j) (sym k j) (i + 1) (v.text ++ more)))
               ∙ v.rest;
           rules =
               λ l.
-              sym (fed_byte Instance by_rules (length out₀) b (drop (i + 1) piece) (drop i piece) (here Instance (view mem) carry line i v.text) (here Instance (view after) carried r.kept (i + 1) (v.text ++ more)) d z
+              sym (fed_byte Instance by_rules (length out₀) b (drop (i + 1) piece) (drop i piece) (here Instance (view mem) carry line i v.text) (here Instance (view after) carried many (i + 1) (v.text ++ more)) d z
               (λ j. here Instance (sym (f.stands (v.keeps l)) j) (sym f.begun j) (sym k j) (i + 1) (v.text ++ sym (same_byte mem carry line b (v.keeps l)) j)))
               ∙ v.rules l;
           keeps = λ l. f.keeps (v.keeps l);
@@ -135,7 +137,7 @@ module _ (mem₀ carry₀ : List ℕ) (kept₀ : ℕ) (piece out₀ : List ℕ) 
     -- from where no byte more is taken, the answer is the whole one's
     ends : fed (List ℕ) by_bytes (length out₀) (drop i piece) (here (List ℕ) mem carry line i v.text) ≡ here (List ℕ) mem carry line i v.text
         → (laid mem₀ ≡ true → fed Instance by_rules (length out₀) (drop i piece) (here Instance (view mem) carry line i v.text) ≡ here Instance (view mem) carry line i v.text)
-        → Feeds mem₀ carry₀ kept₀ piece out₀ (Went i at line) mem carry out
+        → Feeds mem₀ carry₀ kept₀ piece out₀ (Ok (record { used = i; wrote = t.at; kept = line })) mem carry t.out.now
     unfolding goes went viewed
     ends p q =
         let a : accepts carry₀ kept₀ ≡ true = accepts_true carry₀ kept₀ v.fits v.few in
@@ -150,12 +152,12 @@ module _ (mem₀ carry₀ : List ℕ) (kept₀ : ℕ) (piece out₀ : List ℕ) 
           keeps = v.keeps;
         }
 
-    pub feeds_all : length piece ≤ i → Feeds mem₀ carry₀ kept₀ piece out₀ (Went i at line) mem carry out
+    pub feeds_all : length piece ≤ i → Feeds mem₀ carry₀ kept₀ piece out₀ (Ok (record { used = i; wrote = t.at; kept = line })) mem carry t.out.now
     feeds_all h =
         let d : drop i piece ≡ [] = drop_of_length-le piece h in
         ends (fed_end (List ℕ) by_bytes (length out₀) (drop i piece) _ d) (λ l. fed_end Instance by_rules (length out₀) (drop i piece) _ d)
 
-    pub feeds_full : i < length piece → length out - at < 64 → Feeds mem₀ carry₀ kept₀ piece out₀ (Went i at line) mem carry out
+    pub feeds_full : i < length piece → length t.out.now - t.at < 64 → Feeds mem₀ carry₀ kept₀ piece out₀ (Ok (record { used = i; wrote = t.at; kept = line })) mem carry t.out.now
     feeds_full h room =
         let d : drop i piece ≡ get_or piece i 0 ∷ drop (suc i) piece = drop-cons piece i 0 h in
         let z : ltb (length out₀ - length v.text) 64 ≡ true =
@@ -163,7 +165,7 @@ module _ (mem₀ carry₀ : List ℕ) (kept₀ : ℕ) (piece out₀ : List ℕ) 
         lt-ltb (length out₀ - length v.text) 64 n in
         ends (fed_full (List ℕ) by_bytes (length out₀) _ _ (drop i piece) (here (List ℕ) mem carry line i v.text) d z) (λ l. fed_full Instance by_rules (length out₀) _ _ (drop i piece) (here Instance (view mem) carry line i v.text) d z)
 
-  refuses : accepts carry₀ kept₀ ≡ false → Feeds mem₀ carry₀ kept₀ piece out₀ Refused mem₀ carry₀ out₀
+  pub refuses : accepts carry₀ kept₀ ≡ false → Feeds mem₀ carry₀ kept₀ piece out₀ (Err Small) mem₀ carry₀ out₀
   unfolding goes start viewed
   refuses a = record {
     answer = rw a;
@@ -175,16 +177,15 @@ module _ (mem₀ carry₀ : List ℕ) (kept₀ : ℕ) (piece out₀ : List ℕ) 
     keeps = λ l. l;
   }
 
-  pub refuses_short : length carry₀ < 8192 → Feeds mem₀ carry₀ kept₀ piece out₀ Refused mem₀ carry₀ out₀
-  refuses_short h = refuses (accepts_short carry₀ kept₀ h)
-
-  pub refuses_many : 8192 ≤ length carry₀ → 8193 < kept₀ → Feeds mem₀ carry₀ kept₀ piece out₀ Refused mem₀ carry₀ out₀
-  refuses_many h k = refuses (accepts_many carry₀ kept₀ h k)
+-- where the carry and the output lie
+pub feeds_moved : {mem carry : List ℕ} {kept : ℕ} {piece out : List ℕ} {r : Result Fed VfsError} {after carried left carried_here left_here : List ℕ} → carried_here ≡ carried → left_here ≡ left
+    → Feeds mem carry kept piece out r after carried left → Feeds mem carry kept piece out r after carried_here left_here
+feeds_moved e f h = rw (e, f) h
 
 -- ---- the end of the input
 
 module _ (mem carry : List ℕ) (kept : ℕ) (out : List ℕ) where
-  not_done : end_accepts carry kept (length out) ≡ false → Finishes mem carry kept out NotDone mem out
+  not_done : end_accepts carry kept (length out) ≡ false → Finishes mem carry kept out (Err Small) mem out
   not_done e = record {
     answer = rw e;
     bytes = rw e;
@@ -194,15 +195,11 @@ module _ (mem carry : List ℕ) (kept : ℕ) (out : List ℕ) where
     keeps = λ l. l;
   }
 
-  pub not_short : length carry < 8192 → Finishes mem carry kept out NotDone mem out
+  pub not_accepted : accepts carry kept ≡ false → Finishes mem carry kept out (Err Small) mem out
   unfolding end_accepts
-  not_short h = not_done (rw (accepts_short carry kept h))
+  not_accepted e = not_done (rw e)
 
-  pub not_many : 8192 ≤ length carry → 8193 < kept → Finishes mem carry kept out NotDone mem out
-  unfolding end_accepts
-  not_many h k = not_done (rw (accepts_many carry kept h k))
-
-  pub not_room : 8192 ≤ length carry → kept ≤ 8193 → length out < 64 → Finishes mem carry kept out NotDone mem out
+  pub not_room : 8192 ≤ length carry → kept ≤ 8193 → length out < 64 → Finishes mem carry kept out (Err Small) mem out
   unfolding end_accepts
   not_room h k r = not_done (rw (accepts_true carry kept h k, lt-leb 64 (length out) r))
 
@@ -211,7 +208,7 @@ module _ (mem carry : List ℕ) (kept : ℕ) (out : List ℕ) where
     unfolding end_accepts
     on = rw (accepts_true carry kept h k, le-leb 64 (length out) r)
 
-    pub done_none : kept ≡ 0 → Finishes mem carry kept out (Done 0) mem out
+    pub done_none : kept ≡ 0 → Finishes mem carry kept out (Ok 0) mem out
     unfolding last_text last_next
     done_none z =
         let e : eqb kept 0 ≡ true = eq-eqb kept 0 z in
@@ -224,16 +221,21 @@ module _ (mem carry : List ℕ) (kept : ℕ) (out : List ℕ) where
           keeps = λ l. l;
         }
 
-    pub done_line : (kept ≡ 0 → ⊥) → (q : ℕ) (after left : List ℕ) → Ended mem carry kept out 0 q after left → Finishes mem carry kept out (Done q) after left
+    pub done_line : (kept ≡ 0 → ⊥) → (was now : Text) → was.at ≡ 0 → was.out.now ≡ out → (after : List ℕ) → Ended mem carry kept was now after → Finishes mem carry kept out (Ok now.at) after now.out.now
     unfolding last_text last_next
-    done_line z q after left f =
+    done_line z was now p o after f =
         let e : eqb kept 0 ≡ false = ne_eqb kept 0 z in
-        let n : q ≡ length (end_text (List ℕ) by_bytes mem carry kept) = f.text.end ∙ zero-add _ in
+        let n : now.at ≡ length (end_text (List ℕ) by_bytes mem carry kept) = omega (arith, f.text.wrote.end) in
         record {
           answer = rw (on, e, n);
           bytes = rw (on, e) f.bytes;
-          text = rw (on, e) f.text.bytes;
-          within = λ t. rw e (omega (arith, f.text.within, n));
+          text = rw (on, e) (f.text.wrote.bytes ∙ (λ j. write (o j) (p j) (end_text (List ℕ) by_bytes mem carry kept)));
+          within = λ t. rw e (omega (arith, f.text.wrote.within, n));
           stands = λ l. rw (on, e) (f.stands l);
           keeps = f.keeps;
         }
+
+-- where the output lies
+pub finishes_moved : {mem carry : List ℕ} {kept : ℕ} {out : List ℕ} {r : Result ℕ VfsError} {after left left_here : List ℕ} → left_here ≡ left → Finishes mem carry kept out r after left
+    → Finishes mem carry kept out r after left_here
+finishes_moved e h = rw e h

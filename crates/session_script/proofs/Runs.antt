@@ -8,7 +8,10 @@ use mathlib.Core.List.{List, [], ◌∷◌, ◌++◌, append-nil}
 use lib.ListN.{length, take, drop}
 use lib.Dec.{ltb}
 use borrow.Author.Tests.{ltb-true, ltb-false, eq-eqb, ne_eqb}
+use Rattle.std.specs.Prelude.{Result, Ok, Err}
 use Rattle.rules.specs.Instance.{Instance}
+use Rattle.rules.specs.declared.codes.VfsError.{VfsError}
+use Rattle.rules.specs.declared.codes.VfsError.TheVariants.{Small}
 use Rattle.rules.specs.Whole.{session}
 use Rattle.le.specs.Mem.{write}
 use Rattle.le.proofs.Writes.{take_write}
@@ -18,7 +21,6 @@ use Rattle.session_script.specs.Step.{by_bytes, by_rules}
 use Rattle.session_script.specs.Feed.{FeedGoing, start, accepts, goes, went, viewed, Feeds, last_text, last_next, end_accepts, Finishes}
 use Rattle.session_script.specs.Runs.{used_in, wrote_in, kept_in, Feed, Finish, FeedRun, written, WholeOf, EveryCutting}
 use Rattle.session_script.specs.declared.Fed.{Fed}
-use Rattle.session_script.specs.declared.Finished.TheVariants.{Done, Refused as NotDone}
 use Rattle.session_script.proofs.Going.{same_end}
 use Rattle.session_script.proofs.Lines.{last_text_lem, last_instance, none_text, none_instance}
 use Rattle.session_script.proofs.Begun.{Begun, begun_none, begun_text, begun_next, Leads, goes_leads}
@@ -32,7 +34,7 @@ record Moves (mem line piece : List ℕ) (after carried : List ℕ) (kept used :
   says : (s : List ℕ) → (session (view mem) (line ++ (piece ++ s))).text ≡ text ++ (session (view after) (line_after ++ (drop used piece ++ s))).text
   leaves : (s : List ℕ) → (session (view mem) (line ++ (piece ++ s))).instance ≡ (session (view after) (line_after ++ (drop used piece ++ s))).instance
 
-module _ (mem carry : List ℕ) (kept : ℕ) (piece out : List ℕ) (r : Fed) (after carried left : List ℕ) (f : Feeds mem carry kept piece out r after carried left) where
+module _ (mem carry : List ℕ) (kept : ℕ) (piece out : List ℕ) (r : Result Fed VfsError) (after carried left : List ℕ) (f : Feeds mem carry kept piece out r after carried left) where
   abbrev G : FeedGoing (List ℕ)
   G = goes (List ℕ) by_bytes mem carry kept piece (length out)
 
@@ -99,11 +101,11 @@ same_last : (mem carry : List ℕ) (kept : ℕ) → laid mem ≡ true → last_t
 unfolding last_text
 same_last mem carry kept l = rw (same_end mem carry kept l)
 
-module _ (mem carry : List ℕ) (kept : ℕ) (out : List ℕ) (w : ℕ) (after left : List ℕ) (f : Finishes mem carry kept out (Done w) after left) where
+module _ (mem carry : List ℕ) (kept : ℕ) (out : List ℕ) (w : ℕ) (after left : List ℕ) (f : Finishes mem carry kept out (Ok w) after left) where
   accepted : (t : Bool) → end_accepts carry kept (length out) ≡ t → end_accepts carry kept (length out) ≡ true
   accepted true e = e
   accepted false e =
-      let a : Done w ≡ NotDone = f.answer ∙ rw e in
+      let a : ◌≡◌ {A = Result ℕ VfsError} (Ok w) (Err Small) = f.answer ∙ rw e in
       absurd (let z : ◌≡◌ {A = ℕ} 0 1 = cc in let y : ⊥ = omega arith in y)
 
   on : end_accepts carry kept (length out) ≡ true
@@ -111,7 +113,7 @@ module _ (mem carry : List ℕ) (kept : ℕ) (out : List ℕ) (w : ℕ) (after l
 
   wrote_last : w ≡ length (last_text (List ℕ) by_bytes mem carry kept)
   wrote_last =
-      let a : Done w ≡ Done (length (last_text (List ℕ) by_bytes mem carry kept)) = f.answer ∙ rw on in
+      let a : ◌≡◌ {A = Result ℕ VfsError} (Ok w) (Ok (length (last_text (List ℕ) by_bytes mem carry kept))) = f.answer ∙ rw on in
       cc
 
   last_written : take w left ≡ last_text (List ℕ) by_bytes mem carry kept

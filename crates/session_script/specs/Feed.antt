@@ -1,15 +1,14 @@
 -- A piece of a session's input: its bytes one after another, as long as the output has room for a line.
-use Rattle.std.specs.Prelude.{ℕ, ◌+◌, ◌-◌, ◌≤◌, Bool, cond, true, ◌&&◌, List, [], ◌∷◌, ◌++◌, ◌≡◌, length, eqb, leb, ltb}
+use Rattle.std.specs.Prelude.{ℕ, ◌+◌, ◌-◌, ◌≤◌, Bool, cond, true, ◌&&◌, List, [], ◌∷◌, ◌++◌, ◌≡◌, length, eqb, leb, ltb, Result, Ok, Err}
 use Rattle.rules.specs.Numbers.{max_line}
+use Rattle.rules.specs.declared.codes.VfsError.{VfsError}
+use Rattle.rules.specs.declared.codes.VfsError.TheVariants.{Small}
 use Rattle.rules.specs.Instance.{Instance}
 use Rattle.le.specs.Mem.{write}
 use Rattle.tables.specs.View.{view}
 use Rattle.tables.specs.Laid.{laid}
 use Rattle.session_script.specs.Step.{Answers, by_bytes, by_rules, end_text, end_next, byte_text, byte_next, byte_carry, byte_kept}
 use Rattle.session_script.specs.declared.Fed.{Fed}
-use Rattle.session_script.specs.declared.Fed.TheVariants.{Went, Refused}
-use Rattle.session_script.specs.declared.Finished.{Finished}
-use Rattle.session_script.specs.declared.Finished.TheVariants.{Done, Refused as NotDone}
 
 -- how far a piece has come: the state, the begun line, the bytes used, and the text answered
 pub record FeedGoing (S : Type 0) : Type 0 where
@@ -48,15 +47,15 @@ goes S a s carry kept piece room = cond (accepts carry kept) (fed S a room piece
 
 -- what is answered: the bytes used, the bytes written, and those kept of a begun line
 unfoldable pub went : (S : Type 0) → FeedGoing S → Fed
-went S g = Went g.used (length g.text) g.kept
+went S g = record { used = g.used; wrote = length g.text; kept = g.kept }
 
 -- the same of the instance that the bytes stand for
 unfoldable pub viewed : FeedGoing (List ℕ) → FeedGoing Instance
 viewed g = record { state = view g.state; carry = g.carry; kept = g.kept; used = g.used; text = g.text }
 
 -- a piece fed: the answer, the bytes, the carry and the output exactly; on bytes that keep the layout rule, all of it is what the rules say (R137, R150, R151)
-pub record Feeds (mem carry : List ℕ) (kept : ℕ) (piece out : List ℕ) (r : Fed) (after carried left : List ℕ) : Type 0 where
-  pub answer : r ≡ cond (accepts carry kept) (went (List ℕ) (goes (List ℕ) by_bytes mem carry kept piece (length out))) Refused
+pub record Feeds (mem carry : List ℕ) (kept : ℕ) (piece out : List ℕ) (r : Result Fed VfsError) (after carried left : List ℕ) : Type 0 where
+  pub answer : r ≡ cond (accepts carry kept) (Ok (went (List ℕ) (goes (List ℕ) by_bytes mem carry kept piece (length out)))) (Err Small)
   pub bytes : after ≡ (goes (List ℕ) by_bytes mem carry kept piece (length out)).state
   pub begun : carried ≡ (goes (List ℕ) by_bytes mem carry kept piece (length out)).carry
   pub text : left ≡ write out 0 (goes (List ℕ) by_bytes mem carry kept piece (length out)).text
@@ -79,8 +78,8 @@ unfoldable pub end_accepts : List ℕ → ℕ → ℕ → Bool
 end_accepts carry kept room = accepts carry kept && leb 64 room
 
 -- the input at its end: the answer, the bytes and the output exactly, and what the bytes stand for
-pub record Finishes (mem carry : List ℕ) (kept : ℕ) (out : List ℕ) (r : Finished) (after left : List ℕ) : Type 0 where
-  pub answer : r ≡ cond (end_accepts carry kept (length out)) (Done (length (last_text (List ℕ) by_bytes mem carry kept))) NotDone
+pub record Finishes (mem carry : List ℕ) (kept : ℕ) (out : List ℕ) (r : Result ℕ VfsError) (after left : List ℕ) : Type 0 where
+  pub answer : r ≡ cond (end_accepts carry kept (length out)) (Ok (length (last_text (List ℕ) by_bytes mem carry kept))) (Err Small)
   pub bytes : after ≡ cond (end_accepts carry kept (length out)) (last_next (List ℕ) by_bytes mem carry kept) mem
   pub text : left ≡ cond (end_accepts carry kept (length out)) (write out 0 (last_text (List ℕ) by_bytes mem carry kept)) out
   pub within : end_accepts carry kept (length out) ≡ true → length (last_text (List ℕ) by_bytes mem carry kept) ≤ length out

@@ -1,37 +1,36 @@
 -- A whole input in any pieces: the calls that read it, each as its contract allows it, and what is claimed of all that they write; and the loop of the program, which feeds every read until
 -- nothing is left of it.
-use Rattle.std.specs.Prelude.{ℕ, ◌≤◌, true, List, [], ◌∷◌, ◌++◌, ◌≡◌, length, take, drop}
+use Rattle.std.specs.Prelude.{ℕ, ◌≤◌, true, List, [], ◌∷◌, ◌++◌, ◌≡◌, length, take, drop, Result, Ok, Err}
 use Rattle.rules.specs.Whole.{session}
+use Rattle.rules.specs.declared.codes.VfsError.{VfsError}
 use Rattle.tables.specs.View.{view}
 use Rattle.tables.specs.Laid.{laid}
 use Rattle.session_script.specs.Feed.{accepts, Feeds, Finishes}
 use Rattle.session_script.specs.declared.Fed.{Fed}
-use Rattle.session_script.specs.declared.Fed.TheVariants.{Went, Refused}
-use Rattle.session_script.specs.declared.Finished.TheVariants.{Done}
 
 -- ---- the numbers of an answer: a refusal uses nothing, writes nothing, and keeps what was kept
 
 -- how many bytes of the piece were used
-unfoldable pub used_in : Fed → ℕ
-used_in (Went u w k) = u
-used_in Refused = 0
+unfoldable pub used_in : Result Fed VfsError → ℕ
+used_in (Ok f) = f.used
+used_in (Err e) = 0
 
 -- how many bytes were written
-unfoldable pub wrote_in : Fed → ℕ
-wrote_in (Went u w k) = w
-wrote_in Refused = 0
+unfoldable pub wrote_in : Result Fed VfsError → ℕ
+wrote_in (Ok f) = f.wrote
+wrote_in (Err e) = 0
 
 -- how many bytes of a begun line are kept
-unfoldable pub kept_in : ℕ → Fed → ℕ
-kept_in kept (Went u w k) = k
-kept_in kept Refused = kept
+unfoldable pub kept_in : ℕ → Result Fed VfsError → ℕ
+kept_in kept (Ok f) = f.kept
+kept_in kept (Err e) = kept
 
 -- a feed: the piece, the input behind it, the lent output before and after, the answer, and the bytes and the carry after
 pub record Feed : Type 0 where
   pub piece : List ℕ
   pub more : List ℕ
   pub out : List ℕ
-  pub answer : Fed
+  pub answer : Result Fed VfsError
   pub after : List ℕ
   pub carried : List ℕ
   pub left : List ℕ
@@ -45,7 +44,7 @@ pub record Finish : Type 0 where
 
 -- feeds from some bytes and a begun line on, then the finish: each piece is the front of the input that no feed has used yet, and the finish comes when there is none left
 unfoldable pub FeedRun : List ℕ → List ℕ → List ℕ → ℕ → List Feed → Finish → Type 0
-FeedRun input mem carry kept [] f = (input ≡ []) × Finishes mem carry kept f.out (Done f.wrote) f.after f.left
+FeedRun input mem carry kept [] f = (input ≡ []) × Finishes mem carry kept f.out (Ok f.wrote) f.after f.left
 FeedRun input mem carry kept (s ∷ ss) f =
     (input ≡ s.piece ++ s.more)
     × (Feeds mem carry kept s.piece s.out s.answer s.after s.carried s.left
@@ -69,7 +68,7 @@ EveryCutting = (input mem carry : List ℕ) (ss : List Feed) (f : Finish) → la
 
 -- a feed uses no more than the piece has, and writes no more than the output has; an accepted one, of a byte or more and with 64 bytes of output or more, uses at least one, and leaves what
 -- the next one accepts
-pub record Onward (carry : List ℕ) (kept : ℕ) (piece out : List ℕ) (r : Fed) (carried : List ℕ) : Type 0 where
+pub record Onward (carry : List ℕ) (kept : ℕ) (piece out : List ℕ) (r : Result Fed VfsError) (carried : List ℕ) : Type 0 where
   pub most : used_in r ≤ length piece
   pub fits : wrote_in r ≤ length out
   pub least : accepts carry kept ≡ true → 1 ≤ length piece → 64 ≤ length out → 1 ≤ used_in r
@@ -77,7 +76,7 @@ pub record Onward (carry : List ℕ) (kept : ℕ) (piece out : List ℕ) (r : Fe
 
 -- of every feed
 abbrev pub EveryFeed : Type 0
-EveryFeed = (mem carry : List ℕ) (kept : ℕ) (piece out : List ℕ) (r : Fed) (after carried left : List ℕ)
+EveryFeed = (mem carry : List ℕ) (kept : ℕ) (piece out : List ℕ) (r : Result Fed VfsError) (after carried left : List ℕ)
     → Feeds mem carry kept piece out r after carried left → Onward carry kept piece out r carried
 
 -- ---- the loop of the program
@@ -102,7 +101,7 @@ pub record Read : Type 0 where
 
 -- every read is fed until nothing is left of it; then the input is at its end
 unfoldable pub Loop : ℕ → List ℕ → List ℕ → ℕ → List Read → Finish → Type 0
-Loop room mem carry kept [] f = Finishes mem carry kept f.out (Done f.wrote) f.after f.left
+Loop room mem carry kept [] f = Finishes mem carry kept f.out (Ok f.wrote) f.after f.left
 Loop room mem carry kept (r ∷ rs) f =
     Through room r.piece mem carry kept r.feeds [] r.after r.carried r.kept × Loop room r.after r.carried r.kept rs f
 

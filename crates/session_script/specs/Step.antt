@@ -7,9 +7,9 @@ use Rattle.rules.specs.Session.{reply_to}
 use Rattle.rules.specs.Whole.{line_end}
 use Rattle.tables.specs.View.{view}
 use Rattle.tables.specs.Laid.{laid}
-use Rattle.decimal.specs.Wrote.{Wrote}
+use Rattle.decimal.specs.declared.inner.Text.{Text}
+use Rattle.decimal.specs.Text.{Appended}
 use Rattle.session_line.specs.Reply.{reply_text, reply_mem}
-use Rattle.session_script.specs.declared.Next.{Next}
 
 -- who answers a line: its text, and what it leaves
 pub record Answers (S : Type 0) : Type 0 where
@@ -54,18 +54,18 @@ byte_kept kept b = cond (eqb b line_end) 0 (cond (ltb kept max_line) (kept + 1) 
 
 -- ---- contracts
 
--- the begun line answered: the text from the place `at` on, the bytes exactly, what they stand for, and the layout rule kept
-pub record Ended (mem carry : List ℕ) (kept : ℕ) (was : List ℕ) (at r : ℕ) (after left : List ℕ) : Type 0 where
-  pub text : Wrote was at 46 (end_text (List ℕ) by_bytes mem carry kept) r left
+-- the begun line answered: the text, the bytes exactly, what they stand for, and the layout rule kept
+pub record Ended (mem carry : List ℕ) (kept : ℕ) (was now : Text) (after : List ℕ) : Type 0 where
+  pub text : Appended was 46 (end_text (List ℕ) by_bytes mem carry kept) now
   pub bytes : after ≡ end_next (List ℕ) by_bytes mem carry kept
   pub stands : laid mem ≡ true → view after ≡ end_next Instance by_rules (view mem) carry kept
   pub keeps : laid mem ≡ true → laid after ≡ true
 
 -- one byte taken: the text, the bytes, the carry and the number kept exactly, what the bytes stand for, and the layout rule kept
-pub record Took (mem carry : List ℕ) (kept b : ℕ) (was : List ℕ) (at : ℕ) (r : Next) (after carried left : List ℕ) : Type 0 where
-  pub text : Wrote was at 46 (byte_text (List ℕ) by_bytes mem carry kept b) r.at left
+pub record Took (mem carry : List ℕ) (kept b : ℕ) (was now : Text) (after carried : List ℕ) (many : ℕ) : Type 0 where
+  pub text : Appended was 46 (byte_text (List ℕ) by_bytes mem carry kept b) now
   pub bytes : after ≡ byte_next (List ℕ) by_bytes mem carry kept b
   pub begun : carried ≡ byte_carry carry kept b
-  pub many : r.kept ≡ byte_kept kept b
+  pub keeps_many : many ≡ byte_kept kept b
   pub stands : laid mem ≡ true → view after ≡ byte_next Instance by_rules (view mem) carry kept b
   pub keeps : laid mem ≡ true → laid after ≡ true

@@ -1,33 +1,27 @@
 // A session as a stream: pieces of input in, answer lines out, on an instance and a begun line in lent bytes.
 #![tactic(auto)]
 
-ghost use Rattle.std.specs.Prelude.{◌+◌, ◌≤◌, length};
-ghost use Rattle.session_script.specs.Step.{Ended, Took};
-ghost use Rattle.session_script.specs.Feed.{Feeds, Finishes};
+ghost use Rattle.std.specs.Prelude.{◌≡◌, ◌≤◌, false, length, MatchResult};
+ghost use Rattle.decimal.specs.Text.{HasRoom};
+ghost use Rattle.session_script.specs.Step.{Ended};
+ghost use Rattle.session_script.specs.Feed.{accepts, Feeds, Finishes};
 
-// What a feed answers: how many bytes of the piece it used, how many it wrote, and how many of a begun line it keeps; refused, it is SMALL (R15).
+use decimal::inner::Text;
+use rules::codes::{VfsError, VfsResult};
+
+// What a feed answers: how many bytes of the piece it used, how many it wrote, and how many of a begun line it keeps.
 #[derive(Clone, Copy)]
-pub enum Fed {
-    Went {
-        used: usize,
-        wrote: usize,
-        kept: usize,
-    },
-    Refused,
+pub struct Fed {
+    pub used: usize,
+    pub wrote: usize,
+    pub kept: usize,
 }
 
-// What the end of the input answers: how many bytes it wrote; refused, it is SMALL (R15).
-#[derive(Clone, Copy)]
-pub enum Finished {
-    Done(usize),
-    Refused,
-}
-
-// Where one byte leaves the begun line and the output.
-#[derive(Clone, Copy)]
-struct Next {
+// The begun line: its bytes at the front of the carry, and how many there are; more than 8,192 say that it is over the limit (R150).
+#[derive(Drop)]
+struct BegunLine<'a> {
+    carry: &'a mut [u8],
     kept: usize,
-    at: usize,
 }
 
 // Says of a begun line that it is over the limit already (R150).
@@ -40,85 +34,94 @@ const ROOM: usize = 64;
 const LINE_END: u8 = 10;
 
 // The begun line is at its end: it is answered, `?` where it is over the limit, with a line end behind it (R137, R150, R151).
-fn end_line(s: &mut [u8], carry: &[u8], kept: usize, out: &mut [u8], at: usize) -> usize
+fn end_line(s: &mut [u8], carry: &[u8], kept: usize, text: &mut Text)
     requires in_bounds { 8192 ≤ length carry.now }
-    requires at_in_bounds { at + 64 ≤ length out.old }
-    ensures { Ended s.old carry.now kept out.old at result s.new out.new }
+    requires room { HasRoom text.old 64 }
+    ensures { Ended s.old carry.now kept text.old text.new s.new }
 {
     if rules::MAX_LINE < kept {
-        let r = session_text::put_question(out, at);
-        return decimal::inner::put_byte(out, r, LINE_END);
+        session_text::put_question(text);
+    } else {
+        session_line::answer(s, &carry[..kept], text);
     }
-    let r = session_line::answer(s, &carry[0..kept], out, at);
-    decimal::inner::put_byte(out, r, LINE_END)
+    text.put_byte(LINE_END);
 }
 
-// One more byte: it ends the begun line, or joins it (R150, R151).
-fn take_byte(s: &mut [u8], carry: &mut [u8], kept: usize, b: u8, out: &mut [u8], at: usize) -> Next
-    requires in_bounds { 8192 ≤ length carry.old }
-    requires at_in_bounds { at + 64 ≤ length out.old }
-    ensures { Took s.old carry.old kept b out.old at result s.new carry.new out.new }
+impl BegunLine<'_> {
+    ghost use Rattle.session_script.specs.Step.{Took};
+
+    // One more byte: it ends the line, or joins it (R150, R151).
+    fn take_byte(&mut self, s: &mut [u8], b: u8, text: &mut Text)
+        requires in_bounds { 8192 ≤ length self.old.carry.now }
+        requires room { HasRoom text.old 64 }
+        ensures same_carry { self.new.carry.ghost_name ≡ self.old.carry.ghost_name }
+        ensures took { Took s.old self.old.carry.now self.old.kept b text.old text.new s.new self.new.carry.now self.new.kept }
+    {
+        let carry = &mut *self.carry;
+        if b == LINE_END {
+            end_line(s, carry, self.kept, text);
+            self.kept = 0;
+        } else if self.kept < rules::MAX_LINE {
+            carry[self.kept] = b;
+            self.kept += 1;
+        } else {
+            self.kept = OVER;
+        }
+    }
+}
+
+// Whether a begun line can stand so: the carry has room for a line, and no more is kept than says that it is over the limit; else SMALL (R15, R150).
+#[tactic(auto, using(crate::proofs::Carry::accepts_short, crate::proofs::Carry::accepts_many))]
+fn check_begun(carry: &[u8], kept: usize) -> VfsResult<()>
+    ensures { MatchResult result (λ _. (8192 ≤ length carry.now) × (kept ≤ 8193))
+        (λ e. (e ≡ VfsError.Small) × (accepts carry.now kept ≡ false)) }
 {
-    if b == LINE_END {
-        let r = end_line(s, carry, kept, out, at);
-        return Next { kept: 0, at: r };
+    if carry.len() < rules::MAX_LINE || OVER < kept {
+        return Err(VfsError::Small);
     }
-    if kept < rules::MAX_LINE {
-        carry[kept] = b;
-        return Next { kept: kept + 1, at };
-    }
-    Next { kept: OVER, at }
+    Ok(())
 }
 
 // Takes the bytes of a piece, one after another, until they are used up or the output has room for no more line; every line that ends is answered (R137, R150, R151).
-pub fn feed(s: &mut [u8], carry: &mut [u8], kept: usize, piece: &[u8], out: &mut [u8]) -> Fed
+pub fn feed(
+    s: &mut [u8],
+    carry: &mut [u8],
+    kept: usize,
+    piece: &[u8],
+    out: &mut [u8],
+) -> VfsResult<Fed>
     ensures { Feeds s.old carry.old kept piece.now out.old result s.new carry.new out.new }
 {
-    if carry.len() < rules::MAX_LINE {
-        return Fed::Refused;
-    }
-    if OVER < kept {
-        return Fed::Refused;
-    }
-    let mut i = 0;
-    let mut at = 0;
-    let mut line = kept;
-    while i < piece.len() {
-        if out.len() - at < ROOM {
-            return Fed::Went {
-                used: i,
-                wrote: at,
-                kept: line,
-            };
+    check_begun(carry, kept)?;
+    let mut line = BegunLine { carry, kept };
+    let mut text = Text { out, at: 0 };
+    let mut used = 0;
+    for b in piece {
+        if text.room() < ROOM {
+            break;
         }
-        let next = take_byte(s, carry, line, piece[i], out, at);
-        line = next.kept;
-        at = next.at;
-        i += 1;
+        line.take_byte(s, *b, &mut text);
+        used += 1;
     }
-    Fed::Went {
-        used: i,
-        wrote: at,
-        kept: line,
-    }
+    Ok(Fed {
+        used,
+        wrote: text.at,
+        kept: line.kept,
+    })
 }
 
 // The input has ended: the begun line is the last one, if it has a byte (R151).
-pub fn finish(s: &mut [u8], carry: &[u8], kept: usize, out: &mut [u8]) -> Finished
+pub fn finish(s: &mut [u8], carry: &[u8], kept: usize, out: &mut [u8]) -> VfsResult<usize>
     ensures { Finishes s.old carry.now kept out.old result s.new out.new }
 {
-    if carry.len() < rules::MAX_LINE {
-        return Finished::Refused;
-    }
-    if OVER < kept {
-        return Finished::Refused;
-    }
+    check_begun(carry, kept)?;
     if out.len() < ROOM {
-        return Finished::Refused;
+        return Err(VfsError::Small);
     }
     if kept == 0 {
-        return Finished::Done(0);
+        return Ok(0);
     }
-    let r = end_line(s, carry, kept, out, 0);
-    Finished::Done(r)
+    let mut text = Text { out, at: 0 };
+    end_line(s, carry, kept, &mut text);
+    Ok(text.at)
 }

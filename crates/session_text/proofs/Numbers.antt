@@ -4,95 +4,79 @@ use native.Mathlib.Omega.{arith}
 use mathlib.Core.Path.{◌≡◌, refl}
 use mathlib.Core.List.{List, [], ◌∷◌}
 use Rattle.rules.specs.Session.{text_of, values, shown}
-use Rattle.decimal.specs.Wrote.{Wrote}
+use Rattle.decimal.specs.declared.inner.Text.{Text}
+use Rattle.decimal.specs.Text.{Appended}
+use Rattle.decimal.proofs.Texts.{appended_as}
+use Rattle.std.specs.Prelude.{Option, Some, None, Result, Ok, Err}
+use Rattle.inode.specs.declared.NodeNumber.{NodeNumber}
+use Rattle.rules.specs.Codes.{code_of}
+use Rattle.rules.specs.declared.codes.VfsError.{VfsError}
+use Rattle.rules.specs.declared.codes.VfsError.TheVariants.{NoEnt, Inval, TooLong, Inode, Full, NoRoom, NotFound, BadIndex, BadMap, BadSave, NotFresh, Small, BadOpt}
 use Rattle.pseudo_fs.specs.Told.{path_walk_told, entry_answer}
-use Rattle.pseudo_fs.specs.declared.PathWalk.{PathWalk}
-use Rattle.pseudo_fs.specs.declared.PathWalk.TheVariants.{Node, Nothing, Inval as WalkInval, Small as WalkSmall}
 use Rattle.vfs_query.specs.Told.{looked_told}
-use Rattle.vfs_query.specs.declared.Looked.{Looked}
-use Rattle.vfs_query.specs.declared.Looked.TheVariants.{Entry, NoEnt, Inval as LookInval, Small as LookSmall}
+use Rattle.pseudo_fs.specs.declared.Entry.{Entry}
 use Rattle.mount_parts.specs.Mounting.{mounted_told}
 use Rattle.mount_parts.specs.declared.mounting.Mounted.{Mounted}
-use Rattle.mount_parts.specs.declared.mounting.Mounted.TheVariants.{Done, TooLong, Inval, Inode, NoRoom, Full, Small}
+use Rattle.mount_parts.specs.declared.mounting.MountRefused.{MountRefused}
 use Rattle.vfs.specs.Unmounting.{unmounted_told}
 use Rattle.vfs.specs.declared.unmounting.Unmounted.{Unmounted}
-use Rattle.vfs.specs.declared.unmounting.Unmounted.TheVariants.{Done as Taken, NotFound, Inval as TakenInval, Small as TakenSmall}
 use Rattle.flat.specs.Flat.{mount_numbers, umount_numbers, walk_numbers, lookup_numbers}
 use Rattle.flat.specs.declared.MountAnswer.{MountAnswer}
 use Rattle.flat.specs.declared.UmountAnswer.{UmountAnswer}
 use Rattle.flat.specs.declared.WalkAnswer.{WalkAnswer}
 use Rattle.flat.specs.declared.LookupAnswer.{LookupAnswer}
 use Rattle.session_text.specs.Texts.{values_text, count_text}
-use Rattle.session_text.proofs.Writes.{wrote_as}
 
 -- the number of an answer has one byte, and a text of its numbers is the line's
 pub record Shows (code : ℕ) (ns text : List ℕ) : Type 0 where
   pub small : code < 256
   pub same : text_of (code ∷ ns) ≡ text
 
+-- the number of a refusal has one byte
+code_small : (e : VfsError) → code_of e < 256
+code_small NoEnt = omega arith
+code_small Inval = omega arith
+code_small TooLong = omega arith
+code_small Inode = omega arith
+code_small Full = omega arith
+code_small NoRoom = omega arith
+code_small NotFound = omega arith
+code_small BadIndex = omega arith
+code_small BadMap = omega arith
+code_small BadSave = omega arith
+code_small NotFresh = omega arith
+code_small Small = omega arith
+code_small BadOpt = omega arith
+
 -- ---- mount: index and count
 
-abbrev mount_shown : MountAnswer → List ℕ
-mount_shown m = m.fs_idx ∷ m.count ∷ []
-
-mount_shows : (a : Mounted) → Shows (mount_numbers (mounted_told a)).code (mount_shown (mount_numbers (mounted_told a))) (count_text (mounted_told a))
-unfolding mounted_told count_text values shown
-mount_shows (Done k n t) = record { small = omega arith; same = refl }
-mount_shows TooLong = record { small = omega arith; same = refl }
-mount_shows (Inval n) = record { small = omega arith; same = refl }
-mount_shows (Inode n) = record { small = omega arith; same = refl }
-mount_shows NoRoom = record { small = omega arith; same = refl }
-mount_shows (Full n) = record { small = omega arith; same = refl }
-mount_shows Small = record { small = omega arith; same = refl }
-
-pub mount_of : (a : Mounted) (m : MountAnswer) → m ≡ mount_numbers (mounted_told a) → Shows m.code (mount_shown m) (count_text (mounted_told a))
-mount_of a m e = rw e (mount_shows a)
+pub mount_of : (a : Result Mounted MountRefused) (m : MountAnswer) → m ≡ mount_numbers (mounted_told a) → Shows m.code (m.fs_idx ∷ m.count ∷ []) (count_text (mounted_told a))
+unfolding count_text values shown
+mount_of (Ok a) m e = rw e (record { small = omega arith; same = refl })
+mount_of (Err r) m e = rw e (record { small = code_small r.why; same = refl })
 
 -- ---- unmount: node and parent
 
-abbrev umount_shown : UmountAnswer → List ℕ
-umount_shown m = m.node ∷ m.parent ∷ []
-
-umount_shows : (a : Unmounted) → Shows (umount_numbers (unmounted_told a)).code (umount_shown (umount_numbers (unmounted_told a))) (values_text 2 (unmounted_told a))
-unfolding unmounted_told values_text values shown
-umount_shows (Taken x p t) = record { small = omega arith; same = refl }
-umount_shows NotFound = record { small = omega arith; same = refl }
-umount_shows TakenInval = record { small = omega arith; same = refl }
-umount_shows TakenSmall = record { small = omega arith; same = refl }
-
-pub umount_of : (a : Unmounted) (m : UmountAnswer) → m ≡ umount_numbers (unmounted_told a) → Shows m.code (umount_shown m) (values_text 2 (unmounted_told a))
-umount_of a m e = rw e (umount_shows a)
+pub umount_of : (a : Result Unmounted VfsError) (m : UmountAnswer) → m ≡ umount_numbers (unmounted_told a) → Shows m.code (m.node ∷ m.parent ∷ []) (values_text 2 (unmounted_told a))
+unfolding values_text values shown
+umount_of (Ok a) m e = rw e (record { small = omega arith; same = refl })
+umount_of (Err r) m e = rw e (record { small = code_small r; same = refl })
 
 -- ---- walk: node
 
-abbrev walk_shown : WalkAnswer → List ℕ
-walk_shown m = m.node ∷ []
-
-walk_shows : (a : PathWalk) → Shows (walk_numbers (path_walk_told a)).code (walk_shown (walk_numbers (path_walk_told a))) (values_text 1 (path_walk_told a))
-unfolding path_walk_told values_text values shown
-walk_shows (Node x) = record { small = omega arith; same = refl }
-walk_shows Nothing = record { small = omega arith; same = refl }
-walk_shows WalkInval = record { small = omega arith; same = refl }
-walk_shows WalkSmall = record { small = omega arith; same = refl }
-
-pub walk_of : (a : PathWalk) (m : WalkAnswer) → m ≡ walk_numbers (path_walk_told a) → Shows m.code (walk_shown m) (values_text 1 (path_walk_told a))
-walk_of a m e = rw e (walk_shows a)
+pub walk_of : (a : Result (Option NodeNumber) VfsError) (m : WalkAnswer) → m ≡ walk_numbers (path_walk_told a) → Shows m.code (m.node ∷ []) (values_text 1 (path_walk_told a))
+unfolding values_text values shown
+walk_of (Ok None) m e = rw e (record { small = omega arith; same = refl })
+walk_of (Ok (Some x)) m e = rw e (record { small = omega arith; same = refl })
+walk_of (Err r) m e = rw e (record { small = code_small r; same = refl })
 
 -- ---- lookup: full number
 
-abbrev lookup_shown : LookupAnswer → List ℕ
-lookup_shown m = m.inode ∷ []
-
-lookup_shows : (a : Looked) → Shows (lookup_numbers (looked_told a)).code (lookup_shown (lookup_numbers (looked_told a))) (values_text 1 (looked_told a))
-unfolding looked_told entry_answer values_text values shown
-lookup_shows (Entry e) = record { small = omega arith; same = refl }
-lookup_shows NoEnt = record { small = omega arith; same = refl }
-lookup_shows LookInval = record { small = omega arith; same = refl }
-lookup_shows LookSmall = record { small = omega arith; same = refl }
-
-pub lookup_of : (a : Looked) (m : LookupAnswer) → m ≡ lookup_numbers (looked_told a) → Shows m.code (lookup_shown m) (values_text 1 (looked_told a))
-lookup_of a m e = rw e (lookup_shows a)
+pub lookup_of : (a : Result Entry VfsError) (m : LookupAnswer) → m ≡ lookup_numbers (looked_told a) → Shows m.code (m.inode ∷ []) (values_text 1 (looked_told a))
+unfolding entry_answer values_text values shown
+lookup_of (Ok x) m e = rw e (record { small = omega arith; same = refl })
+lookup_of (Err r) m e = rw e (record { small = code_small r; same = refl })
 
 -- the text that is laid down is the line's
-pub shows : {code : ℕ} {ns text : List ℕ} → Shows code ns text → {l m : List ℕ} {at k r : ℕ} → Wrote l at k (text_of (code ∷ ns)) r m → Wrote l at k text r m
-shows s w = wrote_as s.same w
+pub shows : {code : ℕ} {ns text : List ℕ} → Shows code ns text → {l m : Text} {k : ℕ} → Appended l k (text_of (code ∷ ns)) m → Appended l k text m
+shows s w = appended_as (omega arith) s.same w

@@ -1,41 +1,47 @@
 -- The text of each answer, by the pieces that are laid down. Assumes nothing.
-use Prim.Native.Nat.{ℕ}
-use mathlib.Core.Path.{◌≡◌, ap, ◌∙◌, subst}
-use mathlib.Core.List.{List, [], ◌∷◌, ◌++◌, append_assoc}
+use Prim.Native.Nat.{ℕ, ◌+◌, ◌*◌, ◌<◌}
+use native.Mathlib.Omega.{arith}
+use mathlib.Core.Path.{◌≡◌, refl, sym, ap, ◌∙◌}
+use mathlib.Core.List.{List, [], ◌∷◌, ◌++◌, append_assoc, append-nil}
+use lib.ListN.{length, take, get_or}
+use Rattle.std.proofs.lemmas.List.{take_more, flat_map_more}
 use Rattle.rules.specs.Bytes.{ascii}
 use Rattle.rules.specs.Session.{decimal, numbers, joined, text_of}
-use Rattle.decimal.specs.Wrote.{Wrote}
-use Rattle.decimal.proofs.Texts.{wrote_more}
-use Rattle.session_text.specs.Texts.{backend_text}
+use Rattle.decimal.specs.declared.inner.Text.{Text}
+use Rattle.decimal.specs.Text.{Appended}
+use Rattle.decimal.proofs.Texts.{length_decimal, length_byte, none_appended, appended_more, appended_as}
+use Rattle.session_text.specs.Texts.{spaced, backend_text}
 
--- the same text by another name
-pub wrote_as : {l m : List ℕ} {at a r : ℕ} {xs ys : List ℕ} → xs ≡ ys → Wrote l at a xs r m → Wrote l at a ys r m
-wrote_as {l} {m} {at} {a} {r} e w = subst (λ (xs : List ℕ). Wrote l at a xs r m) e w
+-- a word, and numbers behind it
+joined_numbers : (w : List ℕ) (ns : List ℕ) → w ++ spaced ns ≡ joined (w ∷ numbers ns)
+unfolding spaced numbers joined
+joined_numbers w [] = append-nil w
+joined_numbers w (n ∷ ns) = ap (λ (l : List ℕ). w ++ (32 ∷ l)) (joined_numbers (decimal n) ns)
 
-two_text : (c x : ℕ) → (decimal c ++ (32 ∷ [])) ++ decimal x ≡ text_of (c ∷ x ∷ [])
-unfolding text_of numbers joined
-two_text c x = append_assoc (decimal c) (32 ∷ []) (decimal x)
+-- one number more
+spaced_more : (ns : List ℕ) (i : ℕ) → i < length ns → (spaced (take i ns) ++ (32 ∷ [])) ++ decimal (get_or ns i 0) ≡ spaced (take (i + 1) ns)
+unfolding spaced
+spaced_more ns i h =
+    append_assoc (spaced (take i ns)) (32 ∷ []) (decimal (get_or ns i 0)) ∙ flat_map_more (λ (n : ℕ). 32 ∷ decimal n) [] (take i ns) (get_or ns i 0) ∙ ap spaced (sym (take_more ns i 0 h))
 
-three_text : (c x y : ℕ) → (text_of (c ∷ x ∷ []) ++ (32 ∷ [])) ++ decimal y ≡ text_of (c ∷ x ∷ y ∷ [])
-unfolding text_of numbers joined
-three_text c x y =
-    append_assoc (decimal c ++ (32 ∷ decimal x)) (32 ∷ []) (decimal y) ∙ append_assoc (decimal c) (32 ∷ decimal x) (32 ∷ decimal y)
+-- nothing is written yet
+pub wrote_none : (t : Text) (ns : List ℕ) → Appended t (21 * 0) (spaced (take 0 ns)) t
+unfolding spaced
+wrote_none t ns = none_appended t
 
-backend_text_lem : (t x : ℕ) → ((((114 ∷ []) ++ (32 ∷ [])) ++ decimal t) ++ (32 ∷ [])) ++ decimal x ≡ backend_text t x
-unfolding backend_text ascii numbers joined
-backend_text_lem t x = ap (λ (l : List ℕ). 114 ∷ 32 ∷ l) (append_assoc (decimal t) (32 ∷ []) (decimal x))
+pub wrote_spaced : (ns : List ℕ) (i : ℕ) → i < length ns → (l m n o : Text) → Appended l (21 * i) (spaced (take i ns)) m → Appended m 1 (32 ∷ []) n
+    → Appended n (length (decimal (get_or ns i 0))) (decimal (get_or ns i 0)) o → Appended l (21 * (i + 1)) (spaced (take (i + 1) ns)) o
+wrote_spaced ns i h l m n o a b c = appended_as (omega (arith, length_decimal (get_or ns i 0))) (spaced_more ns i h) (appended_more (appended_more a b) c)
 
-module _ (l m n o : List ℕ) (at i j r : ℕ) where
-  pub question : Wrote l at 1 (63 ∷ []) r m → Wrote l at 1 (ascii "?") r m
-  unfolding ascii
-  question w = w
+pub question : (l m : Text) → Appended l 1 (63 ∷ []) m → Appended l 1 (ascii "?") m
+unfolding ascii
+question l m w = w
 
-  pub two : (c x : ℕ) → Wrote l at 3 (decimal c) i m → Wrote m i 1 (32 ∷ []) j n → Wrote n j 20 (decimal x) r o → Wrote l at 24 (text_of (c ∷ x ∷ [])) r o
-  two c x p q w = wrote_as (two_text c x) (wrote_more (wrote_more p q) w)
+pub wrote_numbers : (code : ℕ) (ns : List ℕ) → code < 256 → (l m n : Text) → Appended l (length (decimal code)) (decimal code) m → Appended m (21 * length ns) (spaced ns) n
+    → Appended l (3 + 21 * length ns) (text_of (code ∷ ns)) n
+unfolding text_of joined numbers
+wrote_numbers code ns h l m n a b = appended_as (omega (arith, length_byte code h)) (joined_numbers (decimal code) ns) (appended_more a b)
 
-  pub three : (c x y : ℕ) → Wrote l at 24 (text_of (c ∷ x ∷ [])) i m → Wrote m i 1 (32 ∷ []) j n → Wrote n j 20 (decimal y) r o → Wrote l at 45 (text_of (c ∷ x ∷ y ∷ [])) r o
-  three c x y p q w = wrote_as (three_text c x y) (wrote_more (wrote_more p q) w)
-
-pub backend : (l m n o p q : List ℕ) (at i j k f r t x : ℕ) → Wrote l at 1 (114 ∷ []) i m → Wrote m i 1 (32 ∷ []) j n → Wrote n j 20 (decimal t) k o → Wrote o k 1 (32 ∷ []) f p → Wrote p f 20 (decimal x) r q
-    → Wrote l at 43 (backend_text t x) r q
-backend l m n o p q at i j k f r t x a b c d e = wrote_as (backend_text_lem t x) (wrote_more (wrote_more (wrote_more (wrote_more a b) c) d) e)
+pub backend : (tag number : ℕ) (l m n : Text) → Appended l 1 (114 ∷ []) m → Appended m 42 (spaced (tag ∷ number ∷ [])) n → Appended l 43 (backend_text tag number) n
+unfolding backend_text ascii
+backend tag number l m n a b = appended_as (omega arith) (joined_numbers (114 ∷ []) (tag ∷ number ∷ [])) (appended_more a b)

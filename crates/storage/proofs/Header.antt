@@ -2,7 +2,7 @@
 use mathlib.Core.Path.{◌≡◌, ap, ap₂, ◌∙◌}
 use mathlib.Core.Bool.{true, not}
 use mathlib.Core.List.{List, [], ◌∷◌}
-use mathlib.Core.Option.{none}
+use Rattle.std.specs.Prelude.{None}
 use Prim.Native.Nat.{ℕ, zero, suc, ◌^◌, ◌≤◌, ◌<◌}
 use native.Mathlib.Omega.{arith}
 use lib.ListN.{length, get_or}
@@ -74,7 +74,7 @@ module _ (i : Instance) (mem : List ℕ) (l : Limits i) (b : occupancy_at ≤ le
     initialized = i.initialized;
     options = i.options;
     indexes = record { slots = slots_of mem; counter = i.indexes.counter };
-    tree = record { next = i.tree.next; root = none; nodes = nodes_from i.fixed.capacity mem 0 (length i.tree.nodes) };
+    tree = record { next = i.tree.next; root = None; nodes = nodes_from i.fixed.capacity mem 0 (length i.tree.nodes) };
   }
   unfolding header_of mount_from_cells
   view_headed =

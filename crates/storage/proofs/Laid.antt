@@ -1,10 +1,11 @@
 -- The layout rule, test by test: where one fails the rule does. And what it means for the answer of a call. Assumes nothing.
 use mathlib.Core.Path.{◌≡◌, sym, ap, ◌∙◌}
-use mathlib.Core.Bool.{Bool, true, false, not, and-true}
+use mathlib.Core.Bool.{Bool, true, false, not, ◌&&◌, and-true, and_assoc}
 use mathlib.Core.List.{List}
-use Prim.Native.Nat.{ℕ, ◌≤◌, ◌<◌}
+use Prim.Native.Nat.{ℕ}
 use lib.ListN.{length}
-use borrow.Author.Tests.{eq-eqb, ne_eqb, le-leb, lt-leb, lt-ltb, le-ltb, not-true, not-false}
+use borrow.Author.Tests.{not-true, not-false}
+use lib.Dec.{eqb, leb, ltb}
 use Rattle.le.specs.Mem.{get}
 use Rattle.rules.specs.Numbers.{first_number, top_number}
 use Rattle.rules.specs.Ids.{bad_mapping}
@@ -12,7 +13,6 @@ use Rattle.rules.specs.Create.{too_small, bad_options}
 use Rattle.rules.specs.Instance.{Instance}
 use Rattle.rules.specs.Outcome.{Outcome}
 use Rattle.rules.specs.Tests.{every}
-use Rattle.rules.proofs.Tests.{fails}
 use Rattle.tables.specs.Table.{row}
 use Rattle.tables.specs.Layout.{table_at, mark_at, known_at, mark, capacity_of, count_of, next_of, mapping_field}
 use Rattle.tables.specs.View.{mapping_from, options_from, head_of, view}
@@ -22,41 +22,23 @@ use Rattle.tables.proofs.Keeps.{laid_is}
 
 -- ---- the tests of the rule
 
+-- a test behind another
+pub on : (u v t : Bool) → u ≡ true → v ≡ t → v ≡ (u && t)
+on u v t a b = rw a b
+
+pub off : (u v t : Bool) → u ≡ false → v ≡ u → v ≡ (u && t)
+off u v t a b = b ∙ rw a
+
 module _ (mem : List ℕ) where
-  pub short : length mem < table_at → laid mem ≡ false
-  unfolding laid laid_by
-  short h = fails 0 _ (lt-leb table_at (length mem) h)
+  -- all but the last, in their order
+  abbrev pub header_ruled : Bool
+  header_ruled =
+      leb table_at (length mem) && eqb (get 8 mem mark_at) mark && not (too_small (length mem) (capacity_of mem)) && ltb (count_of mem) (capacity_of mem)
+      && leb first_number (next_of mem) && leb (next_of mem) top_number && not (bad_options (get 8 mem known_at) (options_from (head_of mem)))
 
-  pub unmarked : (get 8 mem mark_at ≡ mark → ⊥) → laid mem ≡ false
-  unfolding laid laid_by row get
-  unmarked h = fails 1 _ (ne_eqb (get 8 mem mark_at) mark h)
-
-  pub too_small_lem : too_small (length mem) (capacity_of mem) ≡ true → laid mem ≡ false
-  unfolding laid laid_by row get
-  too_small_lem e = fails 2 _ (rw e)
-
-  pub crowded : capacity_of mem ≤ count_of mem → laid mem ≡ false
-  unfolding laid laid_by row get
-  crowded h = fails 3 _ (le-ltb (count_of mem) (capacity_of mem) h)
-
-  pub low_next : next_of mem < first_number → laid mem ≡ false
-  unfolding laid laid_by row get
-  low_next h = fails 4 _ (lt-leb first_number (next_of mem) h)
-
-  pub high_next : top_number < next_of mem → laid mem ≡ false
-  unfolding laid laid_by row get
-  high_next h = fails 5 _ (lt-leb (next_of mem) top_number h)
-
-  pub bad_options_lem : bad_options (get 8 mem known_at) (options_from (head_of mem)) ≡ true → laid mem ≡ false
-  unfolding laid laid_by row get
-  bad_options_lem e = fails 6 _ (rw e)
-
-  -- all but the last pass: it decides
-  pub by_mapping : table_at ≤ length mem → get 8 mem mark_at ≡ mark → too_small (length mem) (capacity_of mem) ≡ false → count_of mem < capacity_of mem → first_number ≤ next_of mem → next_of mem ≤ top_number
-      → bad_options (get 8 mem known_at) (options_from (head_of mem)) ≡ false → not (bad_mapping (mapping_from mapping_field (head_of mem))) ≡ laid mem
+  pub laid_tests : laid mem ≡ (header_ruled && not (bad_mapping (mapping_from mapping_field (head_of mem))))
   unfolding laid laid_by row get every
-  by_mapping a b c d e f g =
-      rw (le-leb table_at (length mem) a, eq-eqb (get 8 mem mark_at) mark b, c, lt-ltb (count_of mem) (capacity_of mem) d, le-leb first_number (next_of mem) e, le-leb (next_of mem) top_number f, g, and-true)
+  laid_tests = simp (and_assoc, and-true)
 
   -- ---- the answer of a call
 

@@ -2,7 +2,7 @@
 use mathlib.Core.Path.{◌≡◌, refl, sym, ap, ◌∙◌}
 use mathlib.Core.Bool.{true}
 use mathlib.Core.List.{List, [], ◌∷◌, ◌++◌, append-nil, append_assoc}
-use mathlib.Core.Option.{Option, none, some}
+use Rattle.std.specs.Prelude.{Option, None, Some}
 use Prim.Native.Nat.{ℕ, ◌+◌, ◌*◌, ◌^◌, ◌<◌}
 use native.Mathlib.Nat.{zero-add}
 use native.Mathlib.Numerals.{add-one}
@@ -77,8 +77,8 @@ unfolding set_root_mount put_header
 root_bytes m mem h = row_bytes_lem header (from_place root_cell_field (mount_cells m)) mem 0 h (from_bytes root_cell_field (mount_cells m) (cells m))
   where
     cells : (o : Option Mount) → AllBytes (mount_cells o)
-    cells none = (number_bytes 8 0, omega arith)
-    cells (some o) = (number_bytes 8 (o.index * 2 ^ 56 + o.root), (number_bytes 4 o.uid, (number_bytes 4 o.gid, (number_bytes 4 o.mode, omega arith))))
+    cells None = (number_bytes 8 0, omega arith)
+    cells (Some o) = (number_bytes 8 (o.index * 2 ^ 56 + o.root), (number_bytes 4 o.uid, (number_bytes 4 o.gid, (number_bytes 4 o.mode, omega arith))))
 
 head_bytes : (i : Instance) (mem : List ℕ) → Bytes mem → Bytes (put_header mark_field (spell header (header_of i)) mem)
 unfolding put_header

@@ -1,7 +1,7 @@
 -- Rows written with all their cells: the table then has these nodes. Assumes nothing.
 use mathlib.Core.Path.{◌≡◌, refl, ap, ◌∙◌}
 use mathlib.Core.List.{List, [], ◌∷◌, ◌++◌, append-nil, append_assoc}
-use mathlib.Core.Option.{Option, none, some}
+use Rattle.std.specs.Prelude.{Option, None, Some}
 use Prim.Native.Nat.{ℕ, suc, ◌+◌, ◌-◌, ◌*◌, ◌%◌, ◌^◌, ◌≤◌, ◌<◌}
 use native.Mathlib.Nat.{mod-eq_of_lt, add-zero}
 use native.Mathlib.Omega.{arith}
@@ -25,20 +25,20 @@ use Rattle.storage.proofs.Bytes.{AllBytes, number_bytes, append_bytes, take_byte
 -- ---- a row with all its cells
 
 abbrev word_of : Option Mount → ℕ
-word_of none = 0
-word_of (some m) = m.index * 2 ^ 56 + m.root
+word_of None = 0
+word_of (Some m) = m.index * 2 ^ 56 + m.root
 
 abbrev uid_of : Option Mount → ℕ
-uid_of none = 0
-uid_of (some m) = m.uid
+uid_of None = 0
+uid_of (Some m) = m.uid
 
 abbrev gid_of : Option Mount → ℕ
-gid_of none = 0
-gid_of (some m) = m.gid
+gid_of None = 0
+gid_of (Some m) = m.gid
 
 abbrev mode_of : Option Mount → ℕ
-mode_of none = 0
-mode_of (some m) = m.mode
+mode_of None = 0
+mode_of (Some m) = m.mode
 
 unfoldable pub row_cells : Node → List (List ℕ)
 row_cells x =
@@ -54,8 +54,8 @@ row_cells x =
 
 word_back : (m : Option Mount) → MayFit m → mount_from_cells (word_of m) (uid_of m) (gid_of m) (mode_of m) ≡ m
 unfolding mount_from_cells
-word_back none f = refl
-word_back (some m) f = mount_word m f
+word_back None f = refl
+word_back (Some m) f = mount_word m f
 
 record Words (m : Option Mount) : Type 0 where
   pub word : word_of m < 256 ^ 8
@@ -64,8 +64,8 @@ record Words (m : Option Mount) : Type 0 where
   pub mode : mode_of m < 256 ^ 4
 
 words : (m : Option Mount) → MayFit m → Words m
-words none f = record { word = omega arith; uid = omega arith; gid = omega arith; mode = omega arith }
-words (some m) f = record { word = omega arith; uid = omega arith; gid = omega arith; mode = omega arith }
+words None f = record { word = omega arith; uid = omega arith; gid = omega arith; mode = omega arith }
+words (Some m) f = record { word = omega arith; uid = omega arith; gid = omega arith; mode = omega arith }
 
 row_fits : (n : ℕ) (x : Node) → NodeFits x → Fit (node_table n) (row_cells x)
 unfolding row_cells

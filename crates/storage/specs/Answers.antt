@@ -1,15 +1,12 @@
 -- What the answers of the calls on the header tell, and their rules.
+use Rattle.std.specs.Prelude.{Bool, Result}
+use Rattle.rules.specs.declared.codes.VfsError.{VfsError}
 use Rattle.rules.specs.Instance.{Instance}
 use Rattle.rules.specs.Outcome.{nothing, settings, truth, Outcome}
 use Rattle.rules.specs.Calls.{set_remove_pseudo_root, ask, options, initialized, rule}
-use Rattle.call_form.specs.Form.{Told, tells, told_small}
+use Rattle.call_form.specs.Form.{Told, told_of}
+use Rattle.vfs_options.specs.declared.VfsOptions.{VfsOptions}
 use Rattle.vfs_options.specs.Given.{options_in}
-use Rattle.storage.specs.declared.Removal.{Removal}
-use Rattle.storage.specs.declared.Removal.TheVariants.{Done, Small as RemovalSmall}
-use Rattle.storage.specs.declared.IsInitialized.{IsInitialized}
-use Rattle.storage.specs.declared.IsInitialized.TheVariants.{Is, Small as InitializedSmall}
-use Rattle.storage.specs.declared.OptionsOf.{OptionsOf}
-use Rattle.storage.specs.declared.OptionsOf.TheVariants.{Options as OptionsAre, Small as OptionsSmall}
 
 -- ---- the rules of the three calls
 
@@ -28,16 +25,13 @@ options_call i = rule i (ask options)
 -- ---- number and values of each answer
 
 -- of the setting (R32)
-unfoldable pub removal_told : Removal → Told
-removal_told Done = tells nothing
-removal_told RemovalSmall = told_small
+abbrev pub removal_told : Result (Unit {0}) VfsError → Told
+removal_told = told_of (λ (t : Unit {0}). nothing)
 
 -- of the query of `initialized` (R33, R134)
-unfoldable pub initialized_told : IsInitialized → Told
-initialized_told (Is b) = tells (truth b)
-initialized_told InitializedSmall = told_small
+abbrev pub initialized_told : Result Bool VfsError → Told
+initialized_told = told_of truth
 
 -- of the query of the options (R27, R33, R34)
-unfoldable pub options_told : OptionsOf → Told
-options_told (OptionsAre o) = tells (settings (options_in o))
-options_told OptionsSmall = told_small
+abbrev pub options_told : Result VfsOptions VfsError → Told
+options_told = told_of (λ (o : VfsOptions). settings (options_in o))

@@ -1,7 +1,9 @@
 -- Creation: what it writes, its answer's number, and its contract.
-use Rattle.std.specs.Prelude.{ℕ, ◌^◌, ◌<◌, ◌≡◌, true, cond, List, [], ◌∷◌, ◌++◌, length, get_or, replicate, eqb}
+use Rattle.std.specs.Prelude.{ℕ, ◌^◌, ◌<◌, ◌≡◌, true, cond, List, [], ◌∷◌, ◌++◌, length, get_or, replicate, eqb, Result, Ok, Err}
 use Rattle.le.specs.Mem.{write, bytes_of}
-use Rattle.rules.specs.Numbers.{DONE, SMALL, BADOPT, BADMAP}
+use Rattle.rules.specs.Numbers.{DONE}
+use Rattle.rules.specs.Codes.{code_of}
+use Rattle.rules.specs.declared.codes.VfsError.{VfsError}
 use Rattle.rules.specs.Instance.{held_by, empty_slot, counter_of}
 use Rattle.rules.specs.Create.{Creation, new_instance, create_rule}
 use Rattle.rules.specs.claims.Driven.{Driven}
@@ -12,19 +14,15 @@ use Rattle.tables.specs.Write.{put_header}
 use Rattle.storage.specs.Header.{spell, header_of}
 use Rattle.vfs_options.specs.declared.VfsOptions.{VfsOptions}
 use Rattle.vfs_options.specs.Given.{options_in}
-use Rattle.storage.specs.declared.Created.{Created}
-use Rattle.storage.specs.declared.Created.TheVariants.{Done, Small, BadOpt, BadMap}
 
 -- what the arguments ask for (R26, R27)
 abbrev pub creation_of : ℕ → ℕ → VfsOptions → Creation
 creation_of n known o = record { capacity = n; known = known; options = options_in o }
 
 -- the number of the answer (R15)
-unfoldable pub created_code : Created → ℕ
-created_code Done = DONE
-created_code Small = SMALL
-created_code BadOpt = BADOPT
-created_code BadMap = BADMAP
+abbrev pub created_code : Result (Unit {0}) VfsError → ℕ
+created_code (Ok t) = DONE
+created_code (Err e) = code_of e
 
 -- tags as they stand in their column
 unfoldable pub tag_bytes : List ℕ → List ℕ

@@ -11,10 +11,7 @@ use vfs_options::VfsOptions;
 pub fn is_unknown(known: u64, o: VfsOptions) -> bool
     ensures { result ≡ unknown known (options_in o) }
 {
-    if o.in_opts & known != o.in_opts {
-        return true;
-    }
-    o.out_opts & known != o.out_opts
+    o.in_opts & known != o.in_opts || o.out_opts & known != o.out_opts
 }
 
 // The options of the header, with their own mapping (R27, R34).

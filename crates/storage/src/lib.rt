@@ -1,7 +1,7 @@
 // The bytes that a host lends: the layout rule's test, creation, and the calls on the header alone (docs/LAYOUT.md).
 #![tactic(auto)]
 
-ghost use Rattle.std.specs.Prelude.{◌≡◌, cond, [], ◌∷◌, ◌≤◌, length};
+ghost use Rattle.std.specs.Prelude.{◌≡◌, cond, true, false, [], ◌∷◌, ◌≤◌, length, MatchResult};
 ghost use Rattle.le.specs.Mem.{write, bytes_of};
 ghost use Rattle.rules.specs.Create.{too_small, bad_options};
 ghost use Rattle.tables.specs.Layout.{mark, table_at, tags_at, flags_field, mark_field};
@@ -12,39 +12,10 @@ ghost use Rattle.storage.specs.Creation.{creation_of, created_code, tag_bytes, e
 ghost use Rattle.vfs_options.specs.Given.{options_in};
 ghost use Rattle.storage.specs.Answers.{removal_told, remove_call, initialized_told, initialized_call, options_told, options_call};
 
+use rules::codes::{VfsError, VfsResult};
 use vfs_options::VfsOptions;
 
 pub mod inner;
-
-// The answer of creation (R26).
-#[derive(Clone, Copy)]
-pub enum Created {
-    Done,
-    Small,
-    BadOpt,
-    BadMap,
-}
-
-// The answer of the setting of `remove_pseudo_root` (R32).
-#[derive(Clone, Copy)]
-pub enum Removal {
-    Done,
-    Small,
-}
-
-// Whether the instance is initialized (R33).
-#[derive(Clone, Copy)]
-pub enum IsInitialized {
-    Is(bool),
-    Small,
-}
-
-// The options of an instance (R33).
-#[derive(Clone, Copy)]
-pub enum OptionsOf {
-    Options(VfsOptions),
-    Small,
-}
 
 // The bytes `GALDOVAR`.
 const MARK: u64 = 5927113483044536647;
@@ -53,10 +24,7 @@ const MARK: u64 = 5927113483044536647;
 fn is_small(bytes: usize, n: u64) -> bool
     ensures { result ≡ too_small bytes n }
 {
-    if n < 1 {
-        return true;
-    }
-    if (rules::MAX_NODES as u64) < n {
+    if n < 1 || (rules::MAX_NODES as u64) < n {
         return true;
     }
     (bytes as u64) < 512 * n + (tables::places::TABLE as u64)
@@ -66,43 +34,36 @@ fn is_small(bytes: usize, n: u64) -> bool
 fn has_bad_options(known: u64, o: VfsOptions) -> bool
     ensures { result ≡ bad_options known (options_in o) }
 {
-    if inner::is_unknown(known, o) {
-        return true;
-    }
-    rules::FLAGS <= o.flags
+    inner::is_unknown(known, o) || rules::FLAGS <= o.flags
 }
 
 // Whether the bytes keep the layout rule: tests of the header alone (R20, R21, R22).
 pub fn is_laid(s: &[u8]) -> bool
     ensures { result ≡ laid s.now }
 {
-    if s.len() < tables::places::TABLE {
-        return false;
+    s.len() >= tables::places::TABLE
+        && le::fields::get_u64(s, tables::places::MARK_AT) == MARK
+        && !is_small(s.len(), le::fields::get_u64(s, tables::places::CAPACITY_AT))
+        && le::fields::get_u64(s, tables::places::COUNT_AT)
+            < le::fields::get_u64(s, tables::places::CAPACITY_AT)
+        && rules::PSEUDOFS_NEXT_INODE <= le::fields::get_u64(s, tables::places::NEXT_AT)
+        && le::fields::get_u64(s, tables::places::NEXT_AT) <= rules::NUMBERS
+        && !has_bad_options(
+            le::fields::get_u64(s, tables::places::KNOWN_AT),
+            inner::options_in(s),
+        )
+        && !id_map::is_bad(tables::header::mapping(s))
+}
+
+// SMALL where the bytes break the layout rule (R19).
+pub fn check_laid(s: &[u8]) -> VfsResult<()>
+    ensures { MatchResult result (λ _. laid s.now ≡ true)
+        (λ e. (e ≡ VfsError.Small) × (laid s.now ≡ false)) }
+{
+    if is_laid(s) {
+        return Ok(());
     }
-    if le::fields::get_u64(s, tables::places::MARK_AT) != MARK {
-        return false;
-    }
-    let n = le::fields::get_u64(s, tables::places::CAPACITY_AT);
-    if is_small(s.len(), n) {
-        return false;
-    }
-    if n <= le::fields::get_u64(s, tables::places::COUNT_AT) {
-        return false;
-    }
-    let next = le::fields::get_u64(s, tables::places::NEXT_AT);
-    if next < rules::PSEUDOFS_NEXT_INODE {
-        return false;
-    }
-    if rules::NUMBERS < next {
-        return false;
-    }
-    if has_bad_options(
-        le::fields::get_u64(s, tables::places::KNOWN_AT),
-        inner::options_in(s),
-    ) {
-        return false;
-    }
-    !id_map::is_bad(tables::header::mapping(s))
+    Err(VfsError::Small)
 }
 
 // The tags, one behind the other in their column.
@@ -111,10 +72,8 @@ fn put_tags(s: &mut [u8], tags: &[u32])
     requires table_at_in_bounds { table_at ≤ length s.old }
     ensures { s.new ≡ write s.old tags_at (tag_bytes tags.now) }
 {
-    let mut k = 0;
-    while k < tags.len() {
-        le::fields::put_u32(s, tables::places::tag_at(k), tags[k]);
-        k += 1;
+    for (k, tag) in tags.iter().enumerate() {
+        le::fields::put_u32(s, tables::places::tag_at(k), *tag);
     }
 }
 
@@ -168,50 +127,43 @@ fn put_new(s: &mut [u8], n: usize, known: u64, o: VfsOptions)
 }
 
 // A new instance of N nodes, whatever the bytes held: SMALL, then BADOPT, then BADMAP, or done (R19, R26 to R34).
-pub fn create(s: &mut [u8], n: usize, known: u64, o: VfsOptions) -> Created
+pub fn create(s: &mut [u8], n: usize, known: u64, o: VfsOptions) -> VfsResult<()>
     ensures { Creates s.old (creation_of n known o) (created_code result) s.new }
 {
     if is_small(s.len(), n as u64) {
-        return Created::Small;
+        return Err(VfsError::Small);
     }
     if has_bad_options(known, o) {
-        return Created::BadOpt;
+        return Err(VfsError::BadOpt);
     }
     if id_map::is_bad(o.id_mapping) {
-        return Created::BadMap;
+        return Err(VfsError::BadMap);
     }
     put_new(s, n, known, o);
-    Created::Done
+    Ok(())
 }
 
 // From now on a done unmount also removes its node; the root always stays; SMALL before all else (R19, R32, R100).
-pub fn set_remove_pseudo_root(s: &mut [u8]) -> Removal
+pub fn set_remove_pseudo_root(s: &mut [u8]) -> VfsResult<()>
     ensures { Does s.old remove_call (removal_told result) s.new (cond (laid s.old) (set_removal s.old) s.old) }
 {
-    if !is_laid(s) {
-        return Removal::Small;
-    }
+    check_laid(s)?;
     tables::header::set_removes(s);
-    Removal::Done
+    Ok(())
 }
 
 // Whether the instance is initialized; SMALL before all else (R19, R33, R134).
-pub fn initialized(s: &[u8]) -> IsInitialized
+pub fn initialized(s: &[u8]) -> VfsResult<bool>
     ensures { initialized_told result ≡ answered_by s.now initialized_call }
 {
-    if !is_laid(s) {
-        return IsInitialized::Small;
-    }
-    IsInitialized::Is(le::fields::get_u8(s, tables::places::INITIALIZED_AT) != 0)
+    check_laid(s)?;
+    Ok(le::fields::get_u8(s, tables::places::INITIALIZED_AT) != 0)
 }
 
 // The options, with their own mapping; SMALL before all else (R19, R27, R33, R34).
-pub fn options(s: &[u8]) -> OptionsOf
+pub fn options(s: &[u8]) -> VfsResult<VfsOptions>
     ensures { options_told result ≡ answered_by s.now options_call }
 {
-    if !is_laid(s) {
-        return OptionsOf::Small;
-    }
-    let o = inner::options_in(s);
-    OptionsOf::Options(o)
+    check_laid(s)?;
+    Ok(inner::options_in(s))
 }

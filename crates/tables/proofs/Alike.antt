@@ -2,7 +2,7 @@
 use mathlib.Core.Path.{◌≡◌, refl, sym, ap, ◌∙◌}
 use mathlib.Core.Bool.{Bool, true, false, ◌&&◌, true≢false, and-false}
 use mathlib.Core.List.{List}
-use mathlib.Core.Option.{none, some}
+use Rattle.std.specs.Prelude.{Option, None, Some}
 use Prim.Native.Nat.{ℕ, ◌+◌, ◌-◌, ◌*◌, ◌%◌, ◌^◌, ◌≤◌, ◌<◌, min}
 use native.Mathlib.Nat.{mod-eq_of_lt}
 use native.Mathlib.Omega.{arith}
@@ -16,15 +16,15 @@ use Rattle.le.proofs.Same.{same_words, other_words}
 use Rattle.rules.proofs.Tests.{and_both}
 use Rattle.rules.proofs.Same.{same_eq}
 use Rattle.rules.proofs.Fields.{bytes_bits, get_fits}
-use Rattle.rules.specs.Tree.{is_child}
+use Rattle.rules.specs.Tree.{is_child, child_in}
 use Rattle.scan.specs.First.{cell_is, first_place}
-use Rattle.scan.proofs.First.{first_passes, first_finds, first_after}
+use Rattle.scan.proofs.First.{found_holds, found_passes, none_passes}
 use Rattle.scan.specs.Key.{mask_of, word_of}
 use Rattle.tables.specs.Layout.{table_at, lasts_at, last_at, first_at, capacity_of, count_of}
 use Rattle.tables.specs.View.{node_at, nodes_of}
 use Rattle.tables.specs.Answer.{place_in}
 use Rattle.tables.proofs.Cells.{number_at_lem, other_length, short_name, long_name, long_same}
-use Rattle.tables.proofs.Find.{Sought, child_on, Placed, place_begins, place_here, place_on, place_none}
+use Rattle.tables.proofs.Find.{Sought, child_on, child_none, Placed, place_begins, place_here, place_on, place_none}
 
 -- ---- the low bytes of a cell
 
@@ -156,26 +156,35 @@ module _ (n : ℕ) (mem : List ℕ) (i : ℕ) (p : List ℕ) (b : Bytes mem) whe
       → same (node_at n mem i).name p ≡ same (read mem (first_at n i) (length p - 7)) (read p 0 (length p - 7))
   alike_start c e h = let q = alike_length e h in rw q at (alike_named c e q)
 
--- ---- rows passed over
+-- ---- the search for a child by the cells of names
 
--- rows whose cell is not the one sought are passed over in the search for a child: m and w are the key's numbers
-module _ (mem : List ℕ) (here : ℕ) (p : List ℕ) (c : ℕ) (b : Bytes mem) (k : c ≡ count_of mem) (m w : ℕ) (e : (m ≡ mask_of p) × (w ≡ word_of p)) (i r : ℕ)
-    (a : r ≡ first_place (cell_is mem (lasts_at (capacity_of mem)) m w) i (count_of mem - i)) where
-  pub skips : Sought mem here p c i → Sought mem here p c r
-  skips s =
-      rw (a, e.0, e.1, ← k)
-      (first_passes (cell_is mem (lasts_at (capacity_of mem)) (mask_of p) (word_of p)) (Sought mem here p c) i (c - i)
-      (λ j h f q. child_on mem here p c j q (omega (arith, s.0)) (unlike (capacity_of mem) mem j p b here f)) s)
+-- row r is reached from row i on: the rows before it are passed over, and its cell is that of the name
+pub record Reaches (mem : List ℕ) (here : ℕ) (p : List ℕ) (i r : ℕ) : Type 0 where
+  pub on : i ≤ r
+  pub below : r < count_of mem
+  pub alike : cell_is mem (lasts_at (capacity_of mem)) (mask_of p) (word_of p) r ≡ true
+  pub sought : Sought mem here p r
 
-  -- the row that is reached has the cell
-  pub lands : Sought mem here p c i → r < c → cell_is mem (lasts_at (capacity_of mem)) (mask_of p) (word_of p) r ≡ true
-  lands s h =
-      rw (← e.0, ← e.1)
-      (rw a (first_finds (cell_is mem (lasts_at (capacity_of mem)) m w) i (count_of mem - i) (omega (arith, a, k, s.0, h))))
+-- m and w are the key's numbers
+module _ (mem : List ℕ) (here : ℕ) (p : List ℕ) (b : Bytes mem) (m w : ℕ) (e : (m ≡ mask_of p) × (w ≡ word_of p)) (i : ℕ) (s : Sought mem here p i) where
+  abbrev test : ℕ → Bool
+  test = cell_is mem (lasts_at (capacity_of mem)) (mask_of p) (word_of p)
 
--- a search from i on does not go back
-pub further : (mem : List ℕ) (m w i r : ℕ) → r ≡ first_place (cell_is mem (lasts_at (capacity_of mem)) m w) i (count_of mem - i) → i ≤ r
-further mem m w i r a = rw a (first_after (cell_is mem (lasts_at (capacity_of mem)) m w) i (count_of mem - i))
+  passed : (j : ℕ) → j < i + (count_of mem - i) → test j ≡ false → Sought mem here p j → Sought mem here p (j + 1)
+  passed j h f q = child_on mem here p j q (omega (arith, s.0)) (unlike (capacity_of mem) mem j p b here f)
+
+  pub reaches : (r : ℕ) → Some r ≡ first_place (cell_is mem (lasts_at (capacity_of mem)) m w) i (count_of mem - i) → Reaches mem here p i r
+  reaches r a =
+      let f : first_place test i (count_of mem - i) ≡ Some r = rw (← e.0, ← e.1) (sym a) in
+      let g = found_holds test i (count_of mem - i) r f in
+      record { on = g.0; below = omega (arith, g.1, s.0); alike = g.2; sought = found_passes test (Sought mem here p) i (count_of mem - i) r f passed s }
+
+  pub reaches_none : None ≡ first_place (cell_is mem (lasts_at (capacity_of mem)) m w) i (count_of mem - i) → child_in (nodes_of mem) here p ≡ None
+  reaches_none a =
+      let f : first_place test i (count_of mem - i) ≡ None = rw (← e.0, ← e.1) (sym a) in
+      child_none mem here p (i + (count_of mem - i)) (none_passes test (Sought mem here p) i (count_of mem - i) f passed s) (omega arith)
+
+-- ---- the search for a number
 
 -- the cell of a row's number
 module _ (mem : List ℕ) (x i : ℕ) where
@@ -191,16 +200,17 @@ module _ (mem : List ℕ) (x i : ℕ) where
   number_other e h = eqb-false _ x e (number_mask ∙ h)
 
 -- the place of a number is the first row with its cell
-module _ (mem : List ℕ) (x c r : ℕ) (k : c ≡ count_of mem) (e : r ≡ first_place (cell_is mem table_at (2 ^ 56 - 1) x) 0 (c - 0)) where
-  reached : Placed mem x c r
-  reached =
-      rw e
-      (first_passes (cell_is mem table_at (2 ^ 56 - 1) x) (Placed mem x c) 0 (c - 0) (λ j h f q. place_on mem x c j q (omega arith) (number_other mem x j f)) (place_begins mem x c k))
+pub row_sought : (mem : List ℕ) (x : ℕ) → first_place (cell_is mem table_at (2 ^ 56 - 1) x) 0 (count_of mem - 0) ≡ place_in (nodes_of mem) x
+row_sought mem x = go (first_place test 0 (count_of mem - 0)) refl
+  where
+    test : ℕ → Bool
+    test = cell_is mem table_at (2 ^ 56 - 1) x
 
-  pub row_found : r < c → place_in (nodes_of mem) x ≡ some r
-  row_found h =
-      let t : cell_is mem table_at (2 ^ 56 - 1) x r ≡ true = rw e (first_finds (cell_is mem table_at (2 ^ 56 - 1) x) 0 (c - 0) (omega (arith, e))) in
-      place_here mem x c r reached h (number_here mem x r t)
+    passed : (j : ℕ) → j < 0 + (count_of mem - 0) → test j ≡ false → Placed mem x j → Placed mem x (j + 1)
+    passed j h f q = place_on mem x j q (omega arith) (number_other mem x j f)
 
-  pub row_missing : c ≤ r → place_in (nodes_of mem) x ≡ none
-  row_missing h = place_none mem x c r reached h
+    go : (o : Option ℕ) → first_place test 0 (count_of mem - 0) ≡ o → o ≡ place_in (nodes_of mem) x
+    go None e = sym (place_none mem x (0 + (count_of mem - 0)) (none_passes test (Placed mem x) 0 (count_of mem - 0) e passed (place_begins mem x)) (omega arith))
+    go (Some r) e =
+        let g = found_holds test 0 (count_of mem - 0) r e in
+        sym (place_here mem x r (found_passes test (Placed mem x) 0 (count_of mem - 0) r e passed (place_begins mem x)) (omega (arith, g.1)) (number_here mem x r g.2))

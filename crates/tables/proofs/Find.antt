@@ -2,7 +2,7 @@
 use mathlib.Core.Path.{◌≡◌, refl, sym, ap, ◌∙◌}
 use mathlib.Core.Bool.{true, false}
 use mathlib.Core.List.{List}
-use mathlib.Core.Option.{Option, none, some}
+use Rattle.std.specs.Prelude.{Option, None, Some}
 use Prim.Native.Nat.{ℕ, ◌+◌, ◌-◌, ◌≤◌, ◌<◌}
 use native.Mathlib.Nat.{zero-add, add-zero, sub-zero}
 use native.Mathlib.Omega.{arith}
@@ -40,59 +40,59 @@ module _ (here : ℕ) (p : List ℕ) (n : Node) where
   child_named h = rw (eq-eqb n.parent here h)
 
 -- the first among all is the first among those that are left
-abbrev pub Sought : List ℕ → ℕ → List ℕ → ℕ → ℕ → Type 0
-Sought mem here p c i = (i ≤ c) × (child_in (nodes_of mem) here p ≡ child_in (left mem c i) here p)
+abbrev pub Sought : List ℕ → ℕ → List ℕ → ℕ → Type 0
+Sought mem here p i = (i ≤ count_of mem) × (child_in (nodes_of mem) here p ≡ child_in (left mem (count_of mem) i) here p)
 
-module _ (mem : List ℕ) (here : ℕ) (p : List ℕ) (c : ℕ) where
-  pub child_begins : c ≡ count_of mem → Sought mem here p c 0
-  child_begins e = (omega arith, ap (λ (ns : List Node). child_in ns here p) (none_looked mem c e))
+module _ (mem : List ℕ) (here : ℕ) (p : List ℕ) where
+  pub child_begins : Sought mem here p 0
+  child_begins = (omega arith, ap (λ (ns : List Node). child_in ns here p) (none_looked mem (count_of mem) refl))
 
-  pub child_here : (i : ℕ) → Sought mem here p c i → i < c → is_child here p (node_at (capacity_of mem) mem i) ≡ true
-      → child_in (nodes_of mem) here p ≡ some (node_at (capacity_of mem) mem i).number
+  pub child_here : (i : ℕ) → Sought mem here p i → i < count_of mem → is_child here p (node_at (capacity_of mem) mem i) ≡ true
+      → child_in (nodes_of mem) here p ≡ Some (node_at (capacity_of mem) mem i).number
   unfolding child_in
-  child_here i s h e = s.1 ∙ rw (tab_next (node_at (capacity_of mem) mem) i c h, e)
+  child_here i s h e = s.1 ∙ rw (tab_next (node_at (capacity_of mem) mem) i (count_of mem) h, e)
 
-  pub child_on : (i : ℕ) → Sought mem here p c i → i < c → is_child here p (node_at (capacity_of mem) mem i) ≡ false → Sought mem here p c (i + 1)
+  pub child_on : (i : ℕ) → Sought mem here p i → i < count_of mem → is_child here p (node_at (capacity_of mem) mem i) ≡ false → Sought mem here p (i + 1)
   unfolding child_in
-  child_on i s h e = (omega arith, s.1 ∙ rw (tab_next (node_at (capacity_of mem) mem) i c h, e))
+  child_on i s h e = (omega arith, s.1 ∙ rw (tab_next (node_at (capacity_of mem) mem) i (count_of mem) h, e))
 
-  pub child_none : (i : ℕ) → Sought mem here p c i → c ≤ i → child_in (nodes_of mem) here p ≡ none
+  pub child_none : (i : ℕ) → Sought mem here p i → count_of mem ≤ i → child_in (nodes_of mem) here p ≡ None
   unfolding child_in
-  child_none i s h = s.1 ∙ rw (tab_done (node_at (capacity_of mem) mem) i c h)
+  child_none i s h = s.1 ∙ rw (tab_done (node_at (capacity_of mem) mem) i (count_of mem) h)
 
 -- ---- the place of a number
 
 -- a place, i further on
 unfoldable pub past : ℕ → Option ℕ → Option ℕ
-past i none = none
-past i (some j) = some (i + j)
+past i None = None
+past i (Some j) = Some (i + j)
 
 past_later : (i : ℕ) (o : Option ℕ) → past i (later o) ≡ past (i + 1) o
 unfolding past
-past_later i none = refl
-past_later i (some j) = ap some (omega arith)
+past_later i None = refl
+past_later i (Some j) = ap Some (omega arith)
 
 past_zero : (o : Option ℕ) → past 0 o ≡ o
 unfolding past
-past_zero none = refl
-past_zero (some j) = ap some (zero-add j)
+past_zero None = refl
+past_zero (Some j) = ap Some (zero-add j)
 
-abbrev pub Placed : List ℕ → ℕ → ℕ → ℕ → Type 0
-Placed mem x c i = (i ≤ c) × (place_in (nodes_of mem) x ≡ past i (place_in (left mem c i) x))
+abbrev pub Placed : List ℕ → ℕ → ℕ → Type 0
+Placed mem x i = (i ≤ count_of mem) × (place_in (nodes_of mem) x ≡ past i (place_in (left mem (count_of mem) i) x))
 
-module _ (mem : List ℕ) (x c : ℕ) where
-  pub place_begins : c ≡ count_of mem → Placed mem x c 0
-  place_begins e = (omega arith, ap (λ (ns : List Node). place_in ns x) (none_looked mem c e) ∙ sym (past_zero (place_in (left mem c 0) x)))
+module _ (mem : List ℕ) (x : ℕ) where
+  pub place_begins : Placed mem x 0
+  place_begins = (omega arith, ap (λ (ns : List Node). place_in ns x) (none_looked mem (count_of mem) refl) ∙ sym (past_zero (place_in (left mem (count_of mem) 0) x)))
 
-  pub place_here : (i : ℕ) → Placed mem x c i → i < c → (node_at (capacity_of mem) mem i).number ≡ x → place_in (nodes_of mem) x ≡ some i
+  pub place_here : (i : ℕ) → Placed mem x i → i < count_of mem → (node_at (capacity_of mem) mem i).number ≡ x → place_in (nodes_of mem) x ≡ Some i
   unfolding place_in past
-  place_here i s h e = s.1 ∙ rw (tab_next (node_at (capacity_of mem) mem) i c h, eq-eqb (node_at (capacity_of mem) mem i).number x e, add-zero)
+  place_here i s h e = s.1 ∙ rw (tab_next (node_at (capacity_of mem) mem) i (count_of mem) h, eq-eqb (node_at (capacity_of mem) mem i).number x e, add-zero)
 
-  pub place_on : (i : ℕ) → Placed mem x c i → i < c → ((node_at (capacity_of mem) mem i).number ≡ x → ⊥) → Placed mem x c (i + 1)
+  pub place_on : (i : ℕ) → Placed mem x i → i < count_of mem → ((node_at (capacity_of mem) mem i).number ≡ x → ⊥) → Placed mem x (i + 1)
   unfolding place_in
   place_on i s h e =
-      (omega arith, s.1 ∙ rw (tab_next (node_at (capacity_of mem) mem) i c h, ne_eqb (node_at (capacity_of mem) mem i).number x e) (past_later i (place_in (left mem c (i + 1)) x)))
+      (omega arith, s.1 ∙ rw (tab_next (node_at (capacity_of mem) mem) i (count_of mem) h, ne_eqb (node_at (capacity_of mem) mem i).number x e) (past_later i (place_in (left mem (count_of mem) (i + 1)) x)))
 
-  pub place_none : (i : ℕ) → Placed mem x c i → c ≤ i → place_in (nodes_of mem) x ≡ none
+  pub place_none : (i : ℕ) → Placed mem x i → count_of mem ≤ i → place_in (nodes_of mem) x ≡ None
   unfolding place_in past
-  place_none i s h = s.1 ∙ rw (tab_done (node_at (capacity_of mem) mem) i c h)
+  place_none i s h = s.1 ∙ rw (tab_done (node_at (capacity_of mem) mem) i (count_of mem) h)

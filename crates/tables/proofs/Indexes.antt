@@ -3,7 +3,7 @@
 use mathlib.Core.Path.{◌≡◌, refl, sym, ap, ◌∙◌}
 use mathlib.Core.Bool.{Bool, not, cond, ◌&&◌}
 use mathlib.Core.List.{List, [], ◌∷◌}
-use mathlib.Core.Option.{Option, some}
+use Rattle.std.specs.Prelude.{Option, None, Some}
 use Prim.Native.Nat.{ℕ, zero, suc, ◌+◌, ◌*◌, ◌%◌, ◌<◌}
 use native.Mathlib.Nat.{one-mul, zero-add}
 use native.Mathlib.Omega.{arith}
@@ -16,13 +16,12 @@ use Rattle.le.proofs.Lens.{get_one}
 use Rattle.rules.specs.Instance.{empty_slot, slot_of, tag_in_slot, tag_of}
 use Rattle.rules.specs.Round.{going_round, until_twice, visited, first_free, free_of, allocate}
 use Rattle.index.specs.Slots.{held_in_column}
-use Rattle.index.specs.Search.{read_of, search_told}
+use Rattle.index.specs.Search.{search_told}
 use Rattle.index.specs.declared.Allocated.{Allocated}
 use Rattle.tables.specs.Table.{row}
 use Rattle.tables.specs.Layout.{occupancy_at, tags_at, counter_byte}
 use Rattle.tables.specs.View.{slot_from, slot_at, slots_of, view}
-use Rattle.tables.specs.Answer.{tag_in, is_held}
-use Rattle.tables.specs.declared.slots.Tag.TheVariants.{Held, Empty}
+use Rattle.tables.specs.Answer.{is_held}
 use Rattle.tables.proofs.Tab.{length_tab, tab_at}
 
 -- 256 slots are seen in the bytes
@@ -41,12 +40,12 @@ pub tag_of_is : (mem : List ℕ) (k : ℕ) (t : Option ℕ) → k < 256 → t �
 tag_of_is mem k t h e = e ∙ ap tag_in_slot (sym (slot_of_lem mem k h))
 
 module _ (mem : List ℕ) (k : ℕ) where
-  pub tag_empty : get 1 mem (occupancy_at + k) ≡ 0 → tag_in Empty ≡ tag_in_slot (slot_at mem k)
-  unfolding tag_in slot_at slot_from row get
+  pub tag_empty : get 1 mem (occupancy_at + k) ≡ 0 → None ≡ tag_in_slot (slot_at mem k)
+  unfolding slot_at slot_from row get
   tag_empty e = rw (one-mul, eq-eqb _ 0 e)
 
-  pub tag_held : (get 1 mem (occupancy_at + k) ≡ 0 → ⊥) → tag_in (Held (get 4 mem (tags_at + 4 * k))) ≡ tag_in_slot (slot_at mem k)
-  unfolding tag_in slot_at slot_from row get
+  pub tag_held : (get 1 mem (occupancy_at + k) ≡ 0 → ⊥) → Some (get 4 mem (tags_at + 4 * k)) ≡ tag_in_slot (slot_at mem k)
+  unfolding slot_at slot_from row get
   tag_held n = rw (one-mul, ne_eqb _ 0 n)
 
   -- its occupancy byte, among those that are lent
@@ -60,7 +59,7 @@ module _ (held held' : ℕ → Bool) (same : (k : ℕ) → k < 256 → held k �
   found_same : (n i : ℕ) → i < 256 → first_free (free_of held) (going_round n i) ≡ first_free (free_of held') (going_round n i)
   unfolding going_round first_free
   found_same zero i h = refl
-  found_same (suc n) i h = λ t. cond (not (eqb i 0) && not (same i h t)) (some i) (found_same n ((i + 1) % 256) (omega arith) t)
+  found_same (suc n) i h = λ t. cond (not (eqb i 0) && not (same i h t)) (Some i) (found_same n ((i + 1) % 256) (omega arith) t)
 
   visited_same : (n i : ℕ) → i < 256 → visited (free_of held) (going_round n i) ≡ visited (free_of held') (going_round n i)
   unfolding going_round visited
@@ -72,7 +71,7 @@ module _ (held held' : ℕ → Bool) (same : (k : ℕ) → k < 256 → held k �
   allocate_same counter h = λ t. record { found = found_same 257 counter h t; visits = visited_same 257 counter h t; counter = (counter + length (visited_same 257 counter h t)) % 256 }
 
 -- a search over the lent occupancy bytes that begins at the counter is the search of the rules over the slots
-pub searched : (mem : List ℕ) (a : Allocated) (first : ℕ) → read_of a ≡ search_told (allocate (held_in_column (take 256 (drop occupancy_at mem))) first) → first ≡ counter_byte mem → first < 256
-    → read_of a ≡ search_told (allocate (is_held mem) (counter_byte mem))
+pub searched : (mem : List ℕ) (a : Allocated) (first : ℕ) → a ≡ search_told (allocate (held_in_column (take 256 (drop occupancy_at mem))) first) → first ≡ counter_byte mem → first < 256
+    → a ≡ search_told (allocate (is_held mem) (counter_byte mem))
 searched mem a first found begins small =
     found ∙ ap search_told (allocate_same (held_in_column (take 256 (drop occupancy_at mem))) (is_held mem) (held_lent mem) first small ∙ ap (allocate (is_held mem)) begins)

@@ -2,7 +2,7 @@
 use mathlib.Core.Path.{◌≡◌, refl, ap₂, ◌∙◌}
 use mathlib.Core.Bool.{Bool, true, false, cond}
 use mathlib.Core.List.{List, [], ◌∷◌}
-use mathlib.Core.Option.{Option, none, some}
+use Rattle.std.specs.Prelude.{Option, None, Some}
 use Prim.Native.Nat.{ℕ, ◌+◌, ◌-◌, ◌^◌, ◌≤◌, ◌<◌}
 use native.Mathlib.Omega.{arith}
 use lib.ListN.{length}
@@ -148,8 +148,8 @@ module _ (mem : List ℕ) (e : laid mem ≡ true) where
 
   pub keeps_root : (m : Option Mount) → laid (set_root_mount m mem) ≡ true
   unfolding set_root_mount over row laid_by laid
-  keeps_root none = laid_header root_cell_field (mount_cells none) mem (root_fit none) (omega (arith, laid_long mem e)) ∙ e
-  keeps_root (some m) = laid_header root_cell_field (mount_cells (some m)) mem (root_fit (some m)) (omega (arith, laid_long mem e)) ∙ e
+  keeps_root None = laid_header root_cell_field (mount_cells None) mem (root_fit None) (omega (arith, laid_long mem e)) ∙ e
+  keeps_root (Some m) = laid_header root_cell_field (mount_cells (Some m)) mem (root_fit (Some m)) (omega (arith, laid_long mem e)) ∙ e
 
   rows_kept : (n : ℕ) (xs : List (List ℕ)) (i : ℕ) → laid (put_row (node_table n) xs mem i) ≡ true
   rows_kept n xs i =
@@ -162,8 +162,8 @@ module _ (mem : List ℕ) (e : laid mem ≡ true) where
     where
       go : (b : Bool) (o : Option ℕ) → laid (cond b (set_root_mount m mem) (at_place o (λ (i : ℕ). set_row_mount m i mem) mem)) ≡ true
       go true o = keeps_root m
-      go false none = e
-      go false (some i) = rows_kept (capacity_of mem) (row_mount_cells m) i
+      go false None = e
+      go false (Some i) = rows_kept (capacity_of mem) (row_mount_cells m) i
 
   -- ---- a node more, a node less
 
@@ -209,5 +209,5 @@ module _ (mem : List ℕ) (e : laid mem ≡ true) where
   keeps_gone x = go (place_in (nodes_of mem) x) refl
     where
       go : (o : Option ℕ) → place_in (nodes_of mem) x ≡ o → laid (at_place o (λ (i : ℕ). remove_row i mem) mem) ≡ true
-      go none q = e
-      go (some i) q = removed i (row_below mem x i q)
+      go None q = e
+      go (Some i) q = removed i (row_below mem x i q)

@@ -2,7 +2,8 @@
 use mathlib.Core.Path.{◌≡◌, refl, sym, subst}
 use mathlib.Core.Bool.{Bool, true, false, cond, not, ◌||◌, false≢true}
 use mathlib.Core.List.{List, [], ◌∷◌}
-use mathlib.Core.Option.{Option, none, some, none-ne-some}
+use Rattle.std.specs.Prelude.{Option, None, Some}
+use Rattle.std.proofs.lemmas.Option.{none-some}
 use Prim.Native.Nat.{ℕ, zero, suc, ◌+◌, ◌^◌, ◌<◌}
 use native.Mathlib.Omega.{arith}
 use lib.Dec.{eqb}
@@ -33,22 +34,22 @@ nodes_low mem = subst LowNodes (sym (nodes_of_lem mem)) (tab_low (node_at (capac
 
 -- ---- what is found among them
 
-pub child_low : (ns : List Node) → LowNodes ns → (here : ℕ) (p : List ℕ) (y : ℕ) → child_in ns here p ≡ some y → y < 2 ^ 56
+pub child_low : (ns : List Node) → LowNodes ns → (here : ℕ) (p : List ℕ) (y : ℕ) → child_in ns here p ≡ Some y → y < 2 ^ 56
 unfolding child_in
-child_low [] l here p y e = absurd (none-ne-some _ e)
+child_low [] l here p y e = absurd (none-some _ e)
 child_low (n ∷ ns) l here p y e = go (is_child here p n) e (child_low ns l.2 here p y)
   where
-    go : (b : Bool) → cond b (some n.number) (child_in ns here p) ≡ some y → (child_in ns here p ≡ some y → y < 2 ^ 56) → y < 2 ^ 56
+    go : (b : Bool) → cond b (Some n.number) (child_in ns here p) ≡ Some y → (child_in ns here p ≡ Some y → y < 2 ^ 56) → y < 2 ^ 56
     go true f k = let z : n.number ≡ y = cc in omega (arith, l.0)
     go false f k = k f
 
 -- the node of a number: its number is that one
-in_low : (ns : List Node) → LowNodes ns → (x : ℕ) (n : Node) → node_in ns x ≡ some n → (x < 2 ^ 56) × (n.parent < 2 ^ 56)
+in_low : (ns : List Node) → LowNodes ns → (x : ℕ) (n : Node) → node_in ns x ≡ Some n → (x < 2 ^ 56) × (n.parent < 2 ^ 56)
 unfolding node_in
-in_low [] l x n e = absurd (none-ne-some _ e)
+in_low [] l x n e = absurd (none-some _ e)
 in_low (m ∷ ns) l x n e = go (eqb m.number x) refl e (in_low ns l.2 x n)
   where
-    go : (b : Bool) → eqb m.number x ≡ b → cond b (some m) (node_in ns x) ≡ some n → (node_in ns x ≡ some n → (x < 2 ^ 56) × (n.parent < 2 ^ 56)) → (x < 2 ^ 56) × (n.parent < 2 ^ 56)
+    go : (b : Bool) → eqb m.number x ≡ b → cond b (Some m) (node_in ns x) ≡ Some n → (node_in ns x ≡ Some n → (x < 2 ^ 56) × (n.parent < 2 ^ 56)) → (x < 2 ^ 56) × (n.parent < 2 ^ 56)
     go true t f k =
         let z : m ≡ n = cc in
         (omega (arith, l.0, eqb-true m.number x t), subst (λ (q : Node). q.parent < 2 ^ 56) z l.1)
@@ -61,8 +62,8 @@ module _ (ns : List Node) (l : LowNodes ns) (x : ℕ) where
     where
       go : (b : Bool) → eqb x root_number ≡ b → (o : Option Node) → node_in ns x ≡ o → (b || not (is_none o)) ≡ true → x < 2 ^ 56
       go true t o q f = omega (arith, eqb-true x root_number t)
-      go false t none q f = absurd (false≢true f)
-      go false t (some n) q f = (in_low ns l x n q).0
+      go false t None q f = absurd (false≢true f)
+      go false t (Some n) q f = (in_low ns l x n q).0
 
   pub parent_low : parent_in ns x < 2 ^ 56
   unfolding parent_in
@@ -70,5 +71,5 @@ module _ (ns : List Node) (l : LowNodes ns) (x : ℕ) where
     where
       go : (b : Bool) (o : Option Node) → node_in ns x ≡ o → cond b root_number (parent_of o) < 2 ^ 56
       go true o q = omega arith
-      go false none q = omega arith
-      go false (some n) q = (in_low ns l x n q).1
+      go false None q = omega arith
+      go false (Some n) q = (in_low ns l x n q).1

@@ -3,7 +3,7 @@ use mathlib.Core.Path.{◌≡◌, sym, ap, ◌∙◌, subst}
 use mathlib.Core.Bool.{Bool}
 use mathlib.Core.Logic.{◌⊎◌, inl, inr, ⊎_elim}
 use mathlib.Core.List.{List, [], ◌∷◌, ◌++◌}
-use mathlib.Core.Option.{Option, none, some}
+use Rattle.std.specs.Prelude.{Option, None, Some}
 use Prim.Native.Nat.{ℕ, suc, ◌+◌, ◌-◌, ◌*◌, ◌^◌, ◌≤◌, ◌<◌}
 use native.Mathlib.Nat.{mod-eq_of_lt, zero-add, add-zero}
 use native.Mathlib.Omega.{arith}
@@ -217,13 +217,13 @@ module _ (mem : List ℕ) (d : Bounds mem) where
 
   pub view_root_mount : (m : Option Mount) → MayFit m → view (set_root_mount m mem) ≡ with_tree (record { next = (view mem).tree.next; root = m; nodes = (view mem).tree.nodes }) (view mem)
   unfolding set_root_mount view mount_from_cells nodes_of over row get
-  view_root_mount none f =
+  view_root_mount None f =
       let w = cell_back 8 0 mem root_cell_at (omega arith) in
-      view_header root_cell_field (mount_cells none) mem (root_fit none) (omega (arith, d.long)) ∙ rw w
-  view_root_mount (some m) f =
+      view_header root_cell_field (mount_cells None) mem (root_fit None) (omega (arith, d.long)) ∙ rw w
+  view_root_mount (Some m) f =
       let v = m.index * 2 ^ 56 + m.root in
       let w = cell_back 8 v mem root_cell_at (omega (arith, f.few, f.root)) in
       let a = cell_back 4 m.uid mem root_uid_at f.uid in
       let b = cell_back 4 m.gid mem root_gid_at f.gid in
       let e = cell_back 4 m.mode mem root_mode_at f.mode in
-      view_header root_cell_field (mount_cells (some m)) mem (root_fit (some m)) (omega (arith, d.long)) ∙ rw (w, a, b, e, mount_word m f)
+      view_header root_cell_field (mount_cells (Some m)) mem (root_fit (Some m)) (omega (arith, d.long)) ∙ rw (w, a, b, e, mount_word m f)

@@ -2,7 +2,7 @@
 use mathlib.Core.Path.{◌≡◌, refl, ◌∙◌}
 use mathlib.Core.Bool.{Bool, true, false, not, cond}
 use mathlib.Core.List.{List, ◌++◌, append-nil}
-use mathlib.Core.Option.{Option, none, some}
+use Rattle.std.specs.Prelude.{Option, None, Some}
 use Prim.Native.Nat.{ℕ, ◌+◌, ◌-◌, ◌*◌, ◌/◌, ◌%◌, ◌^◌, ◌≤◌, ◌<◌, min}
 use native.Mathlib.Nat.{mod-eq_of_lt, add-zero}
 use native.Mathlib.Omega.{arith}
@@ -36,15 +36,15 @@ yes_fits true = omega arith
 yes_fits false = omega arith
 
 -- a cell spells no mount, or the one of its two numbers
-pub from_word : (P : Option Mount → Type 0) (word uid gid mode : ℕ) → P none → P (some (record { index = word / 2 ^ 56; root = word % 2 ^ 56; uid = uid; gid = gid; mode = mode })) → P (mount_from_cells word uid gid mode)
+pub from_word : (P : Option Mount → Type 0) (word uid gid mode : ℕ) → P None → P (Some (record { index = word / 2 ^ 56; root = word % 2 ^ 56; uid = uid; gid = gid; mode = mode })) → P (mount_from_cells word uid gid mode)
 unfolding mount_from_cells
 from_word P word uid gid mode a m = go (eqb (word / 2 ^ 56) 0)
   where
-    go : (b : Bool) → P (cond b none (some (record { index = word / 2 ^ 56; root = word % 2 ^ 56; uid = uid; gid = gid; mode = mode })))
+    go : (b : Bool) → P (cond b None (Some (record { index = word / 2 ^ 56; root = word % 2 ^ 56; uid = uid; gid = gid; mode = mode })))
     go true = a
     go false = m
 
-pub mount_word : (m : Mount) → MountFits m → mount_from_cells (m.index * 2 ^ 56 + m.root) m.uid m.gid m.mode ≡ some m
+pub mount_word : (m : Mount) → MountFits m → mount_from_cells (m.index * 2 ^ 56 + m.root) m.uid m.gid m.mode ≡ Some m
 unfolding mount_from_cells
 mount_word m f =
     let i : (m.index * 2 ^ 56 + m.root) / 2 ^ 56 ≡ m.index = omega (arith, f.root) in
@@ -53,10 +53,10 @@ mount_word m f =
 
 pub mount_written : (m : Option Mount) (n : ℕ) (mem : List ℕ) (i : ℕ) → MayFit m → node_from (over (node_table n) (row_mount_cells m) mem i) ≡ with_mount m (node_at n mem i)
 unfolding node_from node_at mount_from_cells over row
-mount_written none n mem i f =
+mount_written None n mem i f =
     let w = cell_back 8 0 mem (mount_cell_at n i) (omega arith) in
     rw w (simp add-zero)
-mount_written (some m) n mem i f =
+mount_written (Some m) n mem i f =
     let v = m.index * 2 ^ 56 + m.root in
     let w = cell_back 8 v mem (mount_cell_at n i) (omega (arith, f.few, f.root)) in
     let a = cell_back 4 m.uid mem (uid_at n i) f.uid in
@@ -97,14 +97,14 @@ node_written n x parent p mem i a b h =
     name_back p (read mem (last_at n i + length last) (8 - length last)) (read mem (first_at n i + length first) (248 - length first)) h in
     let c : x % 2 ^ 56 ≡ x = mod-eq_of_lt a in
     let d : parent % 2 ^ 56 ≡ parent = mod-eq_of_lt b in
-    rw (u, v, w, c, d) (λ t. record { number = x; parent = parent; name = name t; mount = none })
+    rw (u, v, w, c, d) (λ t. record { number = x; parent = parent; name = name t; mount = None })
 
 -- what a mount writes fits
 pub mount_fit : (m : Option Mount) (n : ℕ) → Fit (node_table n) (row_mount_cells m)
-mount_fit none n = omega (arith, length_bytes_of 8 0)
-mount_fit (some m) n =
+mount_fit None n = omega (arith, length_bytes_of 8 0)
+mount_fit (Some m) n =
     omega (arith, length_bytes_of 8 (m.index * 2 ^ 56 + m.root), length_bytes_of 4 m.uid, length_bytes_of 4 m.gid, length_bytes_of 4 m.mode)
 
 pub root_fit : (m : Option Mount) → Fit header (from_place 17 (mount_cells m))
-root_fit none = omega (arith, length_bytes_of 8 0)
-root_fit (some m) = omega (arith, length_bytes_of 8 (m.index * 2 ^ 56 + m.root), length_bytes_of 4 m.uid, length_bytes_of 4 m.gid, length_bytes_of 4 m.mode)
+root_fit None = omega (arith, length_bytes_of 8 0)
+root_fit (Some m) = omega (arith, length_bytes_of 8 (m.index * 2 ^ 56 + m.root), length_bytes_of 4 m.uid, length_bytes_of 4 m.gid, length_bytes_of 4 m.mode)

@@ -1,20 +1,25 @@
 -- What the code writes is what the memory functions say: a row a cell at a time, the moves of closing up a column at a time.
 -- Assumes nothing.
-use mathlib.Core.Path.{◌≡◌, refl, ap, ◌∙◌}
+use mathlib.Core.Path.{◌≡◌, refl, sym, ap, ◌∙◌}
 use mathlib.Core.Bool.{Bool}
-use mathlib.Core.List.{List, [], ◌∷◌, ◌++◌}
-use mathlib.Core.Option.{some}
-use Prim.Native.Nat.{ℕ, ◌+◌, ◌-◌, ◌*◌, ◌^◌}
+use mathlib.Core.List.{List, ◌∷◌, ◌++◌}
+use Rattle.std.specs.Prelude.{Some}
+use Prim.Native.Nat.{ℕ, ◌+◌, ◌-◌, ◌*◌, ◌^◌, ◌≤◌, ◌<◌}
 use native.Mathlib.Nat.{mul-add, one-mul}
+use native.Mathlib.Numerals.{add-one}
 use native.Mathlib.Omega.{arith}
-use lib.ListN.{length, take, drop, length-drop}
-use lib.Seq.{take_all}
+use lib.ListN.{length, get_or, take, drop, length-drop}
+use Rattle.std.specs.Prelude.{map}
+use lib.Seq.{take_all, drop-cons}
+use Rattle.std.proofs.lemmas.List.{drop_all}
 use Rattle.le.specs.Mem.{read, write, bytes_of, put}
 use Rattle.rules.specs.Tree.{Mount}
 use Rattle.rules.proofs.Fields.{read_slice}
-use Rattle.le.proofs.Lens.{put_write}
-use Rattle.tables.specs.Table.{Col, off, put_row, close_up}
-use Rattle.tables.specs.Layout.{count_at, next_at, counter_at, removal_at, root_cell_at, root_uid_at, root_gid_at, root_mode_at, occupancy_at, tags_at, node_table, capacity_of, count_of, next_of, number_at, parent_at, mount_cell_at, last_at, uid_at, gid_at, mode_at, first_at}
+use Rattle.le.proofs.Lens.{put_write, length-write}
+use Rattle.tables.specs.Table.{Col, col, off, put_row, close_up}
+use Rattle.tables.specs.Layout.{table_at, count_at, next_at, counter_at, removal_at, root_cell_at, root_uid_at, root_gid_at, root_mode_at, occupancy_at, tags_at, node_table, capacity_of, count_of, next_of, number_at, parent_at, mount_cell_at, last_at, uid_at, gid_at, mode_at, first_at}
+use Rattle.tables.specs.declared.places.Column.{Column}
+use Rattle.tables.specs.declared.places.TheConstants.{COLUMNS}
 use Rattle.tables.specs.Write.{put_header, set_count, set_next, set_counter, set_removal, yes_byte, set_held, set_tag, set_root_mount, set_row_mount, name_cells, node_cells, append_node, remove_row}
 
 -- ---- the header
@@ -36,7 +41,7 @@ module _ (mem : List ℕ) where
   unfolding put set_removal put_header put_row
   put_removal = refl
 
-  pub put_root_mount : (m : Mount) → put 4 (put 4 (put 4 (put 8 mem root_cell_at (m.index * 2 ^ 56 + m.root)) root_uid_at m.uid) root_gid_at m.gid) root_mode_at m.mode ≡ set_root_mount (some m) mem
+  pub put_root_mount : (m : Mount) → put 4 (put 4 (put 4 (put 8 mem root_cell_at (m.index * 2 ^ 56 + m.root)) root_uid_at m.uid) root_gid_at m.gid) root_mode_at m.mode ≡ set_root_mount (Some m) mem
   unfolding put set_root_mount put_header put_row
   put_root_mount m = refl
 
@@ -55,7 +60,7 @@ put_tag mem k tag = refl
 module _ (mem : List ℕ) where
   pub put_row_mount : (i : ℕ) (m : Mount) →
       put 4 (put 4 (put 4 (put 8 mem (mount_cell_at (capacity_of mem) i) (m.index * 2 ^ 56 + m.root)) (uid_at (capacity_of mem) i) m.uid) (gid_at (capacity_of mem) i) m.gid) (mode_at (capacity_of mem) i) m.mode
-      ≡ set_row_mount (some m) i mem
+      ≡ set_row_mount (Some m) i mem
   unfolding put set_row_mount put_row
   put_row_mount i m = refl
 
@@ -69,23 +74,35 @@ module _ (mem : List ℕ) where
 
 -- ---- closing up, a column at a time
 
--- each column's cells are moved down in the memory that the one before left
-abbrev pub Moves : List Col → List ℕ → ℕ → ℕ → List ℕ → Type 0
-Moves [] mem k m out = out ≡ mem
-Moves (c ∷ cs) mem k m out =
-    (mem' : List ℕ) × (mem' ≡ write mem (off c k) (read mem (off c k + c.width) (c.width * m))) × Moves cs mem' k m out
+-- the columns as the code has them
+abbrev pub col_of : ℕ → Column → Col
+col_of n c = col (table_at + c.before * n) c.width
 
-pub moves_close : (cs : List Col) (mem : List ℕ) (k m : ℕ) (out : List ℕ) → Moves cs mem k m out → out ≡ close_up cs mem k m
-unfolding close_up
-moves_close [] mem k m out e = e
-moves_close (c ∷ cs) mem k m out (mem', e, es) =
-    let f : off c k + c.width ≡ off c (k + 1) = omega (arith, mul-add c.width k 1) in
-    moves_close cs mem' k m out es ∙ ap (λ (a : List ℕ). close_up cs a k m) (rw f at e)
+pub columns_are : (n : ℕ) → map (col_of n) COLUMNS ≡ node_table n
+columns_are n = let e : table_at + 0 * n ≡ table_at = omega arith in ap (λ (x : ℕ). col x 8 ∷ drop 1 (node_table n)) e
 
--- the first columns, and then the others
-pub two_closes : (n : ℕ) (mem : List ℕ) (k m : ℕ) → close_up (drop 4 (node_table n)) (close_up (take 4 (node_table n)) mem k m) k m ≡ close_up (node_table n) mem k m
-unfolding close_up
-two_closes n mem k m = refl
+-- j columns are closed up in s: closing up the others gives what closing up all in s₀ gives
+pub record Closing (n k m : ℕ) (cs : List Column) (s₀ s : List ℕ) (j : ℕ) : Type 0 where
+  pub size : length s ≡ length s₀
+  pub rest : close_up (map (col_of n) (drop j cs)) s k m ≡ close_up (map (col_of n) cs) s₀ k m
+
+module _ (n k m : ℕ) (cs : List Column) (s₀ : List ℕ) where
+  module _ (s : List ℕ) (j : ℕ) (g : Closing n k m cs s₀ s j) where
+    pub closing_on : (d : Column) → j < length cs → (at : ℕ) → at ≡ table_at + (get_or cs j d).before * n + (get_or cs j d).width * k
+        → (out : List ℕ) → out ≡ write s at (read s (at + (get_or cs j d).width) ((get_or cs j d).width * m)) → Closing n k m cs s₀ out (j + 1)
+    unfolding close_up
+    closing_on d l at a out o =
+        let c = get_or cs j d in
+        let f : at + c.width ≡ off (col_of n c) (k + 1) = omega (arith, mul-add c.width k 1) in
+        let w : out ≡ write s (off (col_of n c) k) (read s (off (col_of n c) (k + 1)) (c.width * m)) = o ∙ (λ t. write s (a t) (read s (f t) (c.width * m))) in
+        record {
+          size = ap length o ∙ length-write s at (read s (at + c.width) (c.width * m)) ∙ g.size;
+          rest = rw (add-one, w) (sym (ap (λ (xs : List Column). close_up (map (col_of n) xs) s k m) (drop-cons cs j d l)) ∙ g.rest);
+        }
+
+    pub closing_ends : length cs ≤ j → s ≡ close_up (map (col_of n) cs) s₀ k m
+    unfolding close_up
+    closing_ends h = sym (ap (λ (xs : List Column). close_up (map (col_of n) xs) s k m) (drop_all j cs h)) ∙ g.rest
 
 -- ---- a name: its length and its last bytes, and the bytes before them
 

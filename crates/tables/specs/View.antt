@@ -1,6 +1,5 @@
 -- The instance that bytes stand for. Every bit pattern of a cell is a value, so all bytes that keep the layout rule stand for one.
-use Rattle.std.specs.Prelude.{ℕ, ◌+◌, ◌-◌, ◌/◌, ◌%◌, ◌^◌, min, Bool, cond, not, List, [], ◌∷◌, ◌++◌, get_or, take, eqb}
-use Rattle.std.proofs.Math.Option.{Option, none, some}
+use Rattle.std.specs.Prelude.{ℕ, ◌+◌, ◌-◌, ◌/◌, ◌%◌, ◌^◌, min, Bool, cond, not, List, [], ◌∷◌, ◌++◌, get_or, take, eqb, Option, None, Some}
 use Rattle.le.specs.Mem.{value}
 use Rattle.rules.specs.Ids.{Mapping, mapping_by}
 use Rattle.rules.specs.Tree.{Mount, Node}
@@ -23,7 +22,7 @@ flag k cells = not (eqb (field k cells) 0)
 -- index × 2^56 + root number; index 0 is no mount, whatever the low bits are (R5)
 unfoldable pub mount_from_cells : ℕ → ℕ → ℕ → ℕ → Option Mount
 mount_from_cells word uid gid mode =
-    cond (eqb (word / 2 ^ 56) 0) none (some (record { index = word / 2 ^ 56; root = word % 2 ^ 56; uid = uid; gid = gid; mode = mode }))
+    cond (eqb (word / 2 ^ 56) 0) None (Some (record { index = word / 2 ^ 56; root = word % 2 ^ 56; uid = uid; gid = gid; mode = mode }))
 
 -- a length and the last seven bytes, and the bytes before those (R10)
 unfoldable pub name_from : List ℕ → List ℕ → List ℕ

@@ -1,6 +1,5 @@
 -- What is written into the bytes: exact functions of the memory.
-use Rattle.std.specs.Prelude.{ℕ, ◌+◌, ◌-◌, ◌*◌, ◌^◌, ◌≤◌, ◌<◌, Bool, true, false, List, [], ◌∷◌, ◌++◌, length, take, drop, replicate}
-use Rattle.std.proofs.Math.Option.{Option, none, some}
+use Rattle.std.specs.Prelude.{ℕ, ◌+◌, ◌-◌, ◌*◌, ◌^◌, ◌≤◌, ◌<◌, Bool, true, false, List, [], ◌∷◌, ◌++◌, length, take, drop, replicate, Option, None, Some}
 use Rattle.le.specs.Mem.{bytes_of, put}
 use Rattle.rules.specs.Ids.{Mapping}
 use Rattle.rules.specs.Tree.{Mount}
@@ -60,13 +59,13 @@ set_slot k held tag mem = set_tag k tag (set_held k held mem)
 
 -- its cell, uid, gid and mode; of none, the cell alone
 abbrev pub mount_cells : Option Mount → List (List ℕ)
-mount_cells none = bytes_of 8 0 ∷ []
-mount_cells (some m) = bytes_of 8 (m.index * 2 ^ 56 + m.root) ∷ bytes_of 4 m.uid ∷ bytes_of 4 m.gid ∷ bytes_of 4 m.mode ∷ []
+mount_cells None = bytes_of 8 0 ∷ []
+mount_cells (Some m) = bytes_of 8 (m.index * 2 ^ 56 + m.root) ∷ bytes_of 4 m.uid ∷ bytes_of 4 m.gid ∷ bytes_of 4 m.mode ∷ []
 
 -- in a row the name's last bytes stand between
 abbrev pub row_mount_cells : Option Mount → List (List ℕ)
-row_mount_cells none = [] ∷ [] ∷ bytes_of 8 0 ∷ []
-row_mount_cells (some m) =
+row_mount_cells None = [] ∷ [] ∷ bytes_of 8 0 ∷ []
+row_mount_cells (Some m) =
     [] ∷ [] ∷ bytes_of 8 (m.index * 2 ^ 56 + m.root) ∷ [] ∷ bytes_of 4 m.uid ∷ bytes_of 4 m.gid ∷ bytes_of 4 m.mode ∷ []
 
 -- each number of a mount fits its cell, and its index is not 0 (R3, R5, R11)
@@ -80,8 +79,8 @@ pub record MountFits (m : Mount) : Type 0 where
 
 -- where there is a mount
 abbrev pub MayFit : Option Mount → Type 0
-MayFit none = Unit {0}
-MayFit (some m) = MountFits m
+MayFit None = Unit {0}
+MayFit (Some m) = MountFits m
 
 -- the mount of the root (R76, R98)
 unfoldable pub set_root_mount : Option Mount → List ℕ → List ℕ

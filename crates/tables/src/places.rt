@@ -1,7 +1,7 @@
 // Where everything stands in the bytes of an instance (docs/LAYOUT.md): the fields of the header, the slots, and the cells of the node table.
 ghost use Rattle.std.specs.Prelude.{◌≡◌, ◌+◌, ◌*◌, ◌≤◌, ◌<◌};
 ghost use Rattle.rules.specs.Numbers.{max_nodes};
-ghost use Rattle.tables.specs.Layout.{occupancy_at, tags_at, table_at, lasts_at, parent_at, mount_cell_at, last_at, uid_at, gid_at, mode_at, first_at};
+ghost use Rattle.tables.specs.Layout.{occupancy_at, tags_at, table_at};
 
 // The fields of the header.
 pub const MARK_AT: usize = 0;
@@ -64,14 +64,6 @@ pub fn tag_at(k: usize) -> usize
     TAGS_AT + 4 * k
 }
 
-// The column of the names' lengths and last bytes, in a table of n rows (R10).
-pub fn lasts_at(n: usize) -> usize
-    requires { n ≤ max_nodes }
-    ensures { result ≡ lasts_at n }
-{
-    TABLE + 24 * n
-}
-
 // The number of row i, in a table of any number of rows (R5).
 pub fn number_at(i: usize) -> usize
     requires { i ≤ max_nodes }
@@ -80,58 +72,71 @@ pub fn number_at(i: usize) -> usize
     TABLE + 8 * i
 }
 
-// The parent's number of row i, in a table of n rows (R5).
-pub fn parent_at(n: usize, i: usize) -> usize
-    requires { (n ≤ max_nodes) × (i ≤ n) }
-    ensures { result ≡ parent_at n i }
-{
-    TABLE + 8 * n + 8 * i
+// A column of the node table: how many bytes of a row stand in the columns before it, and how wide its own cells are (R5, R10).
+#[derive(Clone, Copy)]
+pub struct Column {
+    pub before: usize,
+    pub width: usize,
 }
 
-// The cell of its mount (R5).
-pub fn mount_at(n: usize, i: usize) -> usize
-    requires { (n ≤ max_nodes) × (i ≤ n) }
-    ensures { result ≡ mount_cell_at n i }
-{
-    TABLE + 16 * n + 8 * i
-}
+// The numbers.
+pub const NUMBERS: Column = Column {
+    before: 0,
+    width: 8,
+};
 
-// Its name's length and last bytes (R10).
-pub fn last_at(n: usize, i: usize) -> usize
-    requires { (n ≤ max_nodes) × (i ≤ n) }
-    ensures { result ≡ last_at n i }
-{
-    TABLE + 24 * n + 8 * i
-}
+// The parents' numbers.
+pub const PARENTS: Column = Column {
+    before: 8,
+    width: 8,
+};
 
-// The uid of its mount.
-pub fn uid_at(n: usize, i: usize) -> usize
-    requires { (n ≤ max_nodes) × (i ≤ n) }
-    ensures { result ≡ uid_at n i }
-{
-    TABLE + 32 * n + 4 * i
-}
+// The words of the mounts: index and root number.
+pub const MOUNTS: Column = Column {
+    before: 16,
+    width: 8,
+};
 
-// The gid of its mount.
-pub fn gid_at(n: usize, i: usize) -> usize
-    requires { (n ≤ max_nodes) × (i ≤ n) }
-    ensures { result ≡ gid_at n i }
-{
-    TABLE + 36 * n + 4 * i
-}
+// The names' lengths and last bytes.
+pub const LASTS: Column = Column {
+    before: 24,
+    width: 8,
+};
 
-// The mode of its mount.
-pub fn mode_at(n: usize, i: usize) -> usize
-    requires { (n ≤ max_nodes) × (i ≤ n) }
-    ensures { result ≡ mode_at n i }
-{
-    TABLE + 40 * n + 4 * i
-}
+// The uids of the mounts.
+pub const UIDS: Column = Column {
+    before: 32,
+    width: 4,
+};
 
-// The bytes of its name before the last ones (R10).
-pub fn first_at(n: usize, i: usize) -> usize
-    requires { (n ≤ max_nodes) × (i ≤ n) }
-    ensures { result ≡ first_at n i }
-{
-    TABLE + 44 * n + 248 * i
+// Their gids.
+pub const GIDS: Column = Column {
+    before: 36,
+    width: 4,
+};
+
+// Their modes.
+pub const MODES: Column = Column {
+    before: 40,
+    width: 4,
+};
+
+// The bytes of the names before the last ones.
+pub const FIRSTS: Column = Column {
+    before: 44,
+    width: 248,
+};
+
+// All columns, one behind the other.
+pub const COLUMNS: [Column; 8] = [NUMBERS, PARENTS, MOUNTS, LASTS, UIDS, GIDS, MODES, FIRSTS];
+
+impl Column {
+    // Where its cell of row i stands, in a table of n rows (R5, R10).
+    pub fn at(self, n: usize, i: usize) -> usize
+        requires self_narrow { self.before + self.width ≤ 512 }
+        requires i_bound { (n ≤ max_nodes) × (i ≤ n) }
+        ensures { result ≡ table_at + self.before * n + self.width * i }
+    {
+        TABLE + self.before * n + self.width * i
+    }
 }

@@ -10,23 +10,9 @@ ghost use Rattle.tables.specs.Layout.{node_table, lasts_at, capacity_of, count_o
 ghost use Rattle.tables.specs.View.{node_at, nodes_of};
 ghost use Rattle.tables.specs.Laid.{Bounds};
 ghost use Rattle.tables.specs.Write.{name_cells, node_cells, append_node, remove_row};
-ghost use Rattle.tables.specs.Answer.{found_in, row_in, place_in};
+ghost use Rattle.tables.specs.Answer.{place_in};
 
 use scan::names::NameKey;
-
-// The number of a node, or nothing.
-#[derive(Clone, Copy)]
-pub enum Found {
-    Node(u64),
-    Nothing,
-}
-
-// The place of a row, or nothing.
-#[derive(Clone, Copy)]
-pub enum Row {
-    At(usize),
-    Nothing,
-}
 
 // The bits of a cell that a node number is read from (R5).
 const NUMBER_BITS: u64 = rules::VFS_MAX_INO;
@@ -47,18 +33,25 @@ pub fn parent(s: &[u8], i: usize) -> u64
     ensures { result ≡ (node_at (capacity_of s.now) s.now i).parent }
 {
     let n = crate::header::capacity(s);
-    le::fields::get_u64(s, crate::places::parent_at(n, i)) % rules::NUMBERS
+    le::fields::get_u64(s, crate::places::PARENTS.at(n, i)) % rules::NUMBERS
 }
 
-// The first row from `from` on whose name's cell is that of the key; the count where there is none. Rows of that name are among them (R45).
-pub fn next_alike(s: &[u8], from: usize, key: NameKey) -> usize
+// The first row from `from` on whose name's cell is that of the key. Rows of that name are among them (R45).
+pub fn next_alike(s: &[u8], from: usize, key: NameKey) -> Option<usize>
     requires bounds { Bounds s.now }
     requires from_bound { from ≤ count_of s.now }
     ensures { result ≡ first_place (cell_is s.now (lasts_at (capacity_of s.now)) key.mask key.word) from (count_of s.now - from) }
 {
     let n = crate::header::capacity(s);
     let c = crate::header::count(s);
-    scan::cells::find_cell(s, crate::places::lasts_at(n), from, c, key.mask, key.word)
+    scan::cells::find_cell(
+        s,
+        crate::places::LASTS.at(n, 0),
+        from,
+        c,
+        key.mask,
+        key.word,
+    )
 }
 
 // Whether the bytes of a name before its last seven stand at a place: up to eight are one number.
@@ -92,40 +85,32 @@ pub fn child_alike(s: &[u8], i: usize, here: u64, name: &[u8]) -> bool
         return false;
     }
     let n = crate::header::capacity(s);
-    same_start(s, crate::places::first_at(n, i), name)
+    same_start(s, crate::places::FIRSTS.at(n, i), name)
 }
 
 // The first child of that name (R45).
-pub fn find_child(s: &[u8], here: u64, name: &[u8]) -> Found
+pub fn find_child(s: &[u8], here: u64, name: &[u8]) -> Option<u64>
     requires { Bounds s.now }
-    ensures { found_in result ≡ child_in (nodes_of s.now) here name.now }
+    ensures { result ≡ child_in (nodes_of s.now) here name.now }
 {
-    let c = crate::header::count(s);
     let key = scan::names::key_of(name);
     let mut i = 0;
-    loop {
-        let j = next_alike(s, i, key);
-        if c <= j {
-            return Found::Nothing;
-        }
+    while let Some(j) = next_alike(s, i, key) {
         if child_alike(s, j, here, name) {
-            return Found::Node(number(s, j));
+            return Some(number(s, j));
         }
         i = j + 1;
     }
+    None
 }
 
 // The row of the first node of that number (R53).
-pub fn find_row(s: &[u8], x: u64) -> Row
+pub fn find_row(s: &[u8], x: u64) -> Option<usize>
     requires { Bounds s.now }
-    ensures { row_in result ≡ place_in (nodes_of s.now) x }
+    ensures { result ≡ place_in (nodes_of s.now) x }
 {
     let c = crate::header::count(s);
-    let i = scan::cells::find_cell(s, crate::places::TABLE, 0, c, NUMBER_BITS, x);
-    if i < c {
-        return Row::At(i);
-    }
-    Row::Nothing
+    scan::cells::find_cell(s, crate::places::TABLE, 0, c, NUMBER_BITS, x)
 }
 
 // Whether the number is the root's or a node's; the row that it has where no node was removed before it is asked first (R52).
@@ -138,16 +123,11 @@ pub fn is_known(s: &[u8], x: u64) -> bool
     }
     if rules::PSEUDOFS_NEXT_INODE <= x {
         let i = (x - rules::PSEUDOFS_NEXT_INODE) as usize;
-        if i < crate::header::count(s) {
-            if number(s, i) == x {
-                return true;
-            }
+        if i < crate::header::count(s) && number(s, i) == x {
+            return true;
         }
     }
-    match find_row(s, x) {
-        Row::At(i) => true,
-        Row::Nothing => false,
-    }
+    find_row(s, x).is_some()
 }
 
 // The parent's number; the root's is the root's, and so is that of a number which is no node (R39, R52, R54, R58).
@@ -159,19 +139,9 @@ pub fn parent_of(s: &[u8], x: u64) -> u64
         return rules::ROOT_ID;
     }
     match find_row(s, x) {
-        Row::At(i) => parent(s, i),
-        Row::Nothing => rules::ROOT_ID,
+        Some(i) => parent(s, i),
+        None => rules::ROOT_ID,
     }
-}
-
-// How many bytes of a name stand before its last seven.
-fn before_last(len: usize) -> usize
-    ensures { result ≡ len - 7 }
-{
-    if 7 < len {
-        return len - 7;
-    }
-    0
 }
 
 // Writes the name of row i: its length and last bytes, and the bytes before them (R10).
@@ -180,11 +150,11 @@ fn put_name(s: &mut [u8], n: usize, i: usize, name: &[u8])
     ensures { s.new ≡ put_row (drop 3 (node_table n)) (name_cells name.now) s.old i }
 {
     let len = name.len();
-    let rest = before_last(len);
-    let at = crate::places::last_at(n, i);
+    let rest = len.saturating_sub(7);
+    let at = crate::places::LASTS.at(n, i);
     le::fields::put_u8(s, at, len as u8);
     le::runs::copy_run(s, at + 1, name, rest, len - rest);
-    le::runs::copy_run(s, crate::places::first_at(n, i), name, 0, rest);
+    le::runs::copy_run(s, crate::places::FIRSTS.at(n, i), name, 0, rest);
 }
 
 // Writes the cells of a new node at row i.
@@ -193,8 +163,8 @@ fn put_node(s: &mut [u8], n: usize, i: usize, x: u64, parent: u64, name: &[u8])
     ensures { s.new ≡ put_row (node_table n) (node_cells x parent name.now) s.old i }
 {
     le::fields::put_u64(s, crate::places::number_at(i), x);
-    le::fields::put_u64(s, crate::places::parent_at(n, i), parent);
-    le::fields::put_u64(s, crate::places::mount_at(n, i), 0);
+    le::fields::put_u64(s, crate::places::PARENTS.at(n, i), parent);
+    le::fields::put_u64(s, crate::places::MOUNTS.at(n, i), 0);
     put_name(s, n, i, name);
 }
 
@@ -214,35 +184,14 @@ pub fn append(s: &mut [u8], parent: u64, name: &[u8])
     le::fields::put_u64(s, crate::places::NEXT_AT, x + 1);
 }
 
-// The m rows from row k + 1 on go down by one in the four columns of eight bytes.
-fn close_cells(s: &mut [u8], n: usize, k: usize, m: usize)
-    requires { (n ≤ max_nodes) × (storage_for n ≤ length s.old) × (k + 1 + m ≤ n) }
-    ensures { s.new ≡ close_up (take 4 (node_table n)) s.old k m }
-{
-    le::runs::shift_down(s, crate::places::number_at(k), 8, 8 * m);
-    le::runs::shift_down(s, crate::places::parent_at(n, k), 8, 8 * m);
-    le::runs::shift_down(s, crate::places::mount_at(n, k), 8, 8 * m);
-    le::runs::shift_down(s, crate::places::last_at(n, k), 8, 8 * m);
-}
-
-// And in the others.
-fn close_rest(s: &mut [u8], n: usize, k: usize, m: usize)
-    requires { (n ≤ max_nodes) × (storage_for n ≤ length s.old) × (k + 1 + m ≤ n) }
-    ensures { s.new ≡ close_up (drop 4 (node_table n)) s.old k m }
-{
-    le::runs::shift_down(s, crate::places::uid_at(n, k), 4, 4 * m);
-    le::runs::shift_down(s, crate::places::gid_at(n, k), 4, 4 * m);
-    le::runs::shift_down(s, crate::places::mode_at(n, k), 4, 4 * m);
-    le::runs::shift_down(s, crate::places::first_at(n, k), 248, 248 * m);
-}
-
-// The m rows from row k + 1 on go down by one.
+// The m rows from row k + 1 on go down by one, in every column.
 fn close_up(s: &mut [u8], n: usize, k: usize, m: usize)
     requires { (n ≤ max_nodes) × (storage_for n ≤ length s.old) × (k + 1 + m ≤ n) }
     ensures { s.new ≡ close_up (node_table n) s.old k m }
 {
-    close_cells(s, n, k, m);
-    close_rest(s, n, k, m);
+    for c in &crate::places::COLUMNS {
+        le::runs::shift_down(s, c.at(n, k), c.width, c.width * m);
+    }
 }
 
 // Row i goes, and those behind it close up (R25, R44).

@@ -4,25 +4,17 @@ ghost use Rattle.rules.specs.Instance.{tag_in_slot};
 ghost use Rattle.tables.specs.Layout.{table_at};
 ghost use Rattle.tables.specs.View.{slot_at};
 ghost use Rattle.tables.specs.Write.{set_held, set_tag, set_slot};
-ghost use Rattle.tables.specs.Answer.{tag_in};
 
-// What a slot holds (R56).
-#[derive(Clone, Copy)]
-pub enum Tag {
-    Held(u32),
-    Empty,
-}
-
-// What slot k holds (R56).
-pub fn tag_of(s: &[u8], k: u8) -> Tag
+// The tag of slot k, if it is held (R56).
+pub fn tag_of(s: &[u8], k: u8) -> Option<u32>
     requires { table_at ≤ length s.now }
-    ensures { tag_in result ≡ tag_in_slot (slot_at s.now k) }
+    ensures { result ≡ tag_in_slot (slot_at s.now k) }
 {
     let at = k as usize;
     if le::fields::get_u8(s, crate::places::held_at(at)) == index::EMPTY {
-        return Tag::Empty;
+        return None;
     }
-    Tag::Held(le::fields::get_u32(s, crate::places::tag_at(at)))
+    Some(le::fields::get_u32(s, crate::places::tag_at(at)))
 }
 
 // Slot k is held, or not; its tag stays (R56).
@@ -30,12 +22,8 @@ pub fn set_held(s: &mut [u8], k: u8, held: bool)
     requires { table_at ≤ length s.old }
     ensures { s.new ≡ set_held k held s.old }
 {
-    let at = crate::places::held_at(k as usize);
-    if held {
-        le::fields::put_u8(s, at, index::HELD);
-        return;
-    }
-    le::fields::put_u8(s, at, index::EMPTY);
+    let byte = if held { index::HELD } else { index::EMPTY };
+    le::fields::put_u8(s, crate::places::held_at(k as usize), byte);
 }
 
 // Slot k has the tag; whether it is held stays (R56).

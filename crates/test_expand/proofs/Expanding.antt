@@ -1,86 +1,103 @@
--- Laws of cells that a line names: which is named, and the line from a place on. Assumes nothing.
-use Prim.Native.Nat.{ℕ, ◌+◌, ◌-◌, ◌≤◌, ◌<◌}
-use native.Mathlib.Omega.{arith}
-use mathlib.Core.Path.{◌≡◌, refl, sym, ap, ◌∙◌}
-use mathlib.Core.Bool.{and-false}
-use mathlib.Core.Logic.{◌≢◌}
-use mathlib.Core.List.{List, [], ◌∷◌, ◌++◌}
-use lib.ListN.{length, get_or, take, drop, drop_of_length-le, length-drop}
-use lib.Seq.{get_or-drop, drop-drop}
-use borrow.Author.Tests.{le-leb, lt-leb, lt-ltb, le-ltb, eq-eqb, ne_eqb}
+-- Laws of cells that a line names: which is named, and the line by its front. Assumes nothing.
+use Rattle.std.proofs.Common.{ℕ, ◌+◌, ◌-◌, ◌≤◌, ◌<◌, ◌≡◌, ◌≢◌, ◌⊎◌, refl, sym, ap, ◌∙◌, min, List, [], ◌∷◌, ◌++◌, length, get_or, take, drop, Some, None, arith}
+use Rattle.std.proofs.lemmas.Bool.Decides.{nat_tests}
+use Rattle.std.proofs.Math.ListN.{length-drop, length-take}
+use Rattle.std.proofs.lemmas.List.{take_min}
+use borrow.Rule.Slice.PartMut.{put_mid}
 use Rattle.rules.specs.Session.{decimal}
-use Rattle.le.proofs.Writes.{take_write}
+use Rattle.le.proofs.Writes.{write_over, write_part, take_write}
 use Rattle.decimal.specs.Wrote.{Wrote}
 use Rattle.decimal.proofs.Texts.{length_decimal}
+use Rattle.test_words.proofs.Filling.{Rest, run_more}
+use Rattle.test_words.proofs.Spelling.{from, from_drop}
 use Rattle.test_expand.specs.Cells.{cell_named, expanded_by}
-use Rattle.test_words.proofs.Spelling.{first}
 
 -- ---- which cell is named
 
-module _ (a b : ℕ) where
-  pub no_sign : a ≢ 36 → 8 ≡ cell_named a b
-  unfolding cell_named
-  no_sign h = simp (ne_eqb a 36 h)
+pub short_names_none : (s : List ℕ) → length s < 2 → None ≡ cell_named s
+unfolding cell_named
+short_names_none [] h = refl
+short_names_none (a ∷ []) h = refl
+short_names_none (a ∷ b ∷ s) h = absurd (omega arith)
 
-  pub low_letter : b < 97 → 8 ≡ cell_named a b
-  unfolding cell_named
-  low_letter h = simp (lt-leb 97 b h, and-false)
+pub letter_names : (s : List ℕ) → 2 ≤ length s → get_or s 0 0 ≡ 36 → 97 ≤ get_or s 1 0 → get_or s 1 0 ≤ 104 → Some (get_or s 1 0 - 97) ≡ cell_named s
+unfolding cell_named
+letter_names [] l e h k = absurd (omega arith)
+letter_names (a ∷ []) l e h k = absurd (omega arith)
+letter_names (a ∷ b ∷ s) l e h k = grind (arith, nat_tests)
 
-  pub high_letter : 104 < b → 8 ≡ cell_named a b
-  unfolding cell_named
-  high_letter h = simp (lt-leb b 104 h, and-false)
-
-  pub letter : a ≡ 36 → 97 ≤ b → b ≤ 104 → b - 97 ≡ cell_named a b
-  unfolding cell_named
-  letter e h k = simp (eq-eqb a 36 e, le-leb 97 b h, le-leb b 104 k)
+pub other_names_none : (s : List ℕ) → (get_or s 0 0 ≢ 36) ⊎ ((get_or s 1 0 < 97) ⊎ (104 < get_or s 1 0)) → None ≡ cell_named s
+unfolding cell_named
+other_names_none [] h = refl
+other_names_none (a ∷ []) h = refl
+other_names_none (a ∷ b ∷ s) h = grind (arith, nat_tests)
 
 -- ---- runs of bytes
 
--- a run that was written is there to be read
-read_back : (was text xs : List ℕ) (most k : ℕ) → length xs ≤ length was → Wrote was 0 most xs k text → take (k - 0) (drop 0 text) ≡ xs
-read_back was text xs most k h w =
-    let e : k - 0 ≡ length xs = omega (arith, w.end) in
-    rw (e, w.bytes) (take_write was xs h)
+pub wrote_run : (was s : List ℕ) (n : ℕ) (now : List ℕ) → n ≡ min (length s) (length was) → now ≡ take n s
+    → Wrote was 0 (length was) (take (length was) s) n (now ++ drop n was)
+wrote_run was s n now e f =
+    let m : n ≡ min (length was) (length s) = omega arith in
+    let t : now ≡ take (length was) s = f ∙ rw m (take_min (length was) s) in
+    let l : n ≡ length (take (length was) s) = omega (arith, length-take (length was) s) in
+    record {
+      end = omega arith;
+      within = omega arith;
+      bytes = rw (t, l) (sym (write_over was (take (length was) s) (omega arith)));
+    }
 
 -- a decimal that was written apart is put as it is
-pub decimal_run : (was text out now : List ℕ) (n room k r v : ℕ) → length was ≡ 20 → Wrote was 0 20 (decimal v) k text
-    → Wrote out n room (take room (take (k - 0) (drop 0 text))) r now → Wrote out n room (take room (decimal v)) r now
-decimal_run was text out now n room k r v z w f = rw (read_back was text (decimal v) 20 k (omega (arith, length_decimal v)) w) at f
+pub wrote_decimal : (was text out now : List ℕ) (k r v : ℕ) → length was ≡ 20 → Wrote was 0 20 (decimal v) k text
+    → Wrote out 0 (length out) (take (length out) (take k text)) r now → Wrote out 0 (length out) (take (length out) (decimal v)) r now
+wrote_decimal was text out now k r v z w f =
+    let e : k ≡ length (decimal v) = omega (arith, w.end) in
+    let t : take k text ≡ decimal v = rw (e, w.bytes) (take_write was (decimal v) (omega (arith, length_decimal v))) in
+    rw t at f
 
--- ---- the line, by its front and from a place on
+module _ (out : List ℕ) (n : ℕ) where
+  -- the bytes from a place on, which are lent
+  abbrev pub room : List ℕ
+  room = take (length out - n) (drop n out)
 
-one_byte : (s : List ℕ) → 0 < length s → take 1 s ≡ get_or s 0 0 ∷ []
-one_byte [] h = absurd (let z : ⊥ = omega arith in z)
-one_byte (a ∷ s) h = refl
+  wrote_behind : (xs part : List ℕ) (r : ℕ) → n ≤ length out → Wrote room 0 (length room) (take (length room) xs) r part
+      → Wrote out n (length out - n) (take (length out - n) xs) (n + r) (put_mid n (length out - n) out part)
+  wrote_behind xs part r h w =
+      let p : length room ≡ length out - n = omega (arith, length-take (length out - n) (drop n out), length-drop n out) in
+      let l = length-take (length out - n) xs in
+      let v = rw p at w in
+      record {
+        end = omega (arith, v.end);
+        within = omega (arith, v.within);
+        bytes = ap (put_mid n (length out - n) out) v.bytes ∙ write_part out n (length out - n) (take (length out - n) xs) h (omega arith);
+      }
 
-module _ (cells : List ℕ) where
-  front_plain : (s : List ℕ) → 0 < length s → 7 < cell_named (get_or s 0 0) (get_or s 1 0) → expanded_by cells s ≡ get_or s 0 0 ∷ expanded_by cells (drop 1 s)
-  unfolding expanded_by
-  front_plain [] l h = absurd (let z : ⊥ = omega arith in z)
-  front_plain (a ∷ []) l h = refl
-  front_plain (a ∷ b ∷ s) l h = rw (lt-ltb 7 (cell_named a b) h)
+  -- a run more, into those bytes
+  pub part_more : {most at : ℕ} {text was rest : List ℕ} (xs behind part : List ℕ) (r : ℕ) → length out ≡ most → rest ≡ xs ++ behind
+      → Wrote room 0 (length room) (take (length room) xs) r part → Rest most at text was out n rest
+      → Rest most at text was (put_mid n (length out - n) out part) (n + r) behind
+  part_more xs behind part r q e w f = run_more xs behind _ _ _ _ q e (wrote_behind xs part r (omega (arith, f.within)) w) f
 
-  front_number : (s : List ℕ) → cell_named (get_or s 0 0) (get_or s 1 0) ≤ 7
-      → expanded_by cells s ≡ decimal (get_or cells (cell_named (get_or s 0 0) (get_or s 1 0)) 0) ++ expanded_by cells (drop 2 s)
-  unfolding expanded_by
-  front_number [] h = absurd (let z : ⊥ = omega (arith, low_letter 0 0 (omega arith)) in z)
-  front_number (a ∷ []) h = absurd (let z : ⊥ = omega (arith, low_letter a 0 (omega arith)) in z)
-  front_number (a ∷ b ∷ s) h = rw (le-ltb 7 (cell_named a b) h)
+-- ---- the line by its front
 
-  module _ (s : List ℕ) (i : ℕ) where
-    pub line_past : length s ≤ i → expanded_by cells (drop i s) ≡ []
-    unfolding expanded_by
-    line_past h = rw (drop_of_length-le s h)
+pub line_end : (cells s : List ℕ) → length s < 1 → expanded_by cells s ≡ []
+unfolding expanded_by
+line_end cells [] h = refl
+line_end cells (a ∷ s) h = absurd (omega arith)
 
-    module _ (k b : ℕ) (e : k ≡ cell_named (get_or s i 0) b) (f : b ≡ get_or s (i + 1) 0) where
-      here : cell_named (get_or (drop i s) 0 0) (get_or (drop i s) 1 0) ≡ k
-      here = rw (first s i, get_or-drop i s 1 0, ← f, ← e)
+pub line_plain : (cells s : List ℕ) → 0 < length s → cell_named s ≡ None → expanded_by cells s ≡ get_or s 0 0 ∷ expanded_by cells (from 1 s)
+unfolding expanded_by
+line_plain cells [] h e = absurd (omega arith)
+line_plain cells (a ∷ []) h e = refl
+line_plain cells (a ∷ b ∷ s) h e = rw (e, from_drop 1 (a ∷ b ∷ s))
 
-      pub line_plain : i < length s → 7 < k → expanded_by cells (drop i s) ≡ take (i + 1 - i) (drop i s) ++ expanded_by cells (drop (i + 1) s)
-      line_plain l h =
-          let n : 0 < length (drop i s) = simp length-drop (omega arith) in
-          let one : i + 1 - i ≡ 1 = omega arith in
-          front_plain (drop i s) n (rw here h) ∙ rw (one, drop-drop 1 i s) (ap (λ (l : List ℕ). l ++ expanded_by cells (drop (i + 1) s)) (sym (one_byte (drop i s) n)))
+pub named_long : (s : List ℕ) (k : ℕ) → cell_named s ≡ Some k → 2 ≤ length s
+unfolding cell_named
+named_long [] k e = cc
+named_long (a ∷ []) k e = cc
+named_long (a ∷ b ∷ s) k e = omega arith
 
-      pub line_number : (v : ℕ) → v ≡ get_or cells k 0 → k ≤ 7 → expanded_by cells (drop i s) ≡ decimal v ++ expanded_by cells (drop (i + 2) s)
-      line_number v g h = rw (front_number (drop i s) (rw here h), here, ← g, drop-drop 2 i s)
+pub line_number : (cells s : List ℕ) (k v : ℕ) → cell_named s ≡ Some k → v ≡ get_or cells k 0 → expanded_by cells s ≡ decimal v ++ expanded_by cells (from 2 s)
+unfolding expanded_by
+line_number cells [] k v e f = absurd (omega (arith, named_long [] k e))
+line_number cells (a ∷ []) k v e f = absurd (omega (arith, named_long (a ∷ []) k e))
+line_number cells (a ∷ b ∷ s) k v e f = rw (e, f, from_drop 2 (a ∷ b ∷ s))

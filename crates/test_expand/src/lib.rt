@@ -1,83 +1,68 @@
 // A line with the numbers of cells in place of their names, `$a` to `$h`.
 #![tactic(auto)]
 
-ghost use Rattle.std.specs.Prelude.{◌≡◌, ◌-◌, ◌≤◌, ◌<◌, length, get_or, take};
+ghost use Rattle.std.specs.Prelude.{◌≡◌, length, get_or, take};
 ghost use Rattle.rules.specs.Session.{decimal};
 ghost use Rattle.decimal.specs.Wrote.{Wrote};
 ghost use Rattle.test_expand.specs.Cells.{cell_named, expanded_by};
 
-use test_words::hex::byte_at;
+use decimal::inner::Text;
 
-// How many cells a program has; a line names the first eight.
-pub const CELLS: usize = 18;
-
-// The cell that a `$` and a letter name; 8 for any other bytes.
-fn named(a: u8, b: u8) -> u8
-    ensures { result ≡ cell_named a b }
+// The cell that a `$` and a letter at the front name.
+#[tactic(auto, using(crate::proofs::Expanding::short_names_none, crate::proofs::Expanding::letter_names, crate::proofs::Expanding::other_names_none))]
+fn named(s: &[u8]) -> Option<u8>
+    ensures { result ≡ cell_named s.now }
 {
-    if a != b'$' {
-        return 8;
+    match s {
+        [b'$', letter @ b'a'..=b'h', ..] => Some(*letter - b'a'),
+        _ => None,
     }
-    if b < b'a' {
-        return 8;
-    }
-    if b'h' < b {
-        return 8;
-    }
-    b - b'a'
 }
 
-// The number in a cell.
-fn number_at(cells: &[u64; CELLS], at: usize) -> u64
-    requires { at < 18 }
-    ensures { result ≡ get_or cells.now at 0 }
+// The number in a cell, or 0 where there is no such cell.
+fn number_at(cells: &[u64], k: u8) -> u64
+    ensures { result ≡ get_or cells.now k 0 }
 {
-    cells[at]
+    cells.get(k as usize).copied().unwrap_or(0)
 }
 
-// Writes the bytes of s behind n others, as many as there is room for, and answers how many there are then.
-fn put_run(out: &mut [u8], n: usize, s: &[u8]) -> usize
-    requires { n ≤ length out.old }
-    ensures { Wrote out.old n (length out.old - n) (take (length out.old - n) s.now) result out.new }
+// Writes the bytes of s at the front, as many as there is room for, and answers how many.
+fn put_run(out: &mut [u8], s: &[u8]) -> usize
+    ensures { Wrote out.old 0 (length out.old) (take (length out.old) s.now) result out.new }
 {
-    let mut k = n;
-    let mut i = 0;
-    while i < s.len() {
-        if out.len() <= k {
-            return k;
-        }
-        out[k] = s[i];
-        k += 1;
-        i += 1;
-    }
-    k
+    let n = s.len().min(out.len());
+    out[..n].copy_from_slice(&s[..n]);
+    n
 }
 
-// Writes a number as a decimal behind n bytes, as much of it as there is room for, and answers how many bytes there are then (R152).
-fn put_number(out: &mut [u8], n: usize, v: u64) -> usize
-    requires { n ≤ length out.old }
-    ensures { Wrote out.old n (length out.old - n) (take (length out.old - n) (decimal v)) result out.new }
+// Writes a number as a decimal at the front, as much of it as there is room for, and answers how many bytes (R152).
+#[tactic(auto, using(decimal::proofs::Texts::length_decimal))]
+fn put_number(out: &mut [u8], v: u64) -> usize
+    ensures { Wrote out.old 0 (length out.old) (take (length out.old) (decimal v)) result out.new }
 {
-    let mut text = [0u8; 20];
-    let k = decimal::inner::put_decimal(&mut text, 0, v);
-    put_run(out, n, &text[0..k])
+    let mut text = Text {
+        out: &mut [0; 20],
+        at: 0,
+    };
+    text.put_decimal(v);
+    let Text { out: digits, at } = text;
+    put_run(out, &digits[..at])
 }
 
 // Writes the line, each `$` and a letter from `a` to `h` as the decimal of that cell, as many bytes as there is room for, and answers how many (R152).
-pub fn expanded(line: &[u8], cells: &[u64; CELLS], out: &mut [u8]) -> usize
+pub fn expanded(line: &[u8], cells: &[u64], out: &mut [u8]) -> usize
     ensures { Wrote out.old 0 (length out.old) (take (length out.old) (expanded_by cells.now line.now)) result out.new }
 {
     let mut n = 0;
-    let mut i = 0;
-    while i < line.len() {
-        let k = named(line[i], byte_at(line, i + 1));
-        if 7 < k {
-            n = put_run(out, n, &line[i..i + 1]);
-            i += 1;
-        } else {
-            n = put_number(out, n, number_at(cells, k as usize));
-            i += 2;
-        }
+    let mut rest = line;
+    while let [first, others @ ..] = rest {
+        let room = &mut out[n..];
+        let (len, behind) = match named(rest) {
+            Some(k) => (put_number(room, number_at(cells, k)), &rest[2..]),
+            None => (put_run(room, &[*first]), others),
+        };
+        n += len;
+        rest = behind;
     }
     n
 }

@@ -1,3 +1,2 @@
 -- What is proved of steps.
 pub mod Setting
-pub mod Nesting

@@ -1,17 +1,20 @@
 -- Laws of bytes set at any place: what would stand past the end is not written. Assumes nothing.
 use Prim.Native.Nat.{ℕ, zero, suc, ◌+◌, ◌-◌, ◌/◌, ◌%◌, ◌≤◌, ◌<◌, min}
-use native.Mathlib.Nat.{add-zero, sub-zero}
+use native.Mathlib.Nat.{sub-zero}
 use native.Mathlib.Omega.{arith}
 use mathlib.Core.Path.{◌≡◌, refl, sym, ap, ◌∙◌}
 use mathlib.Core.Bool.{Bool, true, false}
-use mathlib.Core.List.{List, [], ◌∷◌, ◌++◌}
+use mathlib.Core.List.{List, [], ◌∷◌, ◌++◌, append-nil}
 use lib.Dec.{leb}
-use lib.ListN.{length, get_or, take, drop, set, replicate, length-set, length-take, length-replicate, replicate-append-replicate, take-append-drop, get_or-eq_default}
+use lib.ListN.{length, get_or, take, drop, set, replicate, length-set, length-take, length-drop, drop_of_length-le, length-replicate, replicate-append-replicate, take-append-drop, get_or-eq_default}
 use lib.Seq.{set_out, take_all, take-take, take_at}
+use native.Mathlib.Numerals.{add-one}
+use borrow.Rule.Slice.PartMut.{put_mid}
 use borrow.Author.Tests.{le-leb, lt-leb, leb-true, leb-false}
 use Rattle.rules.proofs.Fields.{read_slice}
 use Rattle.le.specs.Mem.{read, write, put, bytes_of}
 use Rattle.le.proofs.Lens.{length-write, write_append}
+use Rattle.le.proofs.Writes.{write_over, write_part}
 use Rattle.test_steps.specs.Drawn.{next, drawn}
 use Rattle.test_steps.specs.Whole.{put_whole}
 
@@ -73,25 +76,37 @@ copy_is mem src n m k d e f g =
     g ∙ set_there mem (take n src) 0 0 k (omega arith) (omega (arith, length-take n src)) (read src 0 k)
     (read_slice src 0 k (omega arith) ∙ sym (take-take k n src (omega arith)))
 
--- the bytes that are left to draw, behind i of them
-abbrev pub Left : List ℕ → ℕ → ℕ → ℕ → ℕ → ℕ → List ℕ → ℕ → ℕ → Type 0
-Left mem at n seed from k s x i = write s (from + i) (drawn (k - i) x) ≡ write mem at (drawn n seed)
+-- the part of s behind i of the k bytes drawn: with the rest of them, all will stand
+abbrev pub Left : ℕ → ℕ → List ℕ → ℕ → ℕ → Type 0
+Left k seed part x i = write part i (drawn (k - i) x) ≡ drawn k seed
 
-module _ (mem : List ℕ) (at n seed from k : ℕ) where
-  pub left_all : from ≡ min at (length mem) → k ≡ min n (length mem - from) → Left mem at n seed from k mem seed 0
-  left_all e f = rw (add-zero from, sub-zero k) (draw_is mem at from n k e f seed)
+write_whole : (d bs : List ℕ) → length bs ≡ length d → write d 0 bs ≡ bs
+write_whole d bs e = write_over d bs (omega arith) ∙ rw (drop_of_length-le d {i = length bs} (omega arith), append-nil)
 
-  module _ (s : List ℕ) (x i : ℕ) (l : Left mem at n seed from k s x i) where
-    pub left_more : (y b : ℕ) → i < k → y ≡ next x → b ≡ y / 65536 % 256 → Left mem at n seed from k (set s (from + i) b) y (i + 1)
+module _ (k seed : ℕ) where
+  pub left_all : (part : List ℕ) → length part ≡ k → Left k seed part seed 0
+  left_all part e = rw (sub-zero k) (write_whole part (drawn k seed) (length_drawn k seed ∙ sym e))
+
+  module _ (part : List ℕ) (x i : ℕ) (l : Left k seed part x i) where
+    pub left_more : (y b : ℕ) → i < k → y ≡ next x → b ≡ y / 65536 % 256 → Left k seed (set part i b) y (i + 1)
     unfolding drawn
     left_more y b h e f =
         let d : k - i ≡ suc (k - (i + 1)) = omega arith in
-        let g : from + (i + 1) ≡ suc (from + i) = omega arith in
-        rw (f, e, g) (sym (ap (λ (j : ℕ). write s (from + i) (drawn j x)) d) ∙ l)
+        ap (λ (j : ℕ). write (set part i b) j (drawn (k - (i + 1)) y)) (add-one i) ∙ rw (f, e) (sym (ap (λ (j : ℕ). write part i (drawn j x)) d) ∙ l)
 
-    pub left_none : k ≤ i → s ≡ write mem at (drawn n seed)
+    pub left_none : k ≤ i → part ≡ drawn k seed
     unfolding drawn
-    left_none h = (let d : k - i ≡ 0 = omega arith in sym (ap (λ (j : ℕ). write s (from + i) (drawn j x)) d)) ∙ l
+    left_none h = (let d : k - i ≡ 0 = omega arith in sym (ap (λ (j : ℕ). write part i (drawn j x)) d)) ∙ l
+
+-- the part back in its place
+pub scattered : (mem part : List ℕ) (at n seed from k : ℕ) → from ≡ min at (length mem) → k ≡ min n (length mem - from)
+    → part ≡ drawn k seed → put_mid from (from + k - from) mem part ≡ write mem at (drawn n seed)
+scattered mem part at n seed from k e f g =
+    let j : from + k - from ≡ k = omega arith in
+    let l : length (take k (drop from mem)) ≡ k = omega (arith, length-take k (drop from mem), length-drop from mem) in
+    let w = write_whole (take k (drop from mem)) (drawn k seed) (length_drawn k seed ∙ sym l) in
+    rw (j, g)
+    (ap (put_mid from k mem) (sym w) ∙ write_part mem from k (drawn k seed) (omega arith) (omega (arith, length_drawn k seed)) ∙ draw_is mem at from n k e f seed)
 
 -- ---- numbers
 

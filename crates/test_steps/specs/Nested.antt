@@ -1,38 +1,34 @@
--- The open loops of a script in cells: how many they are, at most four, then three cells for each.
-use Rattle.std.specs.Prelude.{ℕ, ◌+◌, ◌-◌, ◌*◌, Bool, cond, ◌&&◌, List, [], ◌∷◌, leb, ltb, get_or, set}
-use Rattle.le.specs.Mem.{write}
+-- The open loops of a script: how many they are, at most four, and of each the place of its first line, its variable and the turns that are left.
+use Rattle.std.specs.Prelude.{ℕ, ◌+◌, ◌-◌, Bool, cond, ◌&&◌, leb, ltb, get_or, set, Option, Some, None}
+use Rattle.test_steps.specs.declared.loops.Loop.{Loop}
+use Rattle.test_steps.specs.declared.loops.Loops.{Loops}
 use Rattle.test_steps.specs.declared.loops.Turn.{Turn}
-use Rattle.test_steps.specs.declared.loops.Turn.TheVariants.{Again, Done}
-
--- how many are open
-abbrev pub depth : List ℕ → ℕ
-depth c = get_or c 0 0
 
 -- one more: the place of its first line, its variable, its turns
-unfoldable pub opened : List ℕ → ℕ → ℕ → ℕ → List ℕ
-opened c place variable turns =
-    cond (ltb (depth c) 4) (set (write c (3 * depth c + 1) (place ∷ variable ∷ turns ∷ [])) 0 (depth c + 1)) c
+unfoldable pub opened : Loops → ℕ → ℕ → ℕ → Loops
+opened s p v t =
+    cond (ltb s.depth 4) (record { nested = set s.nested s.depth (record { place = p; variable = v; turns = t }); depth = s.depth + 1 }) s
 
 -- whether there is an innermost one
-abbrev pub any_open : List ℕ → Bool
-any_open c = leb 1 (depth c) && leb (depth c) 4
+abbrev pub any_open : Loops → Bool
+any_open s = leb 1 s.depth && leb s.depth 4
 
--- the turns that it has left
-abbrev pub left : List ℕ → ℕ
-left c = get_or c (3 * depth c) 0
+-- the innermost one
+abbrev pub innermost : Loops → Loop
+innermost s = get_or s.nested (s.depth - 1) (record { place = 0; variable = 0; turns = 0 })
 
--- its place
-abbrev pub place_of : List ℕ → ℕ
-place_of c = get_or c (3 * depth c - 2) 0
-
--- its variable
-abbrev pub variable_of : List ℕ → ℕ
-variable_of c = get_or c (3 * depth c - 1) 0
+-- with one turn less
+abbrev pub a_turn_less : Loop → Loop
+a_turn_less l = record { place = l.place; variable = l.variable; turns = l.turns - 1 }
 
 -- at its end: one turn less, or one loop less
-unfoldable pub turned_loop : List ℕ → List ℕ
-turned_loop c = cond (any_open c) (cond (leb (left c) 1) (set c 0 (depth c - 1)) (set c (3 * depth c) (left c - 1))) c
+unfoldable pub turned_loop : Loops → Loops
+turned_loop s =
+    cond (any_open s)
+    (cond (leb (innermost s).turns 1) (record { nested = s.nested; depth = s.depth - 1 }) (record { nested = set s.nested (s.depth - 1) (a_turn_less (innermost s)); depth = s.depth }))
+    s
 
--- and the answer: its next turn, or that it is done
-unfoldable pub turn_of : List ℕ → Turn
-turn_of c = cond (any_open c) (cond (leb (left c) 1) Done (Again (place_of c) (variable_of c))) Done
+-- and the answer: its next turn, or none
+unfoldable pub turn_of : Loops → Option Turn
+turn_of s =
+    cond (any_open s) (cond (leb (innermost s).turns 1) None (Some (record { place = (innermost s).place; variable = (innermost s).variable }))) None

@@ -23,12 +23,11 @@ pub fn scatter(s: &mut [u8], at: u64, n: u64, seed: u64)
 {
     let from = least(at, s.len());
     let count = least(n, s.len() - from);
+    let part = &mut s[from..from + count];
     let mut x = seed;
-    let mut i = 0;
-    while i < count {
+    for b in part {
         x = crate::generator::following(x);
-        s[from + i] = low8(x / 65536);
-        i += 1;
+        *b = low8(x / 65536);
     }
 }
 

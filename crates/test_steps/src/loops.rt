@@ -1,49 +1,58 @@
-// The open loops of a script, one inside the other. Cell 0 is how many; then three cells for each of four: the place of its first line, its variable, the
-// turns that are left.
+// The open loops of a script, one inside the other.
 ghost use Rattle.std.specs.Prelude.{◌≡◌};
 ghost use Rattle.test_steps.specs.Nested.{opened, turned_loop, turn_of};
 
-// What the end of a loop answers: its next turn, or that the run goes on behind it.
+// An open loop: the place of its first line, its variable, the turns that are left.
+#[derive(Clone, Copy, Default)]
+pub struct Loop {
+    pub place: u64,
+    pub variable: u64,
+    pub turns: u64,
+}
+
+// The next turn of a loop: the place of its first line, and its variable.
 #[derive(Clone, Copy)]
-pub enum Turn {
-    Again { place: u64, variable: u64 },
-    Done,
+pub struct Turn {
+    pub place: u64,
+    pub variable: u64,
+}
+
+// The open loops, the innermost last, and how many they are.
+#[derive(Clone, Copy, Default)]
+pub struct Loops {
+    pub nested: [Loop; 4],
+    pub depth: usize,
 }
 
 // One loop more, inside the others; nothing where there is no room for it.
-pub fn open(loops: &mut [u64; 13], place: u64, variable: u64, turns: u64)
+#[tactic(auto, using(std::proofs::lemmas::Bool::Decides::nat_tests), unfolding(crate::specs::Nested::opened))]
+pub fn open(loops: &mut Loops, place: u64, variable: u64, turns: u64)
     ensures { loops.new ≡ opened loops.old place variable turns }
 {
-    let n = loops[0];
-    if n < 4 {
-        let at = 3 * n as usize;
-        loops[at + 1] = place;
-        loops[at + 2] = variable;
-        loops[at + 3] = turns;
-        loops[0] = n + 1;
+    if loops.depth < loops.nested.len() {
+        loops.nested[loops.depth] = Loop {
+            place,
+            variable,
+            turns,
+        };
+        loops.depth += 1;
     }
 }
 
-// The innermost loop has one turn less, or ends; nothing where none is open.
-pub fn close(loops: &mut [u64; 13]) -> Turn
+// The innermost loop has one turn less, and that is the answer, or it ends; nothing where none is open.
+#[tactic(auto, using(std::proofs::lemmas::Bool::Decides::nat_tests), unfolding(crate::specs::Nested::turned_loop, crate::specs::Nested::turn_of))]
+pub fn close(loops: &mut Loops) -> Option<Turn>
     ensures { (result ≡ turn_of loops.old) × (loops.new ≡ turned_loop loops.old) }
 {
-    let n = loops[0];
-    if n == 0 {
-        return Turn::Done;
+    let last = loops.depth.checked_sub(1)?;
+    let innermost = *loops.nested.get(last)?;
+    if innermost.turns <= 1 {
+        loops.depth = last;
+        return None;
     }
-    if 4 < n {
-        return Turn::Done;
-    }
-    let at = 3 * n as usize;
-    let turns = loops[at];
-    if turns <= 1 {
-        loops[0] = n - 1;
-        return Turn::Done;
-    }
-    loops[at] = turns - 1;
-    Turn::Again {
-        place: loops[at - 2],
-        variable: loops[at - 1],
-    }
+    loops.nested[last].turns -= 1;
+    Some(Turn {
+        place: innermost.place,
+        variable: innermost.variable,
+    })
 }

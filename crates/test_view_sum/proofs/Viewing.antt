@@ -1,24 +1,21 @@
 -- Laws of the sum of the tables: runs one behind the other, and each piece by the sums of its parts. Assumes nothing.
 use Prim.Native.Nat.{ℕ, zero, suc, ◌+◌, ◌-◌, ◌*◌, ◌≤◌, ◌<◌, min}
-use native.Mathlib.Nat.{sub-zero, suc-min-suc, zero-min, min-zero}
 use native.Mathlib.Omega.{arith}
 use mathlib.Core.Path.{◌≡◌, refl, sym, ap, ◌∙◌}
 use mathlib.Core.Bool.{Bool, true, false}
-use mathlib.Core.List.{List, [], ◌∷◌, ◌++◌}
+use mathlib.Core.List.{List, ◌++◌}
 use lib.Dec.{leb}
-use lib.ListN.{length, get_or, take, drop, length-drop, drop_of_length-le}
+use lib.ListN.{length, get_or, drop, length-drop, drop_of_length-le}
 use lib.Seq.{take-nil}
 use borrow.Author.Tests.{le-leb, lt-leb, leb-true, leb-false, eq-eqb, ne_eqb}
+use Rattle.std.specs.List.{fold, range_with_len}
+use Rattle.std.proofs.lemmas.List.{take_min}
+use Rattle.std.proofs.lemmas.List.Sums.{fold-append}
 use Rattle.path.specs.Steps.{part}
 use Rattle.test_words.specs.Adler.{summed, adler}
 use Rattle.test_view_sum.specs.Viewed.{flag_of, optional, mount_bytes, slot_bytes, name_bytes, row_bytes, viewed_pieces, table_bytes}
 
 -- ---- a run of bytes
-
-take_short : (n : ℕ) (xs : List ℕ) → take (min n (length xs)) xs ≡ take n xs
-take_short zero xs = rw (zero-min (length xs))
-take_short (suc n) [] = rw (min-zero (suc n))
-take_short (suc n) (x ∷ xs) = rw (suc-min-suc n (length xs)) (ap (λ (l : List ℕ). x ∷ l) (take_short n xs))
 
 module _ (s : List ℕ) (at n : ℕ) where
   run_by : (t : Bool) → leb at (length s) ≡ t → (a k : ℕ) → a ≡ min at (length s) → k ≡ min n (length s - a) → part s a k ≡ part s at n
@@ -26,7 +23,7 @@ module _ (s : List ℕ) (at n : ℕ) where
       let l : at ≤ length s = leb-true at (length s) h in
       let g : a ≡ at = omega arith in
       let m : k ≡ min n (length (drop at s)) = omega (arith, length-drop at s) in
-      rw (g, m) (take_short n (drop at s))
+      rw (g, m) (take_min n (drop at s))
   run_by false h a k e f =
       let l : length s < at = leb-false at (length s) h in
       let g : length s ≤ a = omega arith in
@@ -42,17 +39,10 @@ module _ (s : List ℕ) (at n : ℕ) where
 
 adler_append : (sum : ℕ) (a b : List ℕ) → adler (adler sum a) b ≡ adler sum (a ++ b)
 unfolding adler
-adler_append sum [] b = refl
-adler_append sum (x ∷ a) b = adler_append (summed sum x) a b
+adler_append sum a b = sym (fold-append summed sum a b)
 
 more : (sum q r : ℕ) (a b : List ℕ) → q ≡ adler sum a → r ≡ adler q b → r ≡ adler sum (a ++ b)
 more sum q r a b e f = f ∙ ap (λ (x : ℕ). adler x b) e ∙ adler_append sum a b
-
-pub flag_none : (b sum r : ℕ) → b ≡ 0 → r ≡ adler sum (0 ∷ []) → r ≡ adler sum (flag_of b)
-flag_none b sum r h e = rw (eq-eqb b 0 h) e
-
-pub flag_some : (b sum r : ℕ) → (b ≡ 0 → ⊥) → r ≡ adler sum (1 ∷ []) → r ≡ adler sum (flag_of b)
-flag_some b sum r h e = rw (ne_eqb b 0 h) e
 
 module _ (b sum a : ℕ) (s : List ℕ) (e : a ≡ adler sum (flag_of b)) where
   none : b ≡ 0 → a ≡ adler sum (optional b s)
@@ -94,21 +84,10 @@ module _ (s : List ℕ) (sum a : ℕ) where
 
 -- ---- pieces
 
-module _ (f : ℕ → List ℕ) (n : ℕ) where
-  pub pieces_all : (sum : ℕ) → adler sum (viewed_pieces f (n - 0) 0) ≡ adler sum (viewed_pieces f n 0)
-  pieces_all sum = rw (sub-zero n)
-
-  module _ (k x t : ℕ) where
-    pub pieces_more : (y : ℕ) → k < n → y ≡ adler x (f k) → adler x (viewed_pieces f (n - k) k) ≡ t → adler y (viewed_pieces f (n - (k + 1)) (k + 1)) ≡ t
-    unfolding viewed_pieces
-    pieces_more y h e g =
-        let d : n - k ≡ suc (n - (k + 1)) = omega arith in
-        ap (λ (z : ℕ). adler z (viewed_pieces f (n - (k + 1)) (k + 1))) e ∙ adler_append x (f k) (viewed_pieces f (n - (k + 1)) (k + 1))
-        ∙ sym (ap (λ (m : ℕ). adler x (viewed_pieces f m k)) d) ∙ g
-
-    pub pieces_end : n ≤ k → adler x (viewed_pieces f (n - k) k) ≡ t → x ≡ t
-    unfolding viewed_pieces adler
-    pieces_end h g = sym (let d : n - k ≡ 0 = omega arith in ap (λ (m : ℕ). adler x (viewed_pieces f m k)) d) ∙ g
+pub pieces_fold : (f : ℕ → List ℕ) (sum n k : ℕ) → fold (λ x i. adler x (f i)) sum (range_with_len k n) ≡ adler sum (viewed_pieces f n k)
+unfolding viewed_pieces
+pieces_fold f sum zero k = unfold adler in refl
+pieces_fold f sum (suc n) k = pieces_fold f (adler sum (f k)) n (k + 1) ∙ adler_append sum (f k) (viewed_pieces f n (k + 1))
 
 -- ---- a row, and all
 
@@ -126,18 +105,18 @@ row_is s n i sum a b index c len r ea eb ei ec el er =
     (ec ∙ ap (λ (z : ℕ). adler b (mount_bytes s z (8192 + 16 * n + 8 * i) (8192 + 32 * n + 4 * i) (8192 + 36 * n + 4 * i) (8192 + 40 * n + 4 * i))) ei))
     (er ∙ ap (λ (z : ℕ). adler c (name_bytes s z (8192 + 24 * n + 8 * i) (8192 + 24 * n + 8 * i + 1) (8192 + 44 * n + 248 * i))) el)
 
-pub table_is : (s : List ℕ) (a f b g c index d e low high least most r : ℕ)
+pub table_is : (s : List ℕ) (a f b g c index d e size count r : ℕ)
     → a ≡ adler 1 (part s 8 74) → f ≡ get_or s 82 0 → b ≡ adler a (flag_of f) → g ≡ get_or s 83 0 → c ≡ adler b (flag_of g)
     → index ≡ get_or s 95 0 → d ≡ adler c (mount_bytes s index 88 96 100 104) → e ≡ adler d (viewed_pieces (slot_bytes s) 256 0)
-    → low ≡ get_or s 8 0 → high ≡ get_or s 9 0 → least ≡ get_or s 16 0 → most ≡ get_or s 17 0
-    → r ≡ adler e (viewed_pieces (row_bytes s (low + 256 * high)) (least + 256 * most) 0)
+    → size ≡ get_or s 8 0 + 256 * get_or s 9 0 → count ≡ get_or s 16 0 + 256 * get_or s 17 0
+    → r ≡ adler e (viewed_pieces (row_bytes s size) count 0)
     → r ≡ adler 1 (table_bytes s)
 unfolding table_bytes
-table_is s a f b g c index d e low high least most r ea ef eb eg ec ei ed ee el eh en em er =
+table_is s a f b g c index d e size count r ea ef eb eg ec ei ed ee es en er =
     more 1 e r _ _
     (more 1 d e _ _
     (more 1 c d _ _
     (more 1 b c _ _ (more 1 a b _ _ ea (eb ∙ ap (λ (z : ℕ). adler a (flag_of z)) ef)) (ec ∙ ap (λ (z : ℕ). adler b (flag_of z)) eg))
     (ed ∙ ap (λ (z : ℕ). adler c (mount_bytes s z 88 96 100 104)) ei))
     ee)
-    (er ∙ rw (el, eh, en, em))
+    (er ∙ rw (es, en))

@@ -7,7 +7,6 @@ ghost use Rattle.test_words.specs.Adler.{adler};
 ghost use Rattle.test_view_sum.specs.Viewed.{flag_of, mount_bytes, slot_bytes, name_bytes, row_bytes, viewed_pieces, table_bytes};
 
 use test_words::hex::byte_at;
-use test_words::numbers::least;
 use test_words::sums::{START, with_run};
 
 // Where the node table begins.
@@ -21,17 +20,18 @@ pub fn sum_of(s: &[u8]) -> u64
     let b = flag(a, byte_at(s, 82));
     let c = flag(b, byte_at(s, 83));
     let d = mount(c, s, byte_at(s, 95), 88, 96, 100, 104);
-    let e = slots(d, s);
-    let n = byte_at(s, 8) as u16 + 256 * byte_at(s, 9) as u16;
-    rows(e, s, n, byte_at(s, 16) as u16 + 256 * byte_at(s, 17) as u16)
+    let e = (0..256).fold(d, |x, k| slot(x, s, k));
+    let size = u16::from_le_bytes([byte_at(s, 8), byte_at(s, 9)]);
+    let count = u16::from_le_bytes([byte_at(s, 16), byte_at(s, 17)]);
+    (0..count).fold(e, |x, i| row(x, s, size, i))
 }
 
 // With so many bytes from a place on.
 fn run(sum: u64, s: &[u8], at: usize, n: usize) -> u64
     ensures { result ≡ adler sum (part s.now at n) }
 {
-    let from = least(at as u64, s.len());
-    let end = from + least(n as u64, s.len() - from);
+    let from = at.min(s.len());
+    let end = from + n.min(s.len() - from);
     with_run(sum, &s[from..end])
 }
 
@@ -39,10 +39,7 @@ fn run(sum: u64, s: &[u8], at: usize, n: usize) -> u64
 fn flag(sum: u64, b: u8) -> u64
     ensures { result ≡ adler sum (flag_of b) }
 {
-    if b == 0 {
-        return with_run(sum, &[0]);
-    }
-    with_run(sum, &[1])
+    with_run(sum, &[(b != 0) as u8])
 }
 
 // With a mount, by its index.
@@ -60,7 +57,7 @@ fn mount(sum: u64, s: &[u8], index: u8, cell: usize, uid: usize, gid: usize, mod
 }
 
 // With a slot.
-fn slot(sum: u64, s: &[u8], k: u8) -> u64
+fn slot(sum: u64, s: &[u8], k: u16) -> u64
     ensures { result ≡ adler sum (slot_bytes s.now k) }
 {
     let held = byte_at(s, 256 + k as usize);
@@ -69,19 +66,6 @@ fn slot(sum: u64, s: &[u8], k: u8) -> u64
         return a;
     }
     run(a, s, 512 + 4 * k as usize, 4)
-}
-
-// With all slots.
-fn slots(sum: u64, s: &[u8]) -> u64
-    ensures { result ≡ adler sum (viewed_pieces (slot_bytes s.now) 256 0) }
-{
-    let mut x = sum;
-    let mut k: u16 = 0;
-    while k < 256 {
-        x = slot(x, s, k as u8);
-        k += 1;
-    }
-    x
 }
 
 // With a name of so many bytes.
@@ -119,17 +103,4 @@ fn row(sum: u64, s: &[u8], size: u16, place: u16) -> u64
     let at = TABLE + 24 * n + 8 * i;
     let len = byte_at(s, at) as usize;
     name(c, s, len, at, at + 1, TABLE + 44 * n + 248 * i)
-}
-
-// With so many rows of a table.
-fn rows(sum: u64, s: &[u8], size: u16, count: u16) -> u64
-    ensures { result ≡ adler sum (viewed_pieces (row_bytes s.now size) count 0) }
-{
-    let mut x = sum;
-    let mut i: u16 = 0;
-    while i < count {
-        x = row(x, s, size, i);
-        i += 1;
-    }
-    x
 }

@@ -2,4 +2,3 @@
 pub mod Filling
 pub mod Spelling
 pub mod Finding
-pub mod Summing

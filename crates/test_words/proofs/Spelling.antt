@@ -1,144 +1,108 @@
--- Laws of hex digits: what a digit is, and what is spelt from a place on, by pairs and behind percent signs. Assumes nothing.
-use Prim.Native.Nat.{ℕ, ◌+◌, ◌-◌, ◌*◌, ◌≤◌, ◌<◌}
-use native.Mathlib.Nat.{add-zero}
-use native.Mathlib.Omega.{arith}
-use mathlib.Core.Path.{◌≡◌, refl, sym, ap, ◌∙◌}
-use mathlib.Core.Bool.{Bool, true, false, cond, ◌&&◌, and-false}
-use mathlib.Core.List.{List, [], ◌∷◌}
-use lib.Dec.{eqb, leb}
-use lib.ListN.{length, get_or, drop, length-drop, drop_of_length-le, get_or-eq_default}
-use lib.Seq.{get_or-drop, drop-drop}
-use borrow.Author.Tests.{le-leb, lt-leb, lt-ltb, le-ltb, eq-eqb, ne_eqb}
+-- Laws of hex digits: what a digit is, and what is spelt at the front of bytes, by pairs and behind percent signs. Assumes nothing.
+use Rattle.std.proofs.Common.{ℕ, ◌+◌, ◌-◌, ◌*◌, ◌≤◌, ◌<◌, ◌≡◌, ◌≢◌, refl, sym, ◌∙◌, List, [], ◌∷◌, length, get_or, take, drop, Option, Some, None, unwrap_or, MatchOption, Bor, slice_range, ◌⊎◌, arith}
+use Rattle.std.proofs.lemmas.Bool.Decides.{nat_tests}
+use Rattle.std.proofs.Math.Seq.{take_all}
+use Rattle.std.proofs.Math.ListN.{length-drop, drop_of_length-le}
 use Rattle.rules.specs.Session.{is_digit}
-use Rattle.test_words.specs.Spelt.{hex_digit, hex_pair, hex_bytes, percent_pair, percent_bytes}
+use Rattle.test_words.specs.Spelt.{hex_digit, hex_pair, hex_bytes, percent_front, percent_bytes}
 
--- ---- a digit, by where the byte lies
+-- ---- a digit, and a pair
 
-module _ (b : ℕ) where
-  pub low_none : b < 48 → 256 ≡ hex_digit b
-  unfolding hex_digit is_digit
-  low_none h = simp (lt-leb 48 b h, lt-leb 97 b (omega arith))
+pub digit_less : (b x : ℕ) → hex_digit b ≡ Some x → x < 16
+unfolding hex_digit is_digit
+digit_less b x e = grind (arith, nat_tests)
 
-  pub decimal_digit : 48 ≤ b → b ≤ 57 → b - 48 ≡ hex_digit b
-  unfolding hex_digit is_digit
-  decimal_digit h k = simp (le-leb 48 b h, le-leb b 57 k)
-
-  pub middle_none : 57 < b → b < 97 → 256 ≡ hex_digit b
-  unfolding hex_digit is_digit
-  middle_none h k = simp (lt-leb b 57 h, and-false, lt-leb 97 b k)
-
-  pub letter_digit : 97 ≤ b → b ≤ 102 → b - 97 + 10 ≡ hex_digit b
-  unfolding hex_digit is_digit
-  letter_digit h k =
-      let f : 57 < b = omega arith in
-      let e : b - 97 + 10 ≡ b - 87 = omega arith in
-      simp (lt-leb b 57 f, and-false, le-leb 97 b h, le-leb b 102 k) e
-
-  pub high_none : 102 < b → 256 ≡ hex_digit b
-  unfolding hex_digit is_digit
-  high_none h =
-      let f : 57 < b = omega arith in
-      simp (lt-leb b 57 f, lt-leb b 102 h, and-false)
-
-  at_most : (d l : Bool) → b < 256 → cond d (b - 48) (cond l (b - 87) 256) ≤ 256
-  at_most true l h = omega arith
-  at_most false true h = omega arith
-  at_most false false h = omega arith
-
-  pub digit_most : b < 256 → hex_digit b ≤ 256
-  unfolding hex_digit
-  digit_most h = at_most (is_digit b) (leb 97 b && leb b 102) h
-
-pub pair_is : (a b x y : ℕ) → x ≡ hex_digit a → y ≡ hex_digit b → x * 16 + y ≡ hex_pair a b
+pub pair_is : (a b x y : ℕ) → hex_digit a ≡ Some x → hex_digit b ≡ Some y → Some (x * 16 + y) ≡ hex_pair a b
 unfolding hex_pair
 pair_is a b x y e f = rw (e, f)
 
-pub past : (s : List ℕ) (at : ℕ) → length s ≤ at → 0 ≡ get_or s at 0
-past s at h = sym (get_or-eq_default s 0 {n = at} h)
-
--- ---- the bytes at the front
-
-bytes_stop : (s : List ℕ) → 255 < hex_pair (get_or s 0 0) (get_or s 1 0) → hex_bytes s ≡ []
-unfolding hex_bytes
-bytes_stop [] h = refl
-bytes_stop (a ∷ []) h = refl
-bytes_stop (a ∷ b ∷ s) h = rw (lt-ltb 255 (hex_pair a b) h)
-
-pair_zero : (a : ℕ) → 256 ≤ hex_pair a 0
+pub pair_first : (a b : ℕ) → hex_digit a ≡ None → None ≡ hex_pair a b
 unfolding hex_pair
-pair_zero a = omega (arith, low_none 0 (omega arith))
+pair_first a b e = rw e
 
-bytes_more : (s : List ℕ) → hex_pair (get_or s 0 0) (get_or s 1 0) ≤ 255 → hex_bytes s ≡ hex_pair (get_or s 0 0) (get_or s 1 0) ∷ hex_bytes (drop 2 s)
+pub pair_second : (a b x : ℕ) → hex_digit a ≡ Some x → hex_digit b ≡ None → None ≡ hex_pair a b
+unfolding hex_pair
+pair_second a b x e f = rw (e, f)
+
+-- ---- a part of a slice up to its end
+
+abbrev pub from : ℕ → List ℕ → List ℕ
+from k s = take (length s - k) (drop k s)
+
+pub from_drop : (k : ℕ) (s : List ℕ) → from k s ≡ drop k s
+from_drop k s = take_all (length s - k) (drop k s) (omega (arith, length-drop k s))
+
+-- what `get` gives of a slice from a place on, or nothing past the end
+pub from_get : (s : List ℕ) (at : ℕ) (o : Option (Bor (List ℕ))) (d : Bor (List ℕ))
+    → MatchOption o ((length s < at) ⊎ (length s < length s)) (λ x. (at ≤ length s) × (length s ≤ length s) × (x.now ≡ slice_range s at (length s)) × (length x.now + at ≡ length s)) → d.now ≡ [] → (unwrap_or o d).now ≡ drop at s
+from_get s at None d h e = e ∙ sym (drop_of_length-le s (omega arith))
+from_get s at (Some x) d h e = h.2 ∙ from_drop at s
+
+-- ---- the bytes that pairs spell
+
+pub bytes_end : (s : List ℕ) → length s < 2 → hex_bytes s ≡ []
 unfolding hex_bytes
-bytes_more [] h = absurd (let z : ⊥ = omega (arith, pair_zero 0) in z)
-bytes_more (a ∷ []) h = absurd (let z : ⊥ = omega (arith, pair_zero a) in z)
-bytes_more (a ∷ b ∷ s) h = rw (le-ltb 255 (hex_pair a b) h)
+bytes_end [] h = refl
+bytes_end (a ∷ []) h = refl
+bytes_end (a ∷ b ∷ s) h = absurd (omega arith)
 
--- ---- the bytes behind a percent sign
+pub bytes_stop : (s : List ℕ) → hex_pair (get_or s 0 0) (get_or s 1 0) ≡ None → hex_bytes s ≡ []
+unfolding hex_bytes
+bytes_stop [] e = refl
+bytes_stop (a ∷ []) e = refl
+bytes_stop (a ∷ b ∷ s) e = rw e
 
-pub percent_sign : (a b c p : ℕ) → a ≡ 37 → p ≡ hex_pair b c → p ≡ percent_pair a b c
-unfolding percent_pair
-percent_sign a b c p e f = simp (eq-eqb a 37 e) f
+pub bytes_more : (s : List ℕ) (p : ℕ) → 2 ≤ length s → hex_pair (get_or s 0 0) (get_or s 1 0) ≡ Some p → hex_bytes s ≡ p ∷ hex_bytes (from 2 s)
+unfolding hex_bytes
+bytes_more [] p h e = absurd (omega arith)
+bytes_more (a ∷ []) p h e = absurd (omega arith)
+bytes_more (a ∷ b ∷ s) p h e = rw (e, from_drop 2 (a ∷ b ∷ s))
 
-pub no_percent : (a b c : ℕ) → (a ≡ 37 → ⊥) → 256 ≡ percent_pair a b c
-unfolding percent_pair
-no_percent a b c h = simp (ne_eqb a 37 h)
+-- ---- the byte behind a percent sign
 
-percent_zero : (a b : ℕ) → 256 ≤ percent_pair a b 0
-unfolding percent_pair
-percent_zero a b = by_sign (eqb a 37)
-  where
-    by_sign : (t : Bool) → 256 ≤ cond t (hex_pair b 0) 256
-    by_sign true = pair_zero b
-    by_sign false = omega arith
+pub front_short : (s : List ℕ) → length s < 3 → None ≡ percent_front s
+unfolding percent_front
+front_short [] h = refl
+front_short (a ∷ []) h = refl
+front_short (a ∷ b ∷ []) h = refl
+front_short (a ∷ b ∷ c ∷ s) h = absurd (omega arith)
 
-percent_plain : (s : List ℕ) → 0 < length s → 256 ≤ percent_pair (get_or s 0 0) (get_or s 1 0) (get_or s 2 0) → percent_bytes s ≡ get_or s 0 0 ∷ percent_bytes (drop 1 s)
+pub front_pair : (s : List ℕ) → 3 ≤ length s → get_or s 0 0 ≡ 37 → hex_pair (get_or s 1 0) (get_or s 2 0) ≡ percent_front s
+unfolding percent_front
+front_pair [] h e = absurd (omega arith)
+front_pair (a ∷ []) h e = absurd (omega arith)
+front_pair (a ∷ b ∷ []) h e = absurd (omega arith)
+front_pair (a ∷ b ∷ c ∷ s) h e = rw e
+
+pub front_other : (s : List ℕ) → get_or s 0 0 ≢ 37 → None ≡ percent_front s
+unfolding percent_front
+front_other [] h = refl
+front_other (a ∷ []) h = refl
+front_other (a ∷ b ∷ []) h = refl
+front_other (a ∷ b ∷ c ∷ s) h = grind (arith, nat_tests)
+
+pub front_long : (s : List ℕ) (p : ℕ) → percent_front s ≡ Some p → 3 ≤ length s
+unfolding percent_front
+front_long [] p e = cc
+front_long (a ∷ []) p e = cc
+front_long (a ∷ b ∷ []) p e = cc
+front_long (a ∷ b ∷ c ∷ s) p e = omega arith
+
+pub percents_end : (s : List ℕ) → length s < 1 → percent_bytes s ≡ []
 unfolding percent_bytes
-percent_plain [] l h = absurd (let z : ⊥ = omega arith in z)
-percent_plain (a ∷ []) l h = refl
-percent_plain (a ∷ b ∷ []) l h = refl
-percent_plain (a ∷ b ∷ c ∷ s) l h = rw (le-ltb (percent_pair a b c) 256 h)
+percents_end [] h = refl
+percents_end (a ∷ s) h = absurd (omega arith)
 
-percent_spelt : (s : List ℕ) → percent_pair (get_or s 0 0) (get_or s 1 0) (get_or s 2 0) < 256
-    → percent_bytes s ≡ percent_pair (get_or s 0 0) (get_or s 1 0) (get_or s 2 0) ∷ percent_bytes (drop 3 s)
+pub percents_plain : (s : List ℕ) → 0 < length s → percent_front s ≡ None → percent_bytes s ≡ get_or s 0 0 ∷ percent_bytes (from 1 s)
 unfolding percent_bytes
-percent_spelt [] h = absurd (let z : ⊥ = omega (arith, percent_zero 0 0) in z)
-percent_spelt (a ∷ []) h = absurd (let z : ⊥ = omega (arith, percent_zero a 0) in z)
-percent_spelt (a ∷ b ∷ []) h = absurd (let z : ⊥ = omega (arith, percent_zero a b) in z)
-percent_spelt (a ∷ b ∷ c ∷ s) h = rw (lt-ltb (percent_pair a b c) 256 h)
+percents_plain [] h e = absurd (omega arith)
+percents_plain (a ∷ []) h e = refl
+percents_plain (a ∷ b ∷ []) h e = refl
+percents_plain (a ∷ b ∷ c ∷ s) h e = rw (e, from_drop 1 (a ∷ b ∷ c ∷ s))
 
--- ---- the same from a place on
-
-module _ (s : List ℕ) (i : ℕ) where
-  pub pairs_past : length s ≤ i → hex_bytes (drop i s) ≡ []
-  unfolding hex_bytes
-  pairs_past h = rw (drop_of_length-le s h)
-
-  pub percents_past : length s ≤ i → percent_bytes (drop i s) ≡ []
-  unfolding percent_bytes
-  percents_past h = rw (drop_of_length-le s h)
-
-  pub first : get_or (drop i s) 0 0 ≡ get_or s i 0
-  first = get_or-drop i s 0 0 ∙ ap (λ (k : ℕ). get_or s k 0) (add-zero i)
-
-  module _ (p b : ℕ) (e : p ≡ hex_pair (get_or s i 0) b) (f : b ≡ get_or s (i + 1) 0) where
-    pair_here : hex_pair (get_or (drop i s) 0 0) (get_or (drop i s) 1 0) ≡ p
-    pair_here = rw (first, get_or-drop i s 1 0, ← f, ← e)
-
-    pub pairs_stop : 255 < p → hex_bytes (drop i s) ≡ []
-    pairs_stop h = bytes_stop (drop i s) (rw pair_here h)
-
-    pub pairs_more : p ≤ 255 → hex_bytes (drop i s) ≡ p ∷ hex_bytes (drop (i + 2) s)
-    pairs_more h = rw (bytes_more (drop i s) (rw pair_here h), pair_here, drop-drop 2 i s)
-
-  module _ (p b c : ℕ) (e : p ≡ percent_pair (get_or s i 0) b c) (f : b ≡ get_or s (i + 1) 0) (g : c ≡ get_or s (i + 2) 0) where
-    percent_here : percent_pair (get_or (drop i s) 0 0) (get_or (drop i s) 1 0) (get_or (drop i s) 2 0) ≡ p
-    percent_here = rw (first, get_or-drop i s 1 0, get_or-drop i s 2 0, ← f, ← g, ← e)
-
-    pub percents_plain : i < length s → 256 ≤ p → percent_bytes (drop i s) ≡ get_or s i 0 ∷ percent_bytes (drop (i + 1) s)
-    percents_plain l h =
-        let k : 0 < length (drop i s) = simp length-drop (omega arith) in
-        rw (percent_plain (drop i s) k (rw percent_here h), first, drop-drop 1 i s)
-
-    pub percents_spelt : p < 256 → percent_bytes (drop i s) ≡ p ∷ percent_bytes (drop (i + 3) s)
-    percents_spelt h = rw (percent_spelt (drop i s) (rw percent_here h), percent_here, drop-drop 3 i s)
+pub percents_spelt : (s : List ℕ) (p : ℕ) → percent_front s ≡ Some p → percent_bytes s ≡ p ∷ percent_bytes (from 3 s)
+unfolding percent_bytes
+percents_spelt [] p e = absurd (omega (arith, front_long [] p e))
+percents_spelt (a ∷ []) p e = absurd (omega (arith, front_long (a ∷ []) p e))
+percents_spelt (a ∷ b ∷ []) p e = absurd (omega (arith, front_long (a ∷ b ∷ []) p e))
+percents_spelt (a ∷ b ∷ c ∷ s) p e = rw (e, from_drop 3 (a ∷ b ∷ c ∷ s))

@@ -1,5 +1,6 @@
 -- Adler-32, as RFC 1950 has it.
-use Rattle.std.specs.Prelude.{ℕ, ◌+◌, ◌*◌, ◌/◌, ◌%◌, List, [], ◌∷◌}
+use Rattle.std.specs.Prelude.{ℕ, ◌+◌, ◌*◌, ◌/◌, ◌%◌, List}
+use Rattle.std.specs.List.{fold}
 
 -- the low half of the sum with one byte more
 abbrev pub low : ℕ → ℕ → ℕ
@@ -15,5 +16,4 @@ summed sum b = high sum b * 65536 + low sum b
 
 -- the sum with a run of bytes more
 unfoldable pub adler : ℕ → List ℕ → ℕ
-adler sum [] = sum
-adler sum (b ∷ s) = adler (summed sum b) s
+adler sum s = fold summed sum s

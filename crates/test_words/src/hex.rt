@@ -1,42 +1,33 @@
 // Bytes of a line, as they stand and as pairs of hex digits, alone or behind a `%`.
 ghost use Rattle.std.specs.Prelude.{◌≡◌, length, get_or, take, drop};
 ghost use Rattle.decimal.specs.Wrote.{Wrote};
-ghost use Rattle.test_words.specs.Spelt.{hex_digit, hex_pair, hex_bytes, percent_pair, percent_bytes};
+ghost use Rattle.test_words.specs.Spelt.{hex_digit, hex_pair, hex_bytes, percent_front, percent_bytes};
 
 // The byte at a place, or 0 past the end.
 pub fn byte_at(s: &[u8], at: usize) -> u8
     ensures { result ≡ get_or s.now at 0 }
 {
-    if at < s.len() {
-        return s[at];
-    }
-    0
+    s.get(at).copied().unwrap_or(0)
 }
 
-// The value of a hex digit; 256 for any other byte.
-fn digit(b: u8) -> u16
+// The value of a hex digit.
+#[tactic(auto, using(std::proofs::lemmas::Bool::Decides::nat_tests), unfolding(crate::specs::Spelt::hex_digit, rules::specs::Session::is_digit))]
+fn digit(b: u8) -> Option<u8>
     ensures { result ≡ hex_digit b }
 {
-    if b < b'0' {
-        return 256;
+    match b {
+        b'0'..=b'9' => Some(b - b'0'),
+        b'a'..=b'f' => Some(b - b'a' + 10),
+        _ => None,
     }
-    if b <= b'9' {
-        return (b - b'0') as u16;
-    }
-    if b < b'a' {
-        return 256;
-    }
-    if b <= b'f' {
-        return (b - b'a') as u16 + 10;
-    }
-    256
 }
 
-// The byte that two hex digits spell; above 255 where one of them is none.
-fn pair(a: u8, b: u8) -> u16
+// The byte that two hex digits spell.
+#[tactic(auto, using(crate::proofs::Spelling::digit_less, crate::proofs::Spelling::pair_is, crate::proofs::Spelling::pair_first, crate::proofs::Spelling::pair_second))]
+fn pair(a: u8, b: u8) -> Option<u8>
     ensures { result ≡ hex_pair a b }
 {
-    digit(a) * 16 + digit(b)
+    Some(digit(a)? * 16 + digit(b)?)
 }
 
 // Writes the bytes that the pairs of digits from `at` on spell, as many as there is room for, and answers how many.
@@ -44,30 +35,30 @@ pub fn pairs(s: &[u8], at: usize, out: &mut [u8]) -> usize
     ensures { Wrote out.old 0 (length out.old) (take (length out.old) (hex_bytes (drop at s.now))) result out.new }
 {
     let mut n = 0;
-    let mut i = at;
-    while i < s.len() {
-        let p = pair(s[i], byte_at(s, i + 1));
-        if 255 < p {
+    let mut rest = s.get(at..).unwrap_or(&[]);
+    while n < out.len() {
+        let [a, b, next @ ..] = rest else {
             return n;
-        }
-        if out.len() <= n {
+        };
+        let Some(byte) = pair(*a, *b) else {
             return n;
-        }
-        out[n] = p as u8;
+        };
+        out[n] = byte;
         n += 1;
-        i += 2;
+        rest = next;
     }
     n
 }
 
-// The byte that a `%` and two hex digits spell; above 255 for any other bytes.
-fn escaped(a: u8, b: u8, c: u8) -> u16
-    ensures { result ≡ percent_pair a b c }
+// The byte that a `%` and two hex digits at the front spell.
+#[tactic(auto, using(crate::proofs::Spelling::front_short, crate::proofs::Spelling::front_pair, crate::proofs::Spelling::front_other))]
+fn escaped(w: &[u8]) -> Option<u8>
+    ensures { result ≡ percent_front w.now }
 {
-    if a == b'%' {
-        return pair(b, c);
+    match w {
+        [b'%', b, c, ..] => pair(*b, *c),
+        _ => None,
     }
-    256
 }
 
 // Writes the bytes of w, each `%` and two hex digits as the byte that they spell, as many as there is room for, and answers how many.
@@ -75,21 +66,18 @@ pub fn decoded(w: &[u8], out: &mut [u8]) -> usize
     ensures { Wrote out.old 0 (length out.old) (take (length out.old) (percent_bytes w.now)) result out.new }
 {
     let mut n = 0;
-    let mut i = 0;
-    while i < w.len() {
-        if out.len() <= n {
+    let mut rest = w;
+    while n < out.len() {
+        let [first, others @ ..] = rest else {
             return n;
-        }
-        let p = escaped(w[i], byte_at(w, i + 1), byte_at(w, i + 2));
-        if p < 256 {
-            out[n] = p as u8;
-            n += 1;
-            i += 3;
-        } else {
-            out[n] = w[i];
-            n += 1;
-            i += 1;
-        }
+        };
+        let (byte, behind) = match escaped(rest) {
+            Some(byte) => (byte, &rest[3..]),
+            None => (*first, others),
+        };
+        out[n] = byte;
+        n += 1;
+        rest = behind;
     }
     n
 }

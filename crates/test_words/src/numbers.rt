@@ -3,28 +3,16 @@ ghost use Rattle.std.specs.Prelude.{◌≡◌, min, length, replicate};
 ghost use Rattle.rules.specs.Session.{words, shown};
 ghost use Rattle.test_words.specs.Among.{numbers_of, low_bits};
 
-use decimal::Number;
-
 // The words of a line that are numbers of 64 bits, in their order; zeros behind them (R146, R148, R149).
 pub fn numbers(line: &[u8]) -> [u64; 8]
     ensures { result ≡ shown 8 (numbers_of (words line.now)) }
 {
+    let values = line
+        .split(|b| *b == b' ')
+        .filter_map(|w| decimal::read(w, u64::MAX));
     let mut r = [0u64; 8];
-    let mut k = 0;
-    let mut at = 0;
-    while at < line.len() {
-        if 8 <= k {
-            return r;
-        }
-        let end = path::components::part_end(line, at, b' ');
-        match decimal::read(&line[at..end], u64::MAX) {
-            Number::Value(v) => {
-                r[k] = v;
-                k += 1;
-            }
-            Number::Bad => {}
-        }
-        at = end + 1;
+    for (k, v) in values.take(8).enumerate() {
+        r[k] = v;
     }
     r
 }
@@ -47,10 +35,7 @@ pub fn low8(x: u64) -> u8
 pub fn least(n: u64, len: usize) -> usize
     ensures { result ≡ min n len }
 {
-    if (len as u64) < n {
-        return len;
-    }
-    n as usize
+    n.min(len as u64) as usize
 }
 
 // Room for the lines of a program, or for an instance of 1,024 nodes: zeros.

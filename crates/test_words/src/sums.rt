@@ -18,11 +18,5 @@ fn with(sum: u64, b: u8) -> u64
 pub fn with_run(sum: u64, s: &[u8]) -> u64
     ensures { result ≡ adler sum s.now }
 {
-    let mut x = sum;
-    let mut i = 0;
-    while i < s.len() {
-        x = with(x, s[i]);
-        i += 1;
-    }
-    x
+    s.iter().fold(sum, |x, b| with(x, *b))
 }

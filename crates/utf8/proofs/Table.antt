@@ -1,14 +1,19 @@
 -- Laws of table 3-7: of which row a first byte is, and where the well-formed part of a byte string ends. Assumes nothing.
-use mathlib.Core.Path.{◌≡◌, refl, sym, ◌∙◌}
+use mathlib.Core.Path.{◌≡◌, refl, sym, ap, ◌∙◌}
 use mathlib.Core.Bool.{Bool, true, false, cond, ◌&&◌, and-true, and-false, false≢true, and-eq-true_iff}
 use mathlib.Core.List.{List, [], ◌∷◌, ◌++◌}
 use Prim.Native.Nat.{ℕ, zero, suc, ◌+◌, ◌≤◌, ◌<◌, zero-le, suc-le-suc}
 use native.Mathlib.Nat.{zero-add, suc-add, lt_irrefl, lt_of_lt_of_le, le_of_suc-le-suc, not-suc-le-zero}
 use native.Mathlib.Omega.{arith}
-use lib.ListN.{length, get_or, drop, drop_of_length-le, length-drop}
+use lib.ListN.{length, get_or, drop, drop_of_length-le, length-drop, replicate}
 use lib.Seq.{drop-drop}
-use lib.Dec.{leb}
+use lib.Dec.{leb, eqb, eqb-suc-zero}
 use borrow.Author.Tests.{le-leb, lt-leb}
+use Rattle.std.specs.Prelude.{Some, None}
+use Rattle.std.specs.Bool.{then_some}
+use Rattle.std.specs.List.{list_all, range_with_len}
+use Rattle.std.proofs.lemmas.Option.{none-some, same_Some}
+use Rattle.utf8.specs.Sequence.{sequence_in}
 use Rattle.rules.specs.Utf8.{Range, ◌‥◌, table, within, fits, first_row, sequence, end_from, valid_to}
 use Rattle.path.proofs.Places.{here}
 
@@ -18,14 +23,9 @@ pub fits_out : (r : Range) (rs : List Range) (s : List ℕ) (at : ℕ) → lengt
 unfolding fits
 fits_out r rs s at h = rw (drop_of_length-le s h)
 
-module _ (low high : ℕ) (s : List ℕ) (at : ℕ) (inside : at < length s) where
-  pub is_below : get_or s at 0 < low → false ≡ fits (low ‥ high ∷ []) (drop at s)
-  unfolding fits
-  is_below h = rw (here s at inside, lt-leb low (get_or s at 0) h)
-
-  pub is_upto : low ≤ get_or s at 0 → leb (get_or s at 0) high ≡ fits (low ‥ high ∷ []) (drop at s)
-  unfolding fits
-  is_upto h = rw (here s at inside, le-leb low (get_or s at 0) h, and-true)
+pub fits_one : (low high : ℕ) (s : List ℕ) (at : ℕ) → at < length s → fits (low ‥ high ∷ []) (drop at s) ≡ (leb low (get_or s at 0) && leb (get_or s at 0) high)
+unfolding fits
+fits_one low high s at h = rw (here s at h, and-true)
 
 fits_append : (xs ys : List Range) (s : List ℕ) → fits (xs ++ ys) s ≡ (fits xs s && fits ys (drop (length xs) s))
 unfolding fits
@@ -40,31 +40,42 @@ fits_append (x ∷ xs) ys (b ∷ s) = go (within x b) (fits xs s) (fits ys (drop
 fits_both : (xs ys : List Range) (s : List ℕ) (at : ℕ) → fits (xs ++ ys) (drop at s) ≡ (fits xs (drop at s) && fits ys (drop (at + length xs) s))
 fits_both xs ys s at = rw (fits_append xs ys (drop at s), drop-drop (length xs) at s)
 
--- ---- the length n where a test holds, else 0
+-- the same range n times, asked one place after the other from at + a on
+pub fits_all : (r : Range) (s : List ℕ) (at n a : ℕ) → list_all (λ k. fits (r ∷ []) (drop (at + k) s)) (range_with_len a n) ≡ fits (replicate n r) (drop (at + a) s)
+unfolding fits
+fits_all r s at zero a = refl
+fits_all r s at (suc n) a =
+    let z : at + (a + 1) ≡ at + a + 1 = omega arith in
+    sym (fits_both (r ∷ []) (replicate n r) s (at + a) ∙ ap (λ t. fits (r ∷ []) (drop (at + a) s) && t) (sym (fits_all r s at n (a + 1) ∙ ap (λ k. fits (replicate n r) (drop k s)) z)))
 
-pub cond_yes : (t : Bool) (n : ℕ) → t ≡ true → n ≡ cond t n 0
-cond_yes t n e = rw e
+-- one range, and then n times another
+module _ (q r : Range) (s : List ℕ) (at n : ℕ) where
+  pub tails_yes : (t : Bool) → fits (q ∷ []) (drop at s) ≡ true → t ≡ fits (replicate n r) (drop (at + 1) s) → t ≡ fits (q ∷ replicate n r) (drop at s)
+  tails_yes t e h = h ∙ sym (fits_both (q ∷ []) (replicate n r) s at ∙ rw e)
 
-pub cond_no : (t : Bool) (n : ℕ) → t ≡ false → 0 ≡ cond t n 0
-cond_no t n e = rw e
+  pub tails_no : fits (q ∷ []) (drop at s) ≡ false → false ≡ fits (q ∷ replicate n r) (drop at s)
+  tails_no e = sym (fits_both (q ∷ []) (replicate n r) s at ∙ rw e)
 
-pub said : (t : Bool) (r n : ℕ) → r ≡ cond t n 0 → (n ≡ 0 → ⊥) → r ≡ n → t ≡ true
-said true r n e z h = refl
-said false r n e z h = absurd (z (sym h ∙ e))
+-- ---- no sequence is longer than the bytes
 
-pub unsaid : (t : Bool) (r n : ℕ) → r ≡ cond t n 0 → (r ≡ n → ⊥) → t ≡ false
-unsaid true r n e h = absurd (h e)
-unsaid false r n e h = refl
+fits_long : (rs : List Range) (s : List ℕ) → fits rs s ≡ true → length rs ≤ length s
+unfolding fits
+fits_long [] s e = zero-le
+fits_long (r ∷ rs) [] e = absurd (false≢true e)
+fits_long (r ∷ rs) (b ∷ s) e = suc-le-suc (fits_long rs s ((and-eq-true_iff (within r b) (fits rs s)).0 e).1)
 
-module _ (xs ys : List Range) (s : List ℕ) (at n : ℕ) where
-  pub both_yes : fits xs (drop at s) ≡ true → fits ys (drop (at + length xs) s) ≡ true → n ≡ cond (fits (xs ++ ys) (drop at s)) n 0
-  both_yes p q = rw (fits_both xs ys s at, p, q)
+first_row_le : (rows : List (List Range)) (s : List ℕ) → first_row rows s ≤ length s
+unfolding first_row
+first_row_le [] s = zero-le
+first_row_le (row ∷ rows) s = go (fits row s) refl (first_row_le rows s)
+  where
+    go : (t : Bool) → fits row s ≡ t → first_row rows s ≤ length s → cond t (length row) (first_row rows s) ≤ length s
+    go true e h = fits_long row s e
+    go false e h = h
 
-  pub second_no : fits xs (drop at s) ≡ true → fits ys (drop (at + length xs) s) ≡ false → 0 ≡ cond (fits (xs ++ ys) (drop at s)) n 0
-  second_no p q = rw (fits_both xs ys s at, p, q)
-
-  pub first_no : fits xs (drop at s) ≡ false → 0 ≡ cond (fits (xs ++ ys) (drop at s)) n 0
-  first_no p = rw (fits_both xs ys s at, p)
+sequence_le : (s : List ℕ) → sequence s ≤ length s
+unfolding sequence
+sequence_le s = first_row_le table s
 
 -- ---- of which row a first byte is: the ranges before that row's end below it, and those after begin above it
 
@@ -123,30 +134,23 @@ module _ (s : List ℕ) (at : ℕ) (inside : at < length s) (n : ℕ) where
   unfolding sequence
   sequence_row h = rw (here s at inside) (row_of n table (get_or s at 0) (drop (at + 1) s) h)
 
-  pub sequence_gap : Gap n table (get_or s at 0) → sequence (drop at s) ≡ 0
-  unfolding sequence
-  sequence_gap h = rw (here s at inside) (gap_of n table (get_or s at 0) (drop (at + 1) s) h)
+  pub row_some : Row n table (get_or s at 0) → then_some (fits (tails n table) (drop (at + 1) s)) (suc (length (tails n table))) ≡ sequence_in (drop at s)
+  unfolding sequence_in
+  row_some h = rw (sequence_row h) (go (fits (tails n table) (drop (at + 1) s)) (length (tails n table)))
+    where
+      go : (t : Bool) (m : ℕ) → then_some t (suc m) ≡ cond (eqb (cond t (suc m) 0) 0) None (Some (cond t (suc m) 0))
+      go true m = rw (eqb-suc-zero m)
+      go false m = refl
+
+  pub gap_none : Gap n table (get_or s at 0) → None ≡ sequence_in (drop at s)
+  unfolding sequence sequence_in
+  gap_none h = rw (here s at inside, gap_of n table (get_or s at 0) (drop (at + 1) s) h)
+
+pub end_none : (s : List ℕ) (at : ℕ) → length s ≤ at → None ≡ sequence_in (drop at s)
+unfolding sequence_in
+end_none s at h = let z : sequence (drop at s) ≡ 0 = omega (arith, sequence_le (drop at s), length-drop at s) in rw z
 
 -- ---- where the well-formed part ends
-
-fits_long : (rs : List Range) (s : List ℕ) → fits rs s ≡ true → length rs ≤ length s
-unfolding fits
-fits_long [] s e = zero-le
-fits_long (r ∷ rs) [] e = absurd (false≢true e)
-fits_long (r ∷ rs) (b ∷ s) e = suc-le-suc (fits_long rs s ((and-eq-true_iff (within r b) (fits rs s)).0 e).1)
-
-first_row_le : (rows : List (List Range)) (s : List ℕ) → first_row rows s ≤ length s
-unfolding first_row
-first_row_le [] s = zero-le
-first_row_le (row ∷ rows) s = go (fits row s) refl (first_row_le rows s)
-  where
-    go : (t : Bool) → fits row s ≡ t → first_row rows s ≤ length s → cond t (length row) (first_row rows s) ≤ length s
-    go true e h = fits_long row s e
-    go false e h = h
-
-sequence_le : (s : List ℕ) → sequence s ≤ length s
-unfolding sequence
-sequence_le s = first_row_le table s
 
 passes : (k : ℕ) (s : List ℕ) → k ≤ length s → end_from k s ≡ k + end_from 0 (drop k s)
 unfolding end_from
@@ -165,12 +169,27 @@ module _ (s : List ℕ) (i : ℕ) where
   unfolding valid_to end_from
   valid_done h = rw (drop_of_length-le s h)
 
-  pub valid_bad : i < length s → sequence (drop i s) ≡ 0 → valid_to (drop i s) ≡ 0
-  unfolding valid_to end_from
-  valid_bad h e = rw (here s i h, rw (here s i h) at e)
-
-  pub valid_fits : i < length s → i + sequence (drop i s) ≤ length s
-  valid_fits h = omega (arith, sequence_le (drop i s), length-drop i s)
-
   pub valid_next : (n : ℕ) → sequence (drop i s) ≡ n → 0 < n → valid_to (drop i s) ≡ n + valid_to (drop (i + n) s)
   valid_next n e h = rw (← drop-drop n i s) (steps (drop i s) n e h)
+
+  -- a sequence that is found is passed
+  pub some_next : (n : ℕ) → i ≤ length s → Some n ≡ sequence_in (drop i s) → (0 < n) × (i + n ≤ length s) × (valid_to (drop i s) ≡ n + valid_to (drop (i + n) s))
+  unfolding sequence_in
+  some_next n l e = go (sequence (drop i s)) refl e
+    where
+      go : (m : ℕ) → sequence (drop i s) ≡ m → Some n ≡ cond (eqb m 0) None (Some m) → (0 < n) × (i + n ≤ length s) × (valid_to (drop i s) ≡ n + valid_to (drop (i + n) s))
+      go zero q t = absurd (none-some n (sym t))
+      go (suc m) q t =
+          let z : n ≡ suc m = same_Some n (suc m) (rw (eqb-suc-zero m) at t) in
+          let p : 0 < n = omega arith in
+          (p, omega (arith, q, z, l, sequence_le (drop i s), length-drop i s), valid_next n (q ∙ sym z) p)
+
+-- where none is, it ends
+pub none_ends : (s : List ℕ) → None ≡ sequence_in s → valid_to s ≡ 0
+unfolding valid_to end_from sequence_in
+none_ends [] e = refl
+none_ends (b ∷ s) e = rw (go (sequence (b ∷ s)) e)
+  where
+    go : (m : ℕ) → None ≡ cond (eqb m 0) None (Some m) → m ≡ 0
+    go zero t = refl
+    go (suc m) t = absurd (none-some (suc m) (rw (eqb-suc-zero m) at t))

@@ -3,7 +3,7 @@ use mathlib.Core.Path.{◌≡◌, refl, ap, ◌∙◌}
 use mathlib.Core.Bool.{Bool, true, false, cond, ◌&&◌}
 use mathlib.Core.Logic.{⊎_elim}
 use mathlib.Core.List.{List}
-use mathlib.Core.Option.{Option, none, some}
+use Rattle.std.specs.Prelude.{Option, None, Some}
 use Prim.Native.Nat.{ℕ, ◌≤◌, ◌<◌}
 use native.Mathlib.Omega.{arith}
 use lib.ListN.{length}
@@ -73,19 +73,19 @@ module _ (r : Request) (mem : List ℕ) where
   unfolding rooted_mem
   roomy e n = rw (e, n)
 
-  row7_mem : (k : ℕ) → ltb max_ino r.root ≡ true → found_mem (some k) r mem ≡ walk_mem r.path (alloc_mem mem)
+  row7_mem : (k : ℕ) → ltb max_ino r.root ≡ true → found_mem (Some k) r mem ≡ walk_mem r.path (alloc_mem mem)
   unfolding found_mem planned_mem end_mem
   row7_mem k e = rw e
 
-  full_mem : (allocation (view mem)).found ≡ none → (rooted r.path && no_room (view mem) r.path) ≡ false → later ≡ alloc_mem mem
+  full_mem : (allocation (view mem)).found ≡ None → (rooted r.path && no_room (view mem) r.path) ≡ false → later ≡ alloc_mem mem
   unfolding found_mem
   full_mem f n =
       ⊎_elim (λ (a : rooted r.path ≡ true). roomy a (and_rest _ _ n a) ∙ ap (λ (o : Option ℕ). found_mem o r mem) f) unrooted (known (rooted r.path))
 
   rows : (o : Option ℕ) → (allocation (view mem)).found ≡ o → (rooted r.path && no_room (view mem) r.path) ≡ false → MountLeaves r mem (told_by (mount_by_index (view mem) r o)) later
   unfolding mount_by_index
-  rows none f n = moved _ later refl (λ e. omega arith) (full_mem f n)
-  rows (some k) f n =
+  rows None f n = moved _ later refl (λ e. omega arith) (full_mem f n)
+  rows (Some k) f n =
       first_of_lem (λ (o : Outcome). MountLeaves r mem (told_by o) later) _ _ (
         λ a. moved _ later refl (λ e. omega arith) (unrooted (not-true _ a)),
         λ a.
@@ -171,9 +171,9 @@ module _ (path mem : List ℕ) where
 
   off : (x : Option ℕ) (m : Option Mount) → Keeps (told_by (unmount_at (view mem) x m)) (off_mem x m mem)
   unfolding unmount_at unmounts off_mem
-  off none m f = refl
-  off (some x) none f = refl
-  off (some x) (some m) f = absurd (f refl)
+  off None m f = refl
+  off (Some x) None f = refl
+  off (Some x) (Some m) f = absurd (f refl)
 
   unmount_tests : Keeps (told_by (unmount_rule (view mem) path)) (cond (bad_path path) mem (off_mem (reached (view mem) path) (reached_mount (view mem) (reached (view mem) path)) mem))
   unfolding unmount_rule

@@ -3,7 +3,7 @@ use mathlib.Core.Path.{◌≡◌, refl, sym, ap, ◌∙◌, subst}
 use mathlib.Core.Bool.{true}
 use mathlib.Core.List.{List, [], ◌∷◌}
 use mathlib.Core.Logic.{inl, inr, ⊎_elim}
-use mathlib.Core.Option.{Option, none, some}
+use Rattle.std.specs.Prelude.{Option, None, Some}
 use Prim.Native.Nat.{ℕ, ◌+◌, ◌<◌}
 use Rattle.rules.specs.Bytes.{Bytes}
 use Rattle.rules.specs.Numbers.{index_of, number_of, NOENT}
@@ -46,7 +46,7 @@ pub laps_of_bytes : EveryLapOfBytes
 laps_of_bytes s a l bytes k f ss r u last =
     let e : view s.after ≡ (rule (view s.before) s.call).after = a.stands l in
     let z : Laps (steps_of (rule (view s.before) s.call).after (calls_of ss)) =
-    laps (view s.before) (counter_in s.before bytes) s.call k f (calls_of ss) (subst (λ i. WithoutStateRestore i (calls_of ss)) e u) (subst (λ i. last_found none (steps_of i (calls_of ss)) ≡ some k) e last) in
+    laps (view s.before) (counter_in s.before bytes) s.call k f (calls_of ss) (subst (λ i. WithoutStateRestore i (calls_of ss)) e u) (subst (λ i. last_found None (steps_of i (calls_of ss)) ≡ Some k) e last) in
     let y : Laps (steps_of (view s.after) (calls_of ss)) = subst (λ i. Laps (steps_of i (calls_of ss))) (sym e) z in
     subst (λ n. LapsBy n (steps_of (view s.after) (calls_of ss))) (sym (same_total ss s.after (a.keeps l) r)) y
 
@@ -84,7 +84,7 @@ mounted_at s a l bytes r e z k t m =
       counter = counter_in s.before bytes;
       slots = slots_count s.before;
       done = sym (λ j. (by j).code) ∙ (sym (λ j. (told j).code) ∙ z);
-      found = sym (λ j. (by j).found) ∙ (w.3 ∙ ap {B = Option ℕ} some same);
+      found = sym (λ j. (by j).found) ∙ (w.3 ∙ ap {B = Option ℕ} Some same);
     }
 
 -- a step that makes the call k, steps behind it, and a route of x then
@@ -143,8 +143,8 @@ unfolding after_all
 gone_of_bytes s a l z k p o ss run u q b at x c ix =
     let i = view s.before in
     let done : (rule i s.call).code ≡ 0 = sym (λ j. ((a.answer ∙ told_by_lem s.before (λ (y : Instance). rule y s.call) l) j).code) ∙ z in
-    let none = every_gone i s.call x (rw ix p) done (rw ix o) (calls_of ss) (subst (λ (y : ℕ). Ungiven y i (s.call ∷ calls_of ss)) (sym ix) u) in
-    told_last s a l s.call refl ss run q b at x c ∙ ap told_by none
+    let None = every_gone i s.call x (rw ix p) done (rw ix o) (calls_of ss) (subst (λ (y : ℕ). Ungiven y i (s.call ∷ calls_of ss)) (sym ix) u) in
+    told_last s a l s.call refl ss run q b at x c ∙ ap told_by None
 
 -- driven bytes stay driven
 pub stays_driven : StaysDriven

@@ -1,6 +1,5 @@
 -- Demand 3 of the bytes: steps that the contracts allow, each on what the last one left, and what is claimed of the counts in their answers and of a kept number.
-use Rattle.std.specs.Prelude.{ℕ, ◌+◌, ◌<◌, true, List, [], ◌∷◌, ◌≡◌, ◌⊎◌}
-use Rattle.std.proofs.Math.Option.{Option, none, some}
+use Rattle.std.specs.Prelude.{ℕ, ◌+◌, ◌<◌, true, List, [], ◌∷◌, ◌≡◌, ◌⊎◌, Option, None, Some}
 use Rattle.rules.specs.Bytes.{Bytes}
 use Rattle.rules.specs.Numbers.{index_of, number_of, NOENT}
 use Rattle.rules.specs.Outcome.{mounted, to_backend}
@@ -47,14 +46,14 @@ counts (s ∷ ss) = s.told.count + counts ss
 
 -- from any bytes that keep the layout rule: a step handed k out, and the last of the steps after it hands k out again (R87, R88)
 abbrev pub EveryLapOfBytes : Type 0
-EveryLapOfBytes = (s : Step) → Allowed s → laid s.before ≡ true → Bytes s.before → (k : ℕ) → (rule (view s.before) s.call).found ≡ some k
-    → (ss : List Step) → Run s.after ss → WithoutStateRestore (view s.after) (calls_of ss) → last_found none (steps_of (view s.after) (calls_of ss)) ≡ some k
+EveryLapOfBytes = (s : Step) → Allowed s → laid s.before ≡ true → Bytes s.before → (k : ℕ) → (rule (view s.before) s.call).found ≡ Some k
+    → (ss : List Step) → Run s.after ss → WithoutStateRestore (view s.after) (calls_of ss) → last_found None (steps_of (view s.after) (calls_of ss)) ≡ Some k
     → LapsBy (counts ss) (steps_of (view s.after) (calls_of ss))
 
 -- the index that a done mount tells is the one handed out (R75, R85)
 abbrev pub EveryMountOfBytes : Type 0
 EveryMountOfBytes = (s : Step) → Allowed s → laid s.before ≡ true → (r : Request) → s.call ≡ mount r → s.told.code ≡ 0
-    → (k : ℕ) × (t : Option ℕ) × (s.told.answer ≡ mounted k t) × ((rule (view s.before) s.call).found ≡ some k)
+    → (k : ℕ) × (t : Option ℕ) × (s.told.answer ≡ mounted k t) × ((rule (view s.before) s.call).found ≡ Some k)
 
 -- the bytes that the steps leave
 unfoldable pub last_of : List ℕ → List Step → List ℕ
@@ -81,7 +80,7 @@ EveryStandingOfBytes = (s : Step) → Allowed s → laid s.before ≡ true → B
 -- a step tells that it is done, and takes a mount of the index k off; no step, that one included, gives k away; then a number of that index is refused NOENT
 -- (R76, R93, R98, R106)
 abbrev pub EveryGoneOfBytes : Type 0
-EveryGoneOfBytes = (s : Step) → Allowed s → laid s.before ≡ true → s.told.code ≡ 0 → (k : ℕ) → 0 < k → index_in (old_mount (view s.before) s.call) ≡ some k
+EveryGoneOfBytes = (s : Step) → Allowed s → laid s.before ≡ true → s.told.code ≡ 0 → (k : ℕ) → 0 < k → index_in (old_mount (view s.before) s.call) ≡ Some k
     → (ss : List Step) → Run s.after ss → Ungiven k (view s.before) (s.call ∷ calls_of ss)
     → (q : Step) → Allowed q → q.before ≡ last_of s.after ss → (x : ℕ) → q.call ≡ ask (route x) → index_of x ≡ k
     → q.told ≡ refuses NOENT

@@ -2,7 +2,7 @@
 #![tactic(auto)]
 
 // The options: the words of option bits, their own mapping, and the flags (R27).
-#[derive(Clone, Copy)]
+#[derive(Clone, Copy, Debug, PartialEq, Eq)]
 pub struct VfsOptions {
     pub in_opts: u64,
     pub out_opts: u64,

@@ -2,11 +2,12 @@
 use mathlib.Core.Path.{◌≡◌, refl, sym, ap, ◌∙◌}
 use mathlib.Core.Bool.{true}
 use mathlib.Core.List.{List}
-use mathlib.Core.Option.{none, some}
+use Rattle.std.specs.Prelude.{None, Some, Result, Ok, Err}
 use Prim.Native.Nat.{ℕ, ◌^◌, ◌<◌}
 use native.Mathlib.Omega.{arith}
 use borrow.Author.Tests.{le-ltb}
 use Rattle.rules.specs.Numbers.{max_ino, or_zero, convert}
+use Rattle.rules.specs.declared.codes.VfsError.{VfsError}
 use Rattle.rules.specs.Tree.{Mount}
 use Rattle.rules.specs.Instance.{Instance, mount_of_node}
 use Rattle.rules.specs.Outcome.{Answer, Outcome, says}
@@ -19,9 +20,6 @@ use Rattle.tables.specs.declared.mounts.MountPoint.{MountPoint}
 use Rattle.inode.specs.declared.VfsInode.{VfsInode}
 use Rattle.storage.proofs.Laid.{told_by_lem}
 use Rattle.pseudo_fs.specs.declared.Entry.{Entry}
-use Rattle.vfs_query.specs.declared.Looked.TheVariants.{Entry as LookedEntry, NoEnt as LookedNoEnt, Inval as LookedInval}
-use Rattle.pseudo_fs.specs.declared.inner.Finding.{Finding}
-use Rattle.pseudo_fs.specs.declared.inner.Finding.TheVariants.{Node as FindingNode, NoEnt, Inval}
 use Rattle.pseudo_fs.specs.Finds.{outcome_of, Finds}
 use Rattle.pseudo_fs.specs.Told.{entry_answer, pseudo_answer}
 use Rattle.pseudo_fs.proofs.Finds.{found_low}
@@ -39,13 +37,13 @@ unfolding entry_answer root_answer
 root_made i m v u₁ g₁ u₂ g₂ n a b c d = rw (n, c, d, a, b)
 
 -- of a mount in the bytes it is the rules' entry
-root_is : (i : Instance) (y : ℕ) (m : Mount) → m.root < 2 ^ 56 → says (root_answer i m) i ≡ entry_of i y (some m)
+root_is : (i : Instance) (y : ℕ) (m : Mount) → m.root < 2 ^ 56 → says (root_answer i m) i ≡ entry_of i y (Some m)
 unfolding root_answer convert entry_of
 root_is i y m h = rw (le-ltb max_ino m.root (omega arith))
 
 -- ---- the lookup
 
-module _ (mem : List ℕ) (x : ℕ) (p : List ℕ) (e : laid mem ≡ true) (r : Finding) (f : Finds (nodes_of mem) x p r) where
+module _ (mem : List ℕ) (x : ℕ) (p : List ℕ) (e : laid mem ≡ true) (r : Result ℕ VfsError) (f : Finds (nodes_of mem) x p r) where
   abbrev crossing : Instance → Outcome
   crossing i = lookup_rule i x p
 
@@ -53,22 +51,18 @@ module _ (mem : List ℕ) (x : ℕ) (p : List ℕ) (e : laid mem ≡ true) (r : 
   unfolding lookup_rule view
   by_find = told_by_lem mem crossing e ∙ ap (λ (o : Outcome). told_by o) (sym (f (mount_of_node (view mem).tree) (view mem) refl))
 
-  pub cross_noent : r ≡ NoEnt → looked_told LookedNoEnt ≡ answered_by mem crossing
-  unfolding looked_told outcome_of
-  cross_noent q = sym (by_find ∙ rw q)
+  pub cross_refused : (d : VfsError) → r ≡ Err d → looked_told (Err d) ≡ answered_by mem crossing
+  unfolding outcome_of
+  cross_refused d q = sym (by_find ∙ rw q)
 
-  pub cross_inval : r ≡ Inval → looked_told LookedInval ≡ answered_by mem crossing
-  unfolding looked_told outcome_of
-  cross_inval q = sym (by_find ∙ rw q)
-
-  module _ (y : ℕ) (q : r ≡ FindingNode y) (n : Entry) where
-    pub cross_mounted : (m : Mount) → some m ≡ mount_of_node (view mem).tree y → entry_answer n ≡ root_answer (view mem) m → looked_told (LookedEntry n) ≡ answered_by mem crossing
-    unfolding looked_told outcome_of
+  module _ (y : ℕ) (q : r ≡ Ok y) (n : Entry) where
+    pub cross_mounted : (m : Mount) → Some m ≡ mount_of_node (view mem).tree y → entry_answer n ≡ root_answer (view mem) m → looked_told (Ok n) ≡ answered_by mem crossing
+    unfolding outcome_of
     cross_mounted m g a =
         ap (λ (v : Answer). tells v) a ∙ (ap (λ (o : Outcome). told_by o) (root_is (view mem) y m (mount_low mem y m g)) ∙ sym (by_find ∙ rw (q, sym g)))
 
-    pub cross_bare : none ≡ mount_of_node (view mem).tree y → entry_answer n ≡ pseudo_answer (view mem) y → looked_told (LookedEntry n) ≡ answered_by mem crossing
-    unfolding looked_told outcome_of
+    pub cross_bare : None ≡ mount_of_node (view mem).tree y → entry_answer n ≡ pseudo_answer (view mem) y → looked_told (Ok n) ≡ answered_by mem crossing
+    unfolding outcome_of
     cross_bare g a =
         let h : y < 2 ^ 56 = found_low mem x p y (rw q at f) in
         ap (λ (v : Answer). tells v) a ∙ (ap (λ (o : Outcome). told_by o) (pseudo_is mem e y h) ∙ sym (by_find ∙ rw (q, sym g)))

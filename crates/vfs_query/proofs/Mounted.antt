@@ -2,7 +2,7 @@
 use mathlib.Core.Path.{◌≡◌, refl, sym, subst}
 use mathlib.Core.Bool.{Bool, true, false}
 use mathlib.Core.List.{List}
-use mathlib.Core.Option.{Option, none, some}
+use Rattle.std.specs.Prelude.{Option, None, Some}
 use Prim.Native.Nat.{ℕ, ◌^◌, ◌<◌}
 use native.Mathlib.Omega.{arith}
 use lib.Dec.{eqb}
@@ -18,8 +18,8 @@ use Rattle.tables.proofs.Spells.{from_word}
 use Rattle.tables.proofs.ByPlace.{mount_root, mount_found, mount_missing}
 
 abbrev LowRoot : Option Mount → Type 0
-LowRoot none = Unit {0}
-LowRoot (some m) = m.root < 2 ^ 56
+LowRoot None = Unit {0}
+LowRoot (Some m) = m.root < 2 ^ 56
 
 from_low : (word uid gid mode : ℕ) → LowRoot (mount_from_cells word uid gid mode)
 from_low word uid gid mode = from_word LowRoot word uid gid mode tt (omega arith)
@@ -42,8 +42,8 @@ module _ (mem : List ℕ) where
     where
       go : (b : Bool) → eqb x root_number ≡ b → (o : Option ℕ) → place_in (nodes_of mem) x ≡ o → LowRoot (mount_of_node (view mem).tree x)
       go true t o q = subst LowRoot (sym (mount_root mem x (eqb-true x root_number t))) root_low
-      go false t none q = subst LowRoot (sym (mount_missing mem x (eqb-false x root_number t) q)) tt
-      go false t (some i) q = subst LowRoot (sym (mount_found mem x (eqb-false x root_number t) i q)) (row_low i)
+      go false t None q = subst LowRoot (sym (mount_missing mem x (eqb-false x root_number t) q)) tt
+      go false t (Some i) q = subst LowRoot (sym (mount_found mem x (eqb-false x root_number t) i q)) (row_low i)
 
-  pub mount_low : (x : ℕ) (m : Mount) → some m ≡ mount_of_node (view mem).tree x → m.root < 2 ^ 56
+  pub mount_low : (x : ℕ) (m : Mount) → Some m ≡ mount_of_node (view mem).tree x → m.root < 2 ^ 56
   mount_low x m e = subst LowRoot (sym e) (node_low x)

@@ -1,39 +1,24 @@
 -- The rules of the queries by the code's tests. Assumes nothing.
 use mathlib.Core.Path.{◌≡◌, refl, sym, ap, ◌∙◌}
-use mathlib.Core.Bool.{Bool, true, false, not}
+use mathlib.Core.Bool.{Bool, true, false, cond, not}
 use mathlib.Core.List.{List}
-use mathlib.Core.Option.{Option, none, some}
+use Rattle.std.specs.Prelude.{Option, None, Some}
 use Prim.Native.Nat.{ℕ, ◌^◌, ◌<◌}
 use lib.Dec.{eqb}
 use borrow.Author.Tests.{eq-eqb, ne_eqb, not-true, not-false}
 use Rattle.rules.specs.Numbers.{root_number, index_of, number_of, INVAL}
 use Rattle.rules.specs.Ids.{Mapping, bad_mapping, wrapped, unwrapped, mapped, unmapped}
 use Rattle.rules.specs.Tree.{Mount}
-use Rattle.rules.specs.Instance.{Instance, tag_in_slot, tag_of, mount_of_node}
+use Rattle.rules.specs.Instance.{Instance, tag_of, mount_of_node}
 use Rattle.rules.specs.Outcome.{to_tree, rootfs, refused, says, first_of}
 use Rattle.rules.specs.Lookup.{route_tag, route_tree, route_rule, remapped}
 use Rattle.rules.specs.Reached.{bad_path, reached, reached_mount}
 use Rattle.rules.specs.Rootfs.{root_held, root_at, root_rule}
 use Rattle.rules.proofs.Ids.{wrapped_is_whole}
 use Rattle.tables.specs.Layout.{mapping_field}
-use Rattle.tables.specs.View.{mapping_from, head_of, slot_at, view}
+use Rattle.tables.specs.View.{mapping_from, head_of, view}
 use Rattle.tables.specs.Laid.{laid}
-use Rattle.tables.specs.Answer.{tag_in}
-use Rattle.tables.specs.declared.slots.Tag.{Tag}
-use Rattle.tables.specs.declared.slots.Tag.TheVariants.{Held, Empty}
-use Rattle.tables.proofs.Indexes.{tag_of_is}
 use Rattle.pseudo_fs.proofs.Calls.{good_mapping}
-
--- ---- the tag of an index
-
-module _ (mem : List ℕ) (k : ℕ) (h : k < 256) (r : Tag) (e : tag_in r ≡ tag_in_slot (slot_at mem k)) where
-  pub tag_held : (t : ℕ) → r ≡ Held t → tag_of (view mem) k ≡ some t
-  unfolding tag_in
-  tag_held t q = sym (tag_of_is mem k (tag_in r) h e) ∙ ap tag_in q
-
-  pub tag_empty : r ≡ Empty → tag_of (view mem) k ≡ none
-  unfolding tag_in
-  tag_empty q = sym (tag_of_is mem k (tag_in r) h e) ∙ ap tag_in q
 
 -- ---- routing: n is the number of the full number, t whether it belongs to the tree
 
@@ -48,17 +33,17 @@ module _ (i : Instance) (x n : ℕ) (t : Bool) (q : n ≡ number_of x) (p : t �
 
   other_number : (m : Option Mount) → (n ≡ root_number → ⊥) → route_tree i n m ≡ says (to_tree n) i
   unfolding route_tree
-  other_number none h = refl
-  other_number (some m) h = rw (ne_eqb n 1 h)
+  other_number None h = refl
+  other_number (Some m) h = rw (ne_eqb n 1 h)
 
   pub by_number : not t ≡ false → (n ≡ root_number → ⊥) → route_rule i x ≡ says (to_tree n) i
   by_number h g = in_tree h ∙ other_number i.tree.root g
 
-  pub by_root : not t ≡ false → n ≡ root_number → (m : Mount) → some m ≡ i.tree.root → route_rule i x ≡ route_tag i m.index m.root (tag_of i m.index)
+  pub by_root : not t ≡ false → n ≡ root_number → (m : Mount) → Some m ≡ i.tree.root → route_rule i x ≡ route_tag i m.index m.root (tag_of i m.index)
   unfolding route_tree
   by_root h g m e = in_tree h ∙ rw (sym e, eq-eqb n 1 g)
 
-  pub by_no_root : not t ≡ false → none ≡ i.tree.root → route_rule i x ≡ says (to_tree n) i
+  pub by_no_root : not t ≡ false → None ≡ i.tree.root → route_rule i x ≡ says (to_tree n) i
   unfolding route_tree
   by_no_root h e = in_tree h ∙ rw (sym e)
 
@@ -74,18 +59,18 @@ module _ (i : Instance) (p : List ℕ) where
     unfolding root_rule first_of
     root_reached o e = rw (g, e)
 
-    pub root_nowhere : reached i p ≡ none → root_rule i p ≡ says (rootfs none) i
+    pub root_nowhere : reached i p ≡ None → root_rule i p ≡ says (rootfs None) i
     unfolding root_at
-    root_nowhere e = root_reached none e
+    root_nowhere e = root_reached None e
 
-    pub root_bare : (x : ℕ) → reached i p ≡ some x → none ≡ mount_of_node i.tree x → root_rule i p ≡ says (rootfs none) i
+    pub root_bare : (x : ℕ) → reached i p ≡ Some x → None ≡ mount_of_node i.tree x → root_rule i p ≡ says (rootfs None) i
     unfolding root_at
-    root_bare x e m = root_reached (some x) e ∙ rw (sym m)
+    root_bare x e m = root_reached (Some x) e ∙ rw (sym m)
 
-    pub root_mounted : (x : ℕ) → reached i p ≡ some x → (m : Mount) → some m ≡ mount_of_node i.tree x
+    pub root_mounted : (x : ℕ) → reached i p ≡ Some x → (m : Mount) → Some m ≡ mount_of_node i.tree x
         → root_rule i p ≡ root_held i m.index (tag_of i m.index)
     unfolding root_at
-    root_mounted x e m f = root_reached (some x) e ∙ rw (sym f)
+    root_mounted x e m f = root_reached (Some x) e ∙ rw (sym f)
 
 -- ---- ids: the mapping in force, m, passes its test, so what wraps is the formula in whole numbers
 
@@ -93,10 +78,7 @@ module _ (mem : List ℕ) (e : laid mem ≡ true) (id : ℕ) (low : id < 2 ^ 32)
   whole : (wrapped m id ≡ mapped m id) × (unwrapped m id ≡ unmapped m id)
   whole = wrapped_is_whole m id (ap bad_mapping f ∙ good_mapping mem e) low
 
-  pub goes_out : r ≡ wrapped m id → (out : Bool) → out ≡ true → r ≡ remapped out (view mem) id
+  pub goes : (out : Bool) → r ≡ cond out (wrapped m id) (unwrapped m id) → r ≡ remapped out (view mem) id
   unfolding view
-  goes_out a out b = rw (b, sym f) (a ∙ whole.0)
-
-  pub goes_back : r ≡ unwrapped m id → (out : Bool) → out ≡ false → r ≡ remapped out (view mem) id
-  unfolding view
-  goes_back a out b = rw (b, sym f) (a ∙ whole.1)
+  goes true a = rw (sym f) (a ∙ whole.0)
+  goes false a = rw (sym f) (a ∙ whole.1)

@@ -1,19 +1,23 @@
--- `decimal::one_more` meets its contract: each return goes by the tests that led there.
-use native.Mathlib.Omega.{arith}
-use Rattle.decimal.proofs.Steps.{more_low, more_high, more_big, more_good}
+-- Each return goes by the tests that led there.
+use Rattle.std.proofs.Common.{arith}
+use Rattle.std.proofs.lemmas.Bool.Decides.{nat_tests}
+use Rattle.std.proofs.lemmas.Grind.{common_steps}
+use Rattle.rules.specs.Session.{is_digit}
+use Rattle.decimal.specs.Read.{more}
 use Rattle.decimal.proofs.one_more.Goals as goal
 
-pub returns-then-b-lt48 : goal.returns-then-b-lt48
-returns-then-b-lt48 c = more_low _ _ _ c.if-b-lt48.true
+pub returns-then-not-is_ascii_digit : goal.returns-then-not-is_ascii_digit
+unfolding more is_digit
+returns-then-not-is_ascii_digit c = grind (arith, nat_tests, common_steps)
 
-pub returns-then-b-gt57 : goal.returns-then-b-gt57
-returns-then-b-gt57 c = more_high _ _ _ c.if-b-gt57.true
+pub returns-in_err-checked_mul : goal.returns-in_err-checked_mul
+unfolding more is_digit
+returns-in_err-checked_mul c = grind (arith, nat_tests, common_steps)
 
-pub returns-then-max-d : goal.returns-then-max-d
-returns-then-max-d c = more_big _ _ _ (omega arith)
-
-pub returns-then-max-d-2 : goal.returns-then-max-d-2
-returns-then-max-d-2 c = more_big _ _ _ (omega arith)
+pub returns-in_err-v : goal.returns-in_err-v
+unfolding more is_digit
+returns-in_err-v c = grind (arith, nat_tests, common_steps)
 
 pub returns : goal.returns
-returns c = more_good _ _ _ (omega arith) (omega arith) (omega arith)
+unfolding more is_digit
+returns c = grind (arith, nat_tests, common_steps)

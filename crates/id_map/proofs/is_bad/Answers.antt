@@ -1,12 +1,14 @@
--- `id_map::is_bad` meets its contract. Assumes nothing.
-use Rattle.std.proofs.Common.{le-ltb, lt-ltb}
+-- A sum that has no place in 32 bits is above their largest number.
+use Rattle.std.proofs.Common.{arith}
+use Rattle.std.proofs.lemmas.Bool.Decides.{nat_tests}
+use Rattle.std.proofs.lemmas.Grind.{common_steps}
 use Rattle.rules.specs.Ids.{bad_mapping}
 use Rattle.id_map.proofs.is_bad.Goals as goal
 
-pub returns-then-m-range-gt-MAX_ID : goal.returns-then-m-range-gt-MAX_ID
+pub returns-then-is_none : goal.returns-then-is_none
 unfolding bad_mapping
-returns-then-m-range-gt-MAX_ID c = rw (lt-ltb _ _ c.if-m-range-gt-MAX_ID.true)
+returns-then-is_none c = grind (arith, nat_tests, common_steps)
 
-pub returns-else-m-range-gt-MAX_ID : goal.returns-else-m-range-gt-MAX_ID
+pub returns-else-is_none : goal.returns-else-is_none
 unfolding bad_mapping
-returns-else-m-range-gt-MAX_ID c = rw (le-ltb _ _ c.if-m-range-gt-MAX_ID.false)
+returns-else-is_none c = grind (arith, nat_tests, common_steps)

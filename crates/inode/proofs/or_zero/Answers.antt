@@ -1,14 +1,17 @@
 -- A conversion's full number, or 0.
-use mathlib.Core.Path.{sym, ap}
+use Rattle.std.proofs.Common.{◌≡◌, ap, refl, ◌∙◌}
+use Rattle.std.specs.Prelude.{Result, Ok, Err}
+use Rattle.std.specs.Result.{result_unwrap_or}
 use Rattle.rules.specs.Numbers.{or_zero}
+use Rattle.rules.specs.declared.codes.VfsError.{VfsError}
 use Rattle.inode.specs.Converted.{full_of}
-use Rattle.inode.specs.declared.Converted.{Converted}
+use Rattle.inode.specs.declared.VfsInode.{VfsInode}
 use Rattle.inode.proofs.or_zero.Goals as goal
 
-pub returns-in-Full : goal.returns-in-Full
+by_cases : (c : Result VfsInode VfsError) → (result_unwrap_or c (record { 0 = 0 })).0 ≡ or_zero (full_of c)
 unfolding full_of
-returns-in-Full c = ap (λ (x : Converted). or_zero (full_of x)) (sym c.in-Full.is)
+by_cases (Ok x) = refl
+by_cases (Err e) = refl
 
-pub returns-in-Inode : goal.returns-in-Inode
-unfolding full_of
-returns-in-Inode c = ap (λ (x : Converted). or_zero (full_of x)) (sym c.in-Inode.is)
+pub returns : goal.returns
+returns c = ap (λ (x : VfsInode). x.0) c.unwrap_or.ensures ∙ by_cases c.args.c

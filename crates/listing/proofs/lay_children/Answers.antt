@@ -7,7 +7,7 @@ use Rattle.listing.proofs.lay_children.Goals as goal
 use Rattle.listing.proofs.lay_children.Goals.{then-parent-x+then-offset-place+else-n-eq0, then-parent-x+else-offset-place, else-parent-x}
 
 pub loop-i-init : goal.loop-i-init
-loop-i-init c = listing_start _ _ _ _ _ _ c.count-c.ensures (search rules)
+loop-i-init c = listing_start _ _ _ _ _ _ c.count-count.ensures (search rules)
 
 pub returns-then-n-eq0 : goal.returns-then-n-eq0
 returns-then-n-eq0 c =

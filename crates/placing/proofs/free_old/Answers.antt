@@ -10,9 +10,8 @@ tag_of-tag-requires c = search (laid_long, laid_is, rules)
 pub free-requires : goal.free-requires
 free-requires c = search (laid_long, laid_is, rules)
 
-pub returns-in-Point : goal.returns-in-Point
-returns-in-Point c =
-    frees_point _ _ _ _ _ c.in-Point.is (search rules) c.tag_of-tag.ensures c.free.ensures
+pub returns-in_err-k : goal.returns-in_err-k
+returns-in_err-k c = rw c.from_residual.ensures (frees_none _ _ c.in_err-k.was)
 
-pub returns-in-Nothing : goal.returns-in-Nothing
-returns-in-Nothing c = frees_none _ _ c.in-Nothing.is
+pub returns : goal.returns
+returns c = frees_point _ _ _ _ _ c.in_ok-k.was (search rules) c.tag_of-tag.ensures c.free.ensures

@@ -15,9 +15,9 @@ returns-then-not-removes c = stays_unset _ _ _ c.removes.ensures (ap not c.if-no
 pub remove-requires : goal.remove-requires
 remove-requires c = search (row_of, laid_is, rules)
 
-pub returns-in-At : goal.returns-in-At
-returns-in-At c =
-    goes _ _ _ c.removes.ensures (ap not c.if-not-removes.false) _ _ _ (search rules) c.in-At.is c.remove.ensures
+pub returns-in-Some : goal.returns-in-Some
+returns-in-Some c =
+    goes _ _ _ c.removes.ensures (ap not c.if-not-removes.false) _ _ _ (search rules) c.in-Some.is c.remove.ensures
 
-pub returns-in-Nothing : goal.returns-in-Nothing
-returns-in-Nothing c = nothing_goes _ _ _ c.removes.ensures (ap not c.if-not-removes.false) _ (search rules) c.in-Nothing.is
+pub returns-in_default : goal.returns-in_default
+returns-in_default c = nothing_goes _ _ _ c.removes.ensures (ap not c.if-not-removes.false) _ (search rules) c.in_default.is

@@ -2,4 +2,4 @@
 use Rattle.row_name.proofs.name_cell.Goals as goal
 
 pub returns : goal.returns
-returns c = rw (← c.capacity-n.ensures, ← c.last_at.ensures) c.get_u64.ensures
+returns c = rw (← c.capacity-n.ensures, ← c.at.ensures) c.get_u64.ensures

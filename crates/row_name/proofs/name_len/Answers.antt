@@ -4,4 +4,4 @@ use borrow.Author.Rules.{rules}
 use Rattle.row_name.proofs.name_len.Goals as goal
 
 pub returns : goal.returns
-returns c = rw (← c.capacity-n.ensures) (name_size _ _ _ _ (rw c.last_at.ensures at c.get_u8.ensures) (search rules))
+returns c = rw (← c.capacity-n.ensures) (name_size _ _ _ _ (rw c.at.ensures at c.get_u8.ensures) (search rules))

@@ -1,6 +1,5 @@
 -- Demand 3 of one allocation, said without the search: for every set of held indexes and every counter.
-use Rattle.std.specs.Prelude.{ℕ, ◌+◌, ◌%◌, ◌≤◌, ◌<◌, Bool, true, false, ◌↔◌, ◌⊎◌, ◌≡◌, length}
-use Rattle.std.proofs.Math.Option.{none, some}
+use Rattle.std.specs.Prelude.{ℕ, ◌+◌, ◌%◌, ◌≤◌, ◌<◌, Bool, true, false, ◌↔◌, ◌⊎◌, ◌≡◌, length, None, Some}
 use Rattle.rules.specs.Round.{allocate}
 
 module _ (held : ℕ → Bool) (counter : ℕ) where
@@ -20,9 +19,9 @@ module _ (held : ℕ → Bool) (counter : ℕ) where
 
   -- the first free index going round from the counter (R81); FULL exactly if 1 to 255 are held (R84), with count 257 (R82); the counter moves by the count (R83)
   pub record Exact : Type 0 where
-    pub handed_out : (k : ℕ) → ((allocate held counter).found ≡ some k) ↔ ((d : ℕ) × FirstFree k d)
-    pub refused : ((allocate held counter).found ≡ none) ↔ ((j : ℕ) → 1 ≤ j → j ≤ 255 → held j ≡ true)
-    pub refused_count : (allocate held counter).found ≡ none → count_of ≡ 257
+    pub handed_out : (k : ℕ) → ((allocate held counter).found ≡ Some k) ↔ ((d : ℕ) × FirstFree k d)
+    pub refused : ((allocate held counter).found ≡ None) ↔ ((j : ℕ) → 1 ≤ j → j ≤ 255 → held j ≡ true)
+    pub refused_count : (allocate held counter).found ≡ None → count_of ≡ 257
     pub moved : (allocate held counter).counter ≡ (counter + count_of) % 256
 
 -- of every set of held indexes and every counter, a byte

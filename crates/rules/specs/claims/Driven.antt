@@ -1,6 +1,5 @@
 -- Driven instances: what a done creation gives, after any calls, state restores included; and what holds of each.
-use Rattle.std.specs.Prelude.{ℕ, ◌+◌, ◌^◌, ◌≤◌, ◌<◌, true, false, ◌⊎◌, List, [], ◌∷◌, ◌≡◌, length, get_or}
-use Rattle.std.proofs.Math.Option.{Option, none, some}
+use Rattle.std.specs.Prelude.{ℕ, ◌+◌, ◌^◌, ◌≤◌, ◌<◌, true, false, ◌⊎◌, List, [], ◌∷◌, ◌≡◌, length, get_or, Option, None, Some}
 use Rattle.rules.specs.Numbers.{root_number, top_number, max_nodes, DONE}
 use Rattle.rules.specs.Bytes.{Bytes}
 use Rattle.rules.specs.Ids.{bad_mapping}
@@ -55,8 +54,8 @@ pub record Shape (es : List SavedNode) (next : ℕ) : Type 0 where
 
 -- the mount is there, and has that index
 abbrev pub IsAt : ℕ → Option Mount → Type 0
-IsAt k none = ⊥
-IsAt k (some m) = m.index ≡ k
+IsAt k None = ⊥
+IsAt k (Some m) = m.index ≡ k
 
 -- a mount of that index stands on one of the nodes
 unfoldable pub MountIn : ℕ → List Node → Type 0
@@ -104,11 +103,11 @@ EveryDriven = (i : Instance) → Driven i → Facts i
 -- a number from which live nodes lead up to the root
 pub data Rooted (ns : List Node) : ℕ → Type 0 where
   top : Rooted ns root_number
-  under : (x : ℕ) (n : Node) → node_in ns x ≡ some n → Rooted ns n.parent → Rooted ns x
+  under : (x : ℕ) (n : Node) → node_in ns x ≡ Some n → Rooted ns n.parent → Rooted ns x
 
 -- a path leads to such a number alone; so no path reaches what stands under a removed node (R101)
 abbrev pub EveryReached : Type 0
-EveryReached = (i : Instance) → Driven i → (path : List ℕ) (x : ℕ) → reached i path ≡ some x → Rooted i.tree.nodes x
+EveryReached = (i : Instance) → Driven i → (path : List ℕ) (x : ℕ) → reached i path ≡ Some x → Rooted i.tree.nodes x
 
 -- ---- save and restore
 

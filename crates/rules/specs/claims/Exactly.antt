@@ -1,7 +1,6 @@
 -- Demand 1, when a call is refused: each call's tests written out in their order. A call answers a number exactly if the test of a row with that number holds and
 -- none before it does.
-use Rattle.std.specs.Prelude.{ℕ, zero, suc, ◌+◌, ◌-◌, ◌^◌, ◌<◌, Bool, true, false, not, ◌&&◌, ◌||◌, List, [], ◌∷◌, ◌↔◌, ◌⊎◌, ◌≡◌, length, eqb, leb, ltb}
-use Rattle.std.proofs.Math.Option.{Option, none, some}
+use Rattle.std.specs.Prelude.{ℕ, zero, suc, ◌+◌, ◌-◌, ◌^◌, ◌<◌, Bool, true, false, not, ◌&&◌, ◌||◌, List, [], ◌∷◌, ◌↔◌, ◌⊎◌, ◌≡◌, length, eqb, leb, ltb, Option, None, Some}
 use Rattle.rules.specs.Numbers.{root_number, max_ino, top_number, max_nodes, storage_for, index_of, number_of, NOENT, INVAL, TOOLONG, INODE, FULL, NOROOM, NOTFOUND, BADINDEX, BADMAP, BADSAVE, NOTFRESH, SMALL, BADOPT}
 use Rattle.rules.specs.Bytes.{holds}
 use Rattle.rules.specs.Utf8.{well_formed}
@@ -49,8 +48,8 @@ no_index i = held_to 255 i
 
 -- there is a mount, and the slot of its index is empty (R103, R105)
 abbrev pub slot_empty : Instance → Option Mount → Bool
-slot_empty i none = false
-slot_empty i (some m) = is_none (tag_of i m.index)
+slot_empty i None = false
+slot_empty i (Some m) = is_none (tag_of i m.index)
 
 -- rows 1 to 7 of a mount (R68 to R74)
 abbrev pub mount_tests : Instance → Request → List Test

@@ -1,6 +1,5 @@
 -- What becomes of a number that a caller keeps: it leads into its own mount or nowhere until a call gives its index away, and there as long as its mount stands.
-use Rattle.std.specs.Prelude.{ℕ, ◌<◌, ◌⊎◌, List, [], ◌∷◌, ◌≡◌, length}
-use Rattle.std.proofs.Math.Option.{Option, none, some}
+use Rattle.std.specs.Prelude.{ℕ, ◌<◌, ◌⊎◌, List, [], ◌∷◌, ◌≡◌, length, Option, None, Some}
 use Rattle.rules.specs.Numbers.{before, index_of, number_of, NOENT}
 use Rattle.rules.specs.Instance.{Instance, counter_of, empty_slot, slot_of}
 use Rattle.rules.specs.Outcome.{to_backend, Outcome, refused, says}
@@ -15,12 +14,12 @@ use Rattle.rules.specs.claims.Trace.{WithoutStateRestore, after_all, steps_of}
 
 -- the index that a restored mount names (R91)
 abbrev pub named : Call → Option ℕ
-named (restore_mount k r) = some k
-named (mount r) = none
-named (umount path) = none
-named set_remove_pseudo_root = none
-named (restore_from_bytes b) = none
-named (ask q) = none
+named (restore_mount k r) = Some k
+named (mount r) = None
+named (umount path) = None
+named set_remove_pseudo_root = None
+named (restore_from_bytes b) = None
+named (ask q) = None
 
 -- the indexes that the calls name in restored mounts, one after another
 unfoldable pub named_in : List Call → List ℕ
@@ -34,7 +33,7 @@ indexes_handed_out (s ∷ ss) = before s.found (indexes_handed_out ss)
 
 -- the call is done and gives k away: a mount hands it out, or a restored mount names it (R76, R85, R93)
 abbrev pub Gives : ℕ → Call → Outcome → Type 0
-Gives k c o = (o.code ≡ 0) × ((o.found ≡ some k) ⊎ (named c ≡ some k))
+Gives k c o = (o.code ≡ 0) × ((o.found ≡ Some k) ⊎ (named c ≡ Some k))
 
 -- no call gives k away, each on what the one before left
 unfoldable pub Ungiven : ℕ → Instance → List Call → Type 0
@@ -48,18 +47,18 @@ abbrev pub old_mount : Instance → Call → Option Mount
 old_mount i (mount r) = ended_mount i r.path
 old_mount i (restore_mount k r) = ended_mount i r.path
 old_mount i (umount path) = reached_mount i (reached i path)
-old_mount i set_remove_pseudo_root = none
-old_mount i (restore_from_bytes b) = none
-old_mount i (ask q) = none
+old_mount i set_remove_pseudo_root = None
+old_mount i (restore_from_bytes b) = None
+old_mount i (ask q) = None
 
 -- the index of a mount, if there is one
 abbrev pub index_in : Option Mount → Option ℕ
-index_in none = none
-index_in (some m) = some m.index
+index_in None = None
+index_in (Some m) = Some m.index
 
 -- the call is done and ends the mount of k: it takes a mount of that index off, or is a restored mount that names it (R76, R93, R98)
 abbrev pub Ends : ℕ → Instance → Call → Outcome → Type 0
-Ends k i c o = (o.code ≡ 0) × ((index_in (old_mount i c) ≡ some k) ⊎ (named c ≡ some k))
+Ends k i c o = (o.code ≡ 0) × ((index_in (old_mount i c) ≡ Some k) ⊎ (named c ≡ Some k))
 
 -- no call ends the mount of k, each on what the one before left
 unfoldable pub Standing : ℕ → Instance → List Call → Type 0
@@ -72,9 +71,9 @@ Standing k i (c ∷ cs) = (Ends k i c (rule i c) → ⊥) × Standing k (rule i 
 -- (R56, R76, R85, R93, R98)
 pub data SlotAfter (i : Instance) (c : Call) (o : Outcome) (j : ℕ) : Type 0 where
   same_slot : slot_of o.after j ≡ slot_of i j → SlotAfter i c o j
-  emptied : o.code ≡ 0 → index_in (old_mount i c) ≡ some j → slot_of o.after j ≡ empty_slot → SlotAfter i c o j
-  handed_out : o.code ≡ 0 → o.found ≡ some j → SlotAfter i c o j
-  by_restored : o.code ≡ 0 → named c ≡ some j → SlotAfter i c o j
+  emptied : o.code ≡ 0 → index_in (old_mount i c) ≡ Some j → slot_of o.after j ≡ empty_slot → SlotAfter i c o j
+  handed_out : o.code ≡ 0 → o.found ≡ Some j → SlotAfter i c o j
+  by_restored : o.code ≡ 0 → named c ≡ Some j → SlotAfter i c o j
 
 -- of every call on every instance
 abbrev pub EverySlot : Type 0
@@ -91,7 +90,7 @@ pub record MountedAt (i : Instance) (r : Request) (k : ℕ) : Type 0 where
   pub counter : counter_of i < 256
   pub slots : length i.indexes.slots ≡ 256
   pub done : (rule i (mount r)).code ≡ 0
-  pub found : (rule i (mount r)).found ≡ some k
+  pub found : (rule i (mount r)).found ≡ Some k
 
 -- a number of its index leads into that mount's backend at once (R76, R106)
 abbrev pub EveryNew : Type 0
@@ -105,7 +104,7 @@ EveryStanding = (i : Instance) (x t : ℕ) → 0 < index_of x → (rule i (ask (
 
 -- a done call takes a mount of the number's index off; then the number is refused as long as no call, that one included, gives the index away (R76, R93, R98, R106)
 abbrev pub EveryGone : Type 0
-EveryGone = (i : Instance) (c : Call) (x : ℕ) → 0 < index_of x → (rule i c).code ≡ 0 → index_in (old_mount i c) ≡ some (index_of x)
+EveryGone = (i : Instance) (c : Call) (x : ℕ) → 0 < index_of x → (rule i c).code ≡ 0 → index_in (old_mount i c) ≡ Some (index_of x)
     → (cs : List Call) → Ungiven (index_of x) i (c ∷ cs) → rule (after_all i (c ∷ cs)) (ask (route x)) ≡ refused NOENT (after_all i (c ∷ cs))
 
 -- a number of its index leads into that mount's backend or nowhere, as long as no call gives the index away (R76, R85, R93, R106)

@@ -1,6 +1,5 @@
 -- Demand 3 of any allocator: steps one after another, each from the counter that the last one left, over any sets of held indexes.
-use Rattle.std.specs.Prelude.{ℕ, ◌+◌, ◌%◌, ◌<◌, Bool, true, ◌≡◌, ◌⊎◌, List, [], ◌∷◌, ◌++◌, length}
-use Rattle.std.proofs.Math.Option.{Option, none, some}
+use Rattle.std.specs.Prelude.{ℕ, ◌+◌, ◌%◌, ◌<◌, Bool, true, ◌≡◌, ◌⊎◌, List, [], ◌∷◌, ◌++◌, length, Option, None, Some}
 use Rattle.rules.specs.Round.{allocate}
 
 -- what a step finds held, what it visits, and what it hands out (R81, R82, R85, R86)
@@ -11,7 +10,7 @@ pub record SearchStep : Type 0 where
 
 -- it visits nothing and hands nothing out
 abbrev pub Idle : SearchStep → Type 0
-Idle s = (s.visits ≡ []) × (s.found ≡ none)
+Idle s = (s.visits ≡ []) × (s.found ≡ None)
 
 -- it is the search from the counter c (R80 to R82)
 abbrev pub Searches : ℕ → SearchStep → Type 0
@@ -44,7 +43,7 @@ Has j (i ∷ is) = (i ≡ j) ⊎ Has j is
 
 -- a step handed j out, or visited it while it was held (R85, R86)
 abbrev pub Meets : ℕ → SearchStep → Type 0
-Meets j s = (s.found ≡ some j) ⊎ (Has j s.visits × (s.held j ≡ true))
+Meets j s = (s.found ≡ Some j) ⊎ (Has j s.visits × (s.held j ≡ true))
 
 -- one of the steps did (R88)
 unfoldable pub Met : ℕ → List SearchStep → Type 0
@@ -63,5 +62,5 @@ Laps ss = LapsBy (total ss) ss
 
 -- a search handed k out, and the last of the steps after it hands k out again (R87, R88)
 abbrev pub EveryAllocator : Type 0
-EveryAllocator = (c : ℕ) → c < 256 → (s : SearchStep) (k : ℕ) → Searches c s → s.found ≡ some k
-    → (ss : List SearchStep) → Going (allocate s.held c).counter ss → last_found none ss ≡ some k → Laps ss
+EveryAllocator = (c : ℕ) → c < 256 → (s : SearchStep) (k : ℕ) → Searches c s → s.found ≡ Some k
+    → (ss : List SearchStep) → Going (allocate s.held c).counter ss → last_found None ss ≡ Some k → Laps ss

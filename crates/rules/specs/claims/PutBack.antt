@@ -1,6 +1,5 @@
 -- A kept number over a restart: where its mount is put back at its index it leads where it led, and where it is not it is refused.
-use Rattle.std.specs.Prelude.{ℕ, ◌≤◌, ◌<◌, true, false, List, [], ◌∷◌, ◌≡◌}
-use Rattle.std.proofs.Math.Option.{some}
+use Rattle.std.specs.Prelude.{ℕ, ◌≤◌, ◌<◌, true, false, List, [], ◌∷◌, ◌≡◌, Some}
 use Rattle.rules.specs.Numbers.{max_ino, index_of, NOENT}
 use Rattle.rules.specs.Utf8.{well_formed}
 use Rattle.rules.specs.Path.{rooted, too_long}
@@ -22,9 +21,9 @@ pub record PutsBack (i j : Instance) (c : Call) (k : ℕ) : Type 0 where
   pub call : c ≡ restore_mount k request
   pub done : (rule j c).code ≡ 0
   pub node : ℕ
-  pub leads : reached i request.path ≡ some node
+  pub leads : reached i request.path ≡ Some node
   pub stood : IsAt k (mount_of_node i.tree node)
-  pub tag : tag_of i k ≡ some request.tag
+  pub tag : tag_of i k ≡ Some request.tag
 
 -- on j, the call leaves tree and slots as they are, such as a query or the setting of the remove flag
 pub record Aside (j : Instance) (c : Call) : Type 0 where
@@ -73,5 +72,5 @@ pub record Sound (r : Request) : Type 0 where
 
 -- by a path that led to a node of i such a request is put back at any index from 1 on, at any time: no room is needed (R50, R91)
 abbrev pub EveryPutBack : Type 0
-EveryPutBack = (i f j : Instance) (cs : List Call) (ks : List ℕ) → Back i f j cs ks → (r : Request) → Sound r → (x : ℕ) → reached i r.path ≡ some x
+EveryPutBack = (i f j : Instance) (cs : List Call) (ks : List ℕ) → Back i f j cs ks → (r : Request) → Sound r → (x : ℕ) → reached i r.path ≡ Some x
     → (k : ℕ) → 0 < k → (rule (after_all j cs) (restore_mount k r)).code ≡ 0

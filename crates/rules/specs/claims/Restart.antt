@@ -1,6 +1,5 @@
 -- Demand 3 over restarts: the lap goes on where the counter is carried over, as a save and a restore do.
-use Rattle.std.specs.Prelude.{ℕ, ◌<◌, List, [], ◌∷◌, ◌++◌, ◌≡◌}
-use Rattle.std.proofs.Math.Option.{none, some}
+use Rattle.std.specs.Prelude.{ℕ, ◌<◌, List, [], ◌∷◌, ◌++◌, ◌≡◌, None, Some}
 use Rattle.rules.specs.Instance.{Instance, counter_of}
 use Rattle.rules.specs.Saved.{encode}
 use Rattle.rules.specs.StateRestore.{saved_state, restore_state_rule}
@@ -30,8 +29,8 @@ Carried i (l ∷ ls) = (counter_of l.start ≡ counter_of i) × (WithoutStateRes
 
 -- a call handed k out; lives follow, and the last call of all hands k out again (R87, R88)
 abbrev pub EveryRestart : Type 0
-EveryRestart = (i : Instance) → counter_of i < 256 → (c : Call) (k : ℕ) → (rule i c).found ≡ some k → (ls : List Life) → Carried (rule i c).after ls
-    → last_found none (steps_in ls) ≡ some k → Laps (steps_in ls)
+EveryRestart = (i : Instance) → counter_of i < 256 → (c : Call) (k : ℕ) → (rule i c).found ≡ Some k → (ls : List Life) → Carried (rule i c).after ls
+    → last_found None (steps_in ls) ≡ Some k → Laps (steps_in ls)
 
 -- a restore of the saved bytes of i into f is done, and leaves j (R119, R128, R134)
 pub record Restarted (i f j : Instance) : Type 0 where
@@ -45,6 +44,6 @@ Restarts i (l ∷ ls) = Driven i × (((f : Instance) × Restarted i f l.start) �
 
 -- a call handed k out; after more calls come restarts, and the last call of all hands k out again (R87, R88, R135)
 abbrev pub EverySavedRestart : Type 0
-EverySavedRestart = (i : Instance) → counter_of i < 256 → (c : Call) (k : ℕ) → (rule i c).found ≡ some k → (cs : List Call) → WithoutStateRestore (rule i c).after cs
-    → (ls : List Life) → Restarts (after_all (rule i c).after cs) ls → last_found none (steps_of (rule i c).after cs ++ steps_in ls) ≡ some k
+EverySavedRestart = (i : Instance) → counter_of i < 256 → (c : Call) (k : ℕ) → (rule i c).found ≡ Some k → (cs : List Call) → WithoutStateRestore (rule i c).after cs
+    → (ls : List Life) → Restarts (after_all (rule i c).after cs) ls → last_found None (steps_of (rule i c).after cs ++ steps_in ls) ≡ Some k
     → Laps (steps_of (rule i c).after cs ++ steps_in ls)

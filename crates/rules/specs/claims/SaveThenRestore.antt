@@ -1,6 +1,5 @@
 -- Demand 2 of save and restore on instances: what comes back and what does not, that no other bytes are accepted for it, and how long it can be.
-use Rattle.std.specs.Prelude.{ℕ, ◌≤◌, true, List, ◌≡◌, length}
-use Rattle.std.proofs.Math.Option.{none}
+use Rattle.std.specs.Prelude.{ℕ, ◌≤◌, true, List, ◌≡◌, length, None}
 use Rattle.rules.specs.Numbers.{max_saved, BADSAVE}
 use Rattle.rules.specs.Bytes.{Bytes}
 use Rattle.rules.specs.Instance.{Tree, Instance, counter_of, live}
@@ -11,7 +10,7 @@ use Rattle.rules.specs.claims.Driven.{Driven, Present}
 
 -- the tree without its mounts (R127)
 abbrev pub bare_tree : Tree → Tree
-bare_tree t = record { next = t.next; root = none; nodes = nodes_of_records (saved_nodes t.nodes) }
+bare_tree t = record { next = t.next; root = None; nodes = nodes_of_records (saved_nodes t.nodes) }
 
 -- a restore is done, and gives back tree and next number, counter, and options (R135)
 pub record GivesBack (i : Instance) (o : Outcome) : Type 0 where

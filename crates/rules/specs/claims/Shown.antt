@@ -1,7 +1,6 @@
 -- What calls answer and write, one after another on one instance, as one table under one statement.
-use Rattle.std.specs.Prelude.{ℕ, ◌+◌, ◌^◌, true, false, List, [], ◌∷◌, ◌++◌, replicate, ◌≡◌}
+use Rattle.std.specs.Prelude.{ℕ, ◌+◌, ◌^◌, true, false, List, [], ◌∷◌, ◌++◌, replicate, ◌≡◌, None, Some}
 use Prim.Native.String.{String}
-use Rattle.std.proofs.Math.Option.{none, some}
 use Rattle.rules.specs.Numbers.{DONE}
 use Rattle.rules.specs.Bytes.{ascii}
 use Rattle.rules.specs.Instance.{Options, Instance}
@@ -49,10 +48,10 @@ asking path tag = record { path = ascii path; tag = tag; root = 3; largest = 100
 -- 21 calls of every kind but save and restore (R13, R38, R64, R75, R77, R78, R93, R97, R100, R103, R105, R106, R108, R118)
 abbrev pub shown_calls : List Shown
 shown_calls =
-    done (mount (asking "/a/b/c" 7)) (mounted 1 none)
-    ∷ done (ask (path_walk (ascii "/a/b/c/.."))) (walked (some 3))
-    ∷ done (mount (asking "/a/b/../d" 8)) (mounted 2 none)
-    ∷ done (ask (get_rootfs (ascii "/a/d"))) (rootfs (some (8, 2)))
+    done (mount (asking "/a/b/c" 7)) (mounted 1 None)
+    ∷ done (ask (path_walk (ascii "/a/b/c/.."))) (walked (Some 3))
+    ∷ done (mount (asking "/a/b/../d" 8)) (mounted 2 None)
+    ∷ done (ask (get_rootfs (ascii "/a/d"))) (rootfs (Some (8, 2)))
     ∷ done (ask (lookup 3 (ascii "c"))) (entry (2 ^ 56 + 3) 6 11 12 0)
     ∷ done (ask (lookup 3 (ascii ".."))) (entry 2 16895 5 5 4096)
     ∷ record {
@@ -61,20 +60,20 @@ shown_calls =
       answer = wrote 32;
       written = padded 7 5 ++ (padded 7 2 ++ (padded 3 1 ++ (padded 3 0 ++ (ascii "d" ++ replicate 7 0))));
     }
-    ∷ done (mount (asking "/a/d" 9)) (mounted 3 (some 8))
-    ∷ done (restore_mount 1 (asking "/e" 4)) (restored_mount none (some 7))
+    ∷ done (mount (asking "/a/d" 9)) (mounted 3 (Some 8))
+    ∷ done (restore_mount 1 (asking "/e" 4)) (restored_mount None (Some 7))
     ∷ done (ask (route (2 ^ 56 + 30))) (to_backend 4 1 30)
     ∷ done (ask initialized) (truth false)
     ∷ done (ask options) (settings five_higher)
     ∷ done (ask (remap_attr_id true 1 20)) (ids 6 20)
     ∷ done (ask (remap_attr_id false 6 4)) (ids 1 4)
-    ∷ done (umount (ascii "/a/d")) (unmounted 5 2 (some 9))
-    ∷ done (ask (path_walk (ascii "/a/d"))) (walked (some 5))
-    ∷ done (mount (asking "/" 6)) (mounted 4 none)
+    ∷ done (umount (ascii "/a/d")) (unmounted 5 2 (Some 9))
+    ∷ done (ask (path_walk (ascii "/a/d"))) (walked (Some 5))
+    ∷ done (mount (asking "/" 6)) (mounted 4 None)
     ∷ done (ask (route 1)) (to_backend 6 4 3)
     ∷ done set_remove_pseudo_root nothing
-    ∷ done (umount (ascii "/e")) (unmounted 6 1 (some 4))
-    ∷ done (ask (path_walk (ascii "/e"))) (walked none)
+    ∷ done (umount (ascii "/e")) (unmounted 6 1 (Some 4))
+    ∷ done (ask (path_walk (ascii "/e"))) (walked None)
     ∷ []
 
 -- each call says what the table says

@@ -1,6 +1,5 @@
 -- What no call changes, and what only some calls change.
-use Rattle.std.specs.Prelude.{ℕ, ◌≤◌, ◌<◌, true, false, List, [], ◌∷◌, ◌≡◌}
-use Rattle.std.proofs.Math.Option.{Option, none, some}
+use Rattle.std.specs.Prelude.{ℕ, ◌≤◌, ◌<◌, true, false, List, [], ◌∷◌, ◌≡◌, Option, None, Some}
 use Rattle.rules.specs.Numbers.{root_number}
 use Rattle.rules.specs.Tree.{Mount, Node, node_in}
 use Rattle.rules.specs.Instance.{Tree, Instance, mount_of_node}
@@ -14,8 +13,8 @@ use Rattle.rules.specs.claims.Trace.{NoStateRestore, WithoutStateRestore, after_
 
 -- the mount of a node, if it has one, put before others
 abbrev pub mounted : ℕ → Option Mount → List (ℕ × Mount) → List (ℕ × Mount)
-mounted x none ms = ms
-mounted x (some m) ms = (x, m) ∷ ms
+mounted x None ms = ms
+mounted x (Some m) ms = (x, m) ∷ ms
 
 -- the nodes with a mount, and their mounts
 unfoldable pub mounts_in : List Node → List (ℕ × Mount)
@@ -57,7 +56,7 @@ EveryStays = (i : Instance) (c : Call) → Stays i c (rule i c)
 pub record Unmoved (i : Instance) (o : Outcome) : Type 0 where
   pub after : o.after ≡ i
   pub visits : o.visits ≡ []
-  pub found : o.found ≡ none
+  pub found : o.found ≡ None
 
 -- of every query on every instance
 abbrev pub EveryAsked : Type 0
@@ -85,7 +84,7 @@ pub data MountAfter (i : Instance) (c : Call) (o : Outcome) (y : ℕ) : Type 0 w
   same_mount : mount_of_node o.after.tree y ≡ mount_of_node i.tree y → MountAfter i c o y
   by_mount : (r : Request) → c ≡ mount r → o.code ≡ 0 → y ≡ ended i r.path → MountAfter i c o y
   by_restored : (k : ℕ) (r : Request) → c ≡ restore_mount k r → o.code ≡ 0 → y ≡ ended i r.path → MountAfter i c o y
-  by_unmount : (path : List ℕ) → c ≡ umount path → o.code ≡ 0 → reached i path ≡ some y → MountAfter i c o y
+  by_unmount : (path : List ℕ) → c ≡ umount path → o.code ≡ 0 → reached i path ≡ Some y → MountAfter i c o y
 
 -- of every call on every instance
 abbrev pub EveryMountOn : Type 0
@@ -109,5 +108,5 @@ NumbersOnce = (i : Instance) → Driven i → Distinct i.tree.nodes
 
 -- a number below the next one that no node has is given to no node again, on any tables, over any calls without a done state restore (R49)
 abbrev pub NeverAgain : Type 0
-NeverAgain = (i : Instance) (x : ℕ) → x < i.tree.next → node_in i.tree.nodes x ≡ none → (cs : List Call) → WithoutStateRestore i cs
-    → node_in (after_all i cs).tree.nodes x ≡ none
+NeverAgain = (i : Instance) (x : ℕ) → x < i.tree.next → node_in i.tree.nodes x ≡ None → (cs : List Call) → WithoutStateRestore i cs
+    → node_in (after_all i cs).tree.nodes x ≡ None

@@ -1,6 +1,5 @@
 -- What saves and restores answer, write and leave, as tables under one statement: the bytes of a state, the same bytes in other instances, and damaged ones.
-use Rattle.std.specs.Prelude.{ℕ, ◌+◌, ◌*◌, ◌^◌, true, false, List, [], ◌∷◌, ◌++◌, ◌≡◌, set, take}
-use Rattle.std.proofs.Math.Option.{none, some}
+use Rattle.std.specs.Prelude.{ℕ, ◌+◌, ◌*◌, ◌^◌, true, false, List, [], ◌∷◌, ◌++◌, ◌≡◌, set, take, None, Some}
 use Rattle.rules.specs.Numbers.{DONE, NOROOM, BADSAVE, NOTFRESH, SMALL, BADOPT}
 use Rattle.rules.specs.Bytes.{ascii}
 use Rattle.rules.specs.Instance.{Options, Instance}
@@ -48,14 +47,14 @@ bytes = records ++ (settled ++ ending)
 -- two mounts are made, one is taken off with its node, and the state is saved: the mount that is left is not in it; who has nodes is not fresh (R125 to R128)
 abbrev pub saved_calls : List Shown
 saved_calls =
-    done (mount (asking "/a/b" 7)) (mounted 1 none)
-    ∷ done (mount (asking "/a/c" 8)) (mounted 2 none)
+    done (mount (asking "/a/b" 7)) (mounted 1 None)
+    ∷ done (mount (asking "/a/c" 8)) (mounted 2 None)
     ∷ done set_remove_pseudo_root nothing
-    ∷ done (umount (ascii "/a/b")) (unmounted 3 2 (some 7))
+    ∷ done (umount (ascii "/a/b")) (unmounted 3 2 (Some 7))
     ∷ refusing (ask (save_to_bytes 93)) SMALL
     ∷ record { call = ask (save_to_bytes 94); code = DONE; answer = wrote 94; written = bytes }
     ∷ refusing (restore_from_bytes bytes) NOTFRESH
-    ∷ done (ask (get_rootfs (ascii "/a/c"))) (rootfs (some (8, 2)))
+    ∷ done (ask (get_rootfs (ascii "/a/c"))) (rootfs (Some (8, 2)))
     ∷ []
 
 -- restored: tree, next number, counter and options are the state's, `initialized` is true; mapping in force and removal are the instance's own (R34, R134)
@@ -65,18 +64,18 @@ restored_calls =
     ∷ done (restore_from_bytes bytes) nothing
     ∷ done (ask initialized) (truth true)
     ∷ done (ask options) (settings stored_options)
-    ∷ done (ask (path_walk (ascii "/a/c"))) (walked (some 4))
-    ∷ done (ask (path_walk (ascii "/a/b"))) (walked none)
-    ∷ done (ask (get_rootfs (ascii "/a/c"))) (rootfs none)
+    ∷ done (ask (path_walk (ascii "/a/c"))) (walked (Some 4))
+    ∷ done (ask (path_walk (ascii "/a/b"))) (walked None)
+    ∷ done (ask (get_rootfs (ascii "/a/c"))) (rootfs None)
     ∷ done (ask (lookup 1 (ascii "a"))) (entry 2 16895 0 0 4096)
     ∷ refusing (restore_from_bytes bytes) NOTFRESH
     ∷ refusing (restore_from_bytes []) NOTFRESH
-    ∷ done (mount (asking "/a/c" 5)) (mounted 3 none)
-    ∷ done (umount (ascii "/a/c")) (unmounted 4 2 (some 5))
-    ∷ done (ask (path_walk (ascii "/a/c"))) (walked (some 4))
+    ∷ done (mount (asking "/a/c" 5)) (mounted 3 None)
+    ∷ done (umount (ascii "/a/c")) (unmounted 4 2 (Some 5))
+    ∷ done (ask (path_walk (ascii "/a/c"))) (walked (Some 4))
     ∷ record { call = ask (save_to_bytes 94); code = DONE; answer = wrote 94; written = set bytes 86 4 }
-    ∷ done (mount (asking "/d" 6)) (mounted 4 none)
-    ∷ done (ask (path_walk (ascii "/d"))) (walked (some 5))
+    ∷ done (mount (asking "/d" 6)) (mounted 4 None)
+    ∷ done (ask (path_walk (ascii "/d"))) (walked (Some 5))
     ∷ []
 
 -- damaged bytes: each is BADSAVE, also where its options are not known or it has too many nodes; then BADOPT, then NOROOM; all is left as it was (R128 to R131)
@@ -109,11 +108,11 @@ damaged =
     -- as it was
     ∷ done (ask initialized) (truth false)
     ∷ done (ask options) (settings none_set)
-    ∷ done (ask (path_walk (ascii "/a"))) (walked none)
-    ∷ done (mount (asking "/" 6)) (mounted 1 none)
+    ∷ done (ask (path_walk (ascii "/a"))) (walked None)
+    ∷ done (mount (asking "/" 6)) (mounted 1 None)
     ∷ refusing (restore_from_bytes bytes) NOTFRESH
-    ∷ done (mount (asking "/z" 7)) (mounted 2 none)
-    ∷ done (ask (path_walk (ascii "/z"))) (walked (some 2))
+    ∷ done (mount (asking "/z" 7)) (mounted 2 None)
+    ∷ done (ask (path_walk (ascii "/z"))) (walked (Some 2))
     ∷ []
 
 -- a mapping that goes above 2^32 − 1 is taken, and with in_opts 0 the instance is not initialized (R133, R134)

@@ -1,6 +1,5 @@
 -- Demand 3 over any calls on any instance: the calls as steps of the allocator, and what is claimed of them.
-use Rattle.std.specs.Prelude.{ℕ, ◌+◌, ◌%◌, ◌≤◌, ◌<◌, true, false, ◌&&◌, ◌≡◌, ◌⊎◌, List, [], ◌∷◌, length}
-use Rattle.std.proofs.Math.Option.{Option, none, some}
+use Rattle.std.specs.Prelude.{ℕ, ◌+◌, ◌%◌, ◌≤◌, ◌<◌, true, false, ◌&&◌, ◌≡◌, ◌⊎◌, List, [], ◌∷◌, length, Option, None, Some}
 use Rattle.rules.specs.Numbers.{max_ino}
 use Rattle.rules.specs.Utf8.{well_formed}
 use Rattle.rules.specs.Path.{rooted, too_long}
@@ -44,14 +43,14 @@ pub record Moves (i : Instance) (c : Call) (o : Outcome) (r : Request) : Type 0 
 -- the call visits nothing, hands nothing out, and leaves the counter (R89)
 pub record Keeps (i : Instance) (o : Outcome) : Type 0 where
   pub visits : o.visits ≡ []
-  pub found : o.found ≡ none
+  pub found : o.found ≡ None
   pub counter : counter_of o.after ≡ counter_of i
 
 -- what a done mount answers is the index k that its allocation found, and the slot of k holds the request's tag (R75, R76, R85)
 pub record MountAnswers (i : Instance) (r : Request) (o : Outcome) (k : ℕ) : Type 0 where
-  pub found : o.found ≡ some k
+  pub found : o.found ≡ Some k
   pub told : (t : Option ℕ) × (o.answer ≡ mounted k t)
-  pub holds : k < length i.indexes.slots → tag_of o.after k ≡ some r.tag
+  pub holds : k < length i.indexes.slots → tag_of o.after k ≡ Some r.tag
 
 -- what a mount does: if rows 1 to 4 let it pass it makes its allocation, and if it is done it answers by that (R68 to R75, R82, R83)
 pub record MountAllocates (i : Instance) (r : Request) (o : Outcome) : Type 0 where
@@ -78,5 +77,5 @@ EveryRun = (cs : List Call) (i : Instance) → counter_of i < 256 → WithoutSta
 
 -- a call handed k out, and the last of the calls after it hands k out again (R87, R88)
 abbrev pub EveryLap : Type 0
-EveryLap = (i : Instance) → counter_of i < 256 → (c : Call) (k : ℕ) → (rule i c).found ≡ some k
-    → (cs : List Call) → WithoutStateRestore (rule i c).after cs → last_found none (steps_of (rule i c).after cs) ≡ some k → Laps (steps_of (rule i c).after cs)
+EveryLap = (i : Instance) → counter_of i < 256 → (c : Call) (k : ℕ) → (rule i c).found ≡ Some k
+    → (cs : List Call) → WithoutStateRestore (rule i c).after cs → last_found None (steps_of (rule i c).after cs) ≡ Some k → Laps (steps_of (rule i c).after cs)

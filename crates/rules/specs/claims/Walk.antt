@@ -1,6 +1,5 @@
 -- What a mount walk makes, and where it ends.
-use Rattle.std.specs.Prelude.{ℕ, ◌+◌, true, false, List, [], ◌++◌, ◌≡◌, length}
-use Rattle.std.proofs.Math.Option.{some}
+use Rattle.std.specs.Prelude.{ℕ, ◌+◌, true, false, List, [], ◌++◌, ◌≡◌, length, Some}
 use Rattle.rules.specs.Utf8.{well_formed}
 use Rattle.rules.specs.Path.{too_long}
 use Rattle.rules.specs.Tree.{Node, Made}
@@ -21,4 +20,4 @@ PlannedWalking = (t : Tree) (path : List ℕ) → Shape (saved_nodes t.nodes) t.
 
 -- along a path that leads to a node already nothing is made, and the mount walk ends at that node; on any tables (R48, R50)
 abbrev pub PlannedNone : Type 0
-PlannedNone = (i : Instance) (path : List ℕ) (x : ℕ) → reached i path ≡ some x → planned i.tree path ≡ record { nodes = []; here = x }
+PlannedNone = (i : Instance) (path : List ℕ) (x : ℕ) → reached i path ≡ Some x → planned i.tree path ≡ record { nodes = []; here = x }

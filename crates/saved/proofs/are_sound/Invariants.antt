@@ -3,8 +3,5 @@ use Rattle.std.proofs.Common.{◌≡◌, ◌-◌, ◌≤◌}
 use Rattle.saved.specs.Scan.{sound_to}
 use Rattle.saved.proofs.are_sound.Given as goal
 
-abbrev pub invariant-loop-i : goal.invariant-loop-i
-invariant-loop-i l = (l.i ≤ l.count) × (l.at ≤ l.to) × (sound_to l.b l.next l.to (l.count - l.i) l.at l.last ≡ sound_to l.b l.next l.to l.count 0 1)
-
-abbrev pub decreases-loop-i : goal.decreases-loop-i
-decreases-loop-i l = l.count - l.i
+abbrev pub invariant-loop : goal.invariant-loop
+invariant-loop l = (l.at ≤ l.to) × (sound_to l.b l.next l.to (l.count - l.counter) l.at l.last ≡ sound_to l.b l.next l.to l.count 0 1)

@@ -1,22 +1,24 @@
--- `saved::is_listed` meets its contract. The invariant: the number is among those that are left where it is among all. Assumes nothing.
-use Rattle.std.proofs.Common.{◌-◌, sym, refl, ◌∙◌, arith}
-use Rattle.saved.proofs.Walk.{listed_here, listed_on, listed_none}
+-- `saved::is_listed` meets its contract. Assumes nothing.
+use Rattle.std.proofs.Common.{Bool, ◌==◌, reverse, sym, ◌∙◌, arith, rules, ne_eqb}
+use borrow.Author.Tests.{tests}
+use Rattle.std.proofs.lemmas.Grind.{common_steps}
+use Rattle.std.proofs.lemmas.Iterator.Search.{any_from_yields_List}
+use Rattle.std.proofs.lemmas.Iterator.Adapters.{YieldsList-from_rev_slice}
+use Rattle.std.proofs.lemmas.List.Sorted.{list_any-IsPermutation, IsPermutation-reverse}
+use Rattle.saved.specs.declared.Kept.{Kept}
+use Rattle.saved.specs.Kept.{listed}
 use Rattle.saved.proofs.is_listed.Goals as goal
 
-pub loop-j-init : goal.loop-j-init
-loop-j-init c = (omega arith, refl)
+pub returns-then-number-eq-ROOT_ID : goal.returns-then-number-eq-ROOT_ID
+unfolding listed
+returns-then-number-eq-ROOT_ID c = grind (arith, common_steps)
 
-pub returns-then-numbers-j : goal.returns-then-numbers-j
-returns-then-numbers-j c =
-    let l = c.loop-j in
-    sym (listed_here _ _ l.j (l.j - 1) (omega arith) c.if-numbers-j.true) ∙ l.invariant.1
-
-pub loop-j-preserved : goal.loop-j-preserved
-loop-j-preserved c =
-    let l = c.loop-j in
-    (omega arith, sym (listed_on _ _ l.j (l.j - 1) (omega arith) c.if-numbers-j.false) ∙ l.invariant.1)
-
-pub returns : goal.returns
-returns c =
-    let l = c.loop-j in
-    sym (listed_none _ _ l.j (omega arith)) ∙ l.invariant.1
+pub returns-else-number-eq-ROOT_ID : goal.returns-else-number-eq-ROOT_ID
+unfolding listed
+returns-else-number-eq-ROOT_ID c =
+    let x = c.args.number in
+    let b = c.args.before.now in
+    let p : Kept → Bool = λ r. r.number == x in
+    rw (ne_eqb x 1 c.if-number-eq-ROOT_ID.false)
+    (any_from_yields_List p _ _ _ c.any.ensures.ran (YieldsList-from_rev_slice b cc) (λ y t q k. search (rules, tests))
+    ∙ sym (list_any-IsPermutation p b (reverse b) (IsPermutation-reverse b)))

@@ -1,56 +1,57 @@
 -- `saved::is_placed_by_scan` meets its contract. The invariant: of the records passed, whether one is the parent is known, and none is a twin.
 -- Assumes nothing.
-use Rattle.std.proofs.Common.{ℕ, eqb, sym, refl, ap, ◌∙◌, arith}
+use Rattle.std.proofs.Common.{ℕ, ◌||◌, eqb, length, sym, refl, ap, ◌∙◌, arith}
+use Rattle.std.proofs.lemmas.Iterator.Consumers.{YieldsList-from_first, YieldsList-at, YieldsList-turn, YieldsList-end}
+use Rattle.std.proofs.lemmas.List.{length_push}
 use Rattle.rules.specs.Saved.{saved_node_at, present, used}
-use Rattle.saved.specs.Scan.{start_of, earlier}
-use Rattle.saved.proofs.Walk.{start_next, within, present_here, present_on, used_on, used_among, is_used, scanned}
+use Rattle.saved.specs.Scan.{earlier}
+use Rattle.saved.proofs.Walk.{within, first_whole, turn, last_turn, present_next, used_on, used_among, is_used, scanned}
 use Rattle.saved.proofs.is_placed_by_scan.Goals as goal
-use Rattle.saved.proofs.is_placed_by_scan.Goals.{then-number_at-parent, else-number_at-parent}
 
-pub loop-j-init : goal.loop-j-init
-unfolding start_of earlier present used
-loop-j-init c = (omega arith, refl, ap (λ (x : ℕ). eqb x 1) c.parent_at-parent.ensures, refl)
+pub first_records-p-items-requires : goal.first_records-p-items-requires
+first_records-p-items-requires c = first_whole c.args.b.now c.args.i (omega arith)
 
-pub is_twin-requires : goal.is_twin-requires
-is_twin-requires c =
-    let l = c.loop-j in
-    let a = c.args in
-    record { p_in_bounds = omega (arith, within a.b.now a.i l.j l.p l.invariant.1 c.loop-j-test.true); q_in_bounds = omega arith }
+pub loop-p-init : goal.loop-p-init
+unfolding earlier present used
+loop-p-init c = (ap (λ (x : ℕ). eqb x 1) c.parent_at-parent.ensures, refl)
+
+pub is_twin-requires-clause-p_in_bounds : goal.is_twin-requires-clause-p_in_bounds
+is_twin-requires-clause-p_in_bounds c =
+    let t =
+    turn c.args.b.now c.args.i (length c.loop-p.yielded) c.in-Some.p
+    (YieldsList-turn (YieldsList-at c.into_iter-p-iterator.ensures.into_iter_gives (YieldsList-from_first _ _ _ c.first_records-p-items.ensures)) c.loop-p.yielded _ c.loop-p.yielded_by _ c.next.new.self c.in-Some.p c.in-Some.is c.next.ensures.steps) in
+    omega (arith, within c.args.b.now c.args.i (length c.loop-p.yielded) c.in-Some.p t.1 t.0)
 
 pub returns-then-is_twin : goal.returns-then-is_twin
 returns-then-is_twin c =
-    let l = c.loop-j in
-    let a = c.args in
-    sym (is_used _ _ (used_among a.b.now _ a.i l.j l.p l.invariant.1 c.loop-j-test.true (sym c.is_twin.ensures ∙ c.if-is_twin.true)))
+    let t =
+    turn c.args.b.now c.args.i (length c.loop-p.yielded) c.in-Some.p
+    (YieldsList-turn (YieldsList-at c.into_iter-p-iterator.ensures.into_iter_gives (YieldsList-from_first _ _ _ c.first_records-p-items.ensures)) c.loop-p.yielded _ c.loop-p.yielded_by _ c.next.new.self c.in-Some.p c.in-Some.is c.next.ensures.steps) in
+    sym (is_used _ _ (used_among c.args.b.now _ c.args.i (length c.loop-p.yielded) c.in-Some.p t.1 t.0 (sym c.is_twin.ensures ∙ c.if-is_twin.true)))
 
 pub number_at-requires : goal.number_at-requires
 number_at-requires c =
-    let l = c.loop-j in
-    let a = c.args in
-    omega (arith, within a.b.now a.i l.j l.p l.invariant.1 c.loop-j-test.true)
+    let t =
+    turn c.args.b.now c.args.i (length c.loop-p.yielded) c.in-Some.p
+    (YieldsList-turn (YieldsList-at c.into_iter-p-iterator.ensures.into_iter_gives (YieldsList-from_first _ _ _ c.first_records-p-items.ensures)) c.loop-p.yielded _ c.loop-p.yielded_by _ c.next.new.self c.in-Some.p c.in-Some.is c.next.ensures.steps) in
+    omega (arith, within c.args.b.now c.args.i (length c.loop-p.yielded) c.in-Some.p t.1 t.0)
 
-pub record_end-p-requires : goal.record_end-p-requires
-record_end-p-requires c =
-    let l = c.loop-j in
-    let a = c.args in
-    omega (arith, within a.b.now a.i l.j l.p l.invariant.1 c.loop-j-test.true)
-
-pub loop-j-preserved : goal.loop-j-preserved
-loop-j-preserved c =
-    let l = c.loop-j in
-    let a = c.args in
-    let n = c.number_at.ensures in
-    let q = c.parent_at-parent.ensures in (
-      omega arith,
-      c.record_end-p.ensures ∙ start_next a.b.now l.j l.p l.invariant.1,
-      elim c.if-number_at-parent.branch [
-        | then-number_at-parent w ↦ w.found-is ∙ sym (present_here a.b.now (saved_node_at a.b.now a.at) l.j l.p l.invariant.1 (sym n ∙ w.if-number_at-parent.true ∙ q))
-        | else-number_at-parent w ↦ w.found-is ∙ l.invariant.2 ∙ sym (present_on a.b.now (saved_node_at a.b.now a.at) l.j l.p l.invariant.1 (λ e. w.if-number_at-parent.false (n ∙ e ∙ sym q)))
-      ],
-      used_on a.b.now (saved_node_at a.b.now a.at) l.j l.p l.invariant.1 (sym c.is_twin.ensures ∙ c.if-is_twin.false) ∙ l.invariant.3,
+pub loop-p-preserved : goal.loop-p-preserved
+loop-p-preserved c =
+    let t =
+    turn c.args.b.now c.args.i (length c.loop-p.yielded) c.in-Some.p
+    (YieldsList-turn (YieldsList-at c.into_iter-p-iterator.ensures.into_iter_gives (YieldsList-from_first _ _ _ c.first_records-p-items.ensures)) c.loop-p.yielded _ c.loop-p.yielded_by _ c.next.new.self c.in-Some.p c.in-Some.is c.next.ensures.steps) in
+    let j = length c.loop-p.yielded in
+    let b = c.args.b.now in
+    let n = saved_node_at b c.args.at in
+    rw (length_push c.loop-p.yielded c.in-Some.p) (
+      (λ i. c.loop-p.invariant.0 i || eqb (c.number_at.ensures i) (c.parent_at-parent.ensures i)) ∙ sym (present_next b n j c.in-Some.p t.1),
+      used_on b n j c.in-Some.p t.1 (sym c.is_twin.ensures ∙ c.if-is_twin.false) ∙ c.loop-p.invariant.1,
     )
 
 pub returns : goal.returns
 returns c =
-    let l = c.loop-j in
-    scanned _ _ _ l.j l.found c.loop-j-test.false l.invariant.0 l.invariant.2 l.invariant.3
+    let e =
+    last_turn c.args.b.now c.args.i (length c.loop-p.yielded)
+    (YieldsList-end (YieldsList-at c.into_iter-p-iterator.ensures.into_iter_gives (YieldsList-from_first _ _ _ c.first_records-p-items.ensures)) c.loop-p.yielded _ c.loop-p.yielded_by _ c.next.new.self c.in-None.is c.next.ensures.steps).1 in
+    scanned _ _ _ (length c.loop-p.yielded) c.loop-p.found (omega arith) (omega arith) c.loop-p.invariant.0 c.loop-p.invariant.1

@@ -1,15 +1,13 @@
 -- `saved::is_twin` meets its contract. Assumes nothing.
-use Rattle.std.proofs.Common.{sym, ◌∙◌}
-use Rattle.saved.proofs.Twins.{other_parent, other_length, by_name}
+use Rattle.std.proofs.Common.{arith, ◌∙◌}
+use Rattle.std.proofs.lemmas.Grind.{common_steps}
+use Rattle.saved.specs.Scan.{twin}
+use Rattle.saved.proofs.Twins.{by_name}
 use Rattle.saved.proofs.is_twin.Goals as goal
 
 pub returns-then-parent_at : goal.returns-then-parent_at
-returns-then-parent_at c = sym (other_parent _ _ _ (λ e. c.if-parent_at.true (c.parent_at.ensures ∙ e ∙ sym c.parent_at-2.ensures)))
+returns-then-parent_at c = c.eq.ensures ∙ by_name _ _ _ _ _ c.parent_at.ensures c.parent_at-2.ensures c.if-parent_at.true _ _ c.name_at.ensures c.name_at-then-parent_at.ensures
 
-pub returns-then-name_len-len : goal.returns-then-name_len-len
-returns-then-name_len-len c = sym (other_length _ _ _ (λ e. c.if-name_len-len.true (c.name_len.ensures ∙ e ∙ sym c.name_len-len.ensures)))
-
-pub returns : goal.returns
-returns c = c.same_at.ensures
-    ∙ by_name _ _ _ (sym c.parent_at.ensures ∙ c.if-parent_at.false ∙ c.parent_at-2.ensures) _ c.name_len-len.ensures
-    (sym c.name_len.ensures ∙ c.if-name_len-len.false)
+pub returns-else-parent_at : goal.returns-else-parent_at
+unfolding twin
+returns-else-parent_at c = grind (arith, common_steps)

@@ -1,44 +1,29 @@
--- `saved::is_used` meets its contract. The invariant: one of those that are left is a twin where one of all is. Assumes nothing.
-use Rattle.std.proofs.Common.{◌-◌, sym, refl, ◌∙◌, arith}
-use Rattle.rules.specs.Saved.{saved_node_at}
-use Rattle.saved.proofs.Walk.{within, used_among, used_down, used_none}
-use Rattle.saved.proofs.Twins.{other_key}
+-- `saved::is_used` meets its contract. Assumes nothing.
+use Rattle.std.proofs.Common.{◌≤◌, ℕ, length, sym, ap, ◌∙◌, arith, rules}
+use Rattle.std.proofs.Math.Seq.{take-length}
+use Rattle.std.proofs.lemmas.Grind.{common_steps}
+use Rattle.std.proofs.lemmas.Iterator.{YieldsList-from_slice}
+use Rattle.std.proofs.lemmas.Iterator.Search.{any_from_yields_List}
+use Rattle.std.proofs.lemmas.Iterator.Adapters.{serves_from_places}
+use Rattle.rules.specs.Saved.{behind}
+use Rattle.saved.specs.declared.Kept.{Kept}
+use Rattle.saved.proofs.Walk.{within}
+use Rattle.saved.proofs.Keeping.{test, used_to}
 use Rattle.saved.proofs.is_used.Goals as goal
 
-pub loop-j-init : goal.loop-j-init
-loop-j-init c = (omega arith, refl)
-
-pub loop-j-preserved-then-keys-j : goal.loop-j-preserved-then-keys-j
-loop-j-preserved-then-keys-j c =
-    let l = c.loop-j in
-    let h = c.requires in (
-      omega arith,
-      sym (used_down _ _ l.j (l.j - 1) _ (omega arith) refl
-          (other_key _ _ _ (λ i. (c.type_inv.b i).fits) (λ e. c.if-keys-j.true (h.keys (l.j - 1) (omega arith) ∙ e ∙ sym c.key_at-key.ensures))))
-          ∙ l.invariant.1,
-    )
-
-pub is_twin-requires : goal.is_twin-requires
-is_twin-requires c =
-    let l = c.loop-j in
+pub any-requires-clause-callable : goal.any-requires-clause-callable
+any-requires-clause-callable c =
     let a = c.args in
     let h = c.requires in
-    record { p_in_bounds = omega (arith, within a.b.now a.i (l.j - 1) _ (h.starts (l.j - 1) (omega arith)) (omega arith)); q_in_bounds = h.whole }
-
-pub returns-then-is_twin : goal.returns-then-is_twin
-returns-then-is_twin c =
-    let l = c.loop-j in
-    let h = c.requires in
-    sym (used_among _ _ _ (l.j - 1) _ (h.starts (l.j - 1) (omega arith)) (omega arith) (sym c.is_twin.ensures ∙ c.if-is_twin.true))
-
-pub loop-j-preserved : goal.loop-j-preserved
-loop-j-preserved c =
-    let l = c.loop-j in
-    let h = c.requires in
-    (omega arith, sym (used_down _ _ l.j (l.j - 1) _ (omega arith) (h.starts (l.j - 1) (omega arith)) (sym c.is_twin.ensures ∙ c.if-is_twin.false)) ∙ l.invariant.1)
+    serves_from_places (YieldsList-from_slice a.before.now cc) (λ x q g. search rules)
+    (λ x k l e.
+    let whole : behind a.b.now x.now.start ≤ length a.b.now =
+    omega (arith, within a.b.now (length a.before.now) k x.now.start (ap (λ (r : Kept). r.start) (e ∙ h.keeps k l x.now)) l) in
+    search rules)
 
 pub returns : goal.returns
 returns c =
-    let l = c.loop-j in
     let a = c.args in
-    sym (used_none a.b.now (saved_node_at a.b.now a.at) l.j (omega arith)) ∙ l.invariant.1
+    let bytes = λ (i : ℕ). (c.type_inv.b i).fits in
+    any_from_yields_List (test a.b.now a.before.now c.requires.keeps a.at bytes) _ _ _ c.any.ensures.ran (YieldsList-from_slice a.before.now cc) (λ x b q k. grind (arith, common_steps))
+    ∙ sym (used_to a.b.now a.before.now c.requires.keeps a.at bytes (length a.before.now) (omega arith) ∙ rw take-length)

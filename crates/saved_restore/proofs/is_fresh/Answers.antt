@@ -1,14 +1,10 @@
 -- A node, a mount on the root, or neither. Assumes nothing.
-use borrow.Author.Rules.{rules}
-use native.Mathlib.Omega.{arith}
-use Rattle.saved_restore.proofs.StateTests.{has_nodes, root_mounted, root_bare}
+use Rattle.std.proofs.Common.{◌∙◌, ne_eqb, arith}
+use Rattle.saved_restore.proofs.StateTests.{has_nodes, root_decides}
 use Rattle.saved_restore.proofs.is_fresh.Goals as goal
 
-pub returns-then-count-gt0 : goal.returns-then-count-gt0
-returns-then-count-gt0 c = has_nodes _ (omega arith)
+pub returns-then-count-eq0 : goal.returns-then-count-eq0
+returns-then-count-eq0 c = root_decides _ (omega arith) _ _ c.of_root.ensures c.is_none.ensures
 
-pub returns-in-Point : goal.returns-in-Point
-returns-in-Point c = search (root_mounted, rules)
-
-pub returns-in-Nothing : goal.returns-in-Nothing
-returns-in-Nothing c = root_bare _ _ c.of_root.ensures c.in-Nothing.is (omega arith)
+pub returns-else-count-eq0 : goal.returns-else-count-eq0
+returns-else-count-eq0 c = ne_eqb c.count.result 0 c.if-count-eq0.false ∙ has_nodes _ (omega arith)

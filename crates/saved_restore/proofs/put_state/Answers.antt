@@ -7,4 +7,4 @@ use Rattle.saved_restore.proofs.put_state.Goals as goal
 pub returns : goal.returns
 returns c =
     let a = c.args in
-    c.put_u8-2.ensures ∙ (rw (c.put_u8.ensures, c.put_options.ensures, c.put_u64.ensures, c.initialized_byte-initialized.ensures) (state_put a.s.now a.next a.counter (options_in a.o)))
+    c.put_u8-2.ensures ∙ (rw (c.put_u8.ensures, c.put_options.ensures, c.put_u64.ensures, c.from.ensures) (state_put a.s.now a.next a.counter (options_in a.o)))

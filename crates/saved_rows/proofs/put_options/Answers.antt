@@ -2,4 +2,4 @@
 use Rattle.saved_rows.proofs.put_options.Goals as goal
 
 pub returns : goal.returns
-returns c = rw c.options_in-o.ensures at c.put_options.ensures
+returns c = rw c.options_in.ensures at c.put_options.ensures

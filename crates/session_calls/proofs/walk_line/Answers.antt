@@ -3,4 +3,4 @@ use Rattle.session_calls.proofs.Lines.{walk_wrote}
 use Rattle.session_calls.proofs.walk_line.Goals as goal
 
 pub returns : goal.returns
-returns c = walk_wrote _ _ _ _ _ _ _ c.path_walk-answer.ensures c.put_walked.ensures
+returns c = walk_wrote _ _ _ _ _ c.path_walk.ensures c.put_walked.ensures

@@ -1,40 +1,25 @@
--- `session_line::answer` meets its contract, by where the line is cut.
-use native.Mathlib.Omega.{arith}
-use Rattle.session_line.proofs.Cutting.{of_two, of_three, of_five, of_other}
-use Rattle.session_line.proofs.Replying.{by_line, no_form}
+-- `session_line::answer` meets its contract, by the form that was read.
+use mathlib.Core.Path.{sym, ap, ◌∙◌}
+use Rattle.std.specs.Prelude.{Some}
+use Rattle.session_line.specs.Fields.{line_in}
+use Rattle.session_line.proofs.Replying.{by_line, walks, looks, no_form}
 use Rattle.session_line.proofs.answer.Goals as goal
 
-pub at_two-requires : goal.at_two-requires
-at_two-requires c =
-    let h = of_two _ _ c.split.ensures _ c.in-Two.is in
-    record { at_in_bounds = omega arith; a_in_bounds = h.0 }
+pub returns-in-Some-Mount : goal.returns-in-Some-Mount
+returns-in-Some-Mount c =
+    by_line (sym (ap line_in (c.in-Some-Mount.is ∙ ap Some c.in-Some-Mount.field-0-is)) ∙ c.parse.ensures) c.mount_line.ensures
 
-pub at_three-requires : goal.at_three-requires
-at_three-requires c =
-    let h = of_three _ _ c.split.ensures _ _ c.in-Three.is in
-    record { at_in_bounds = omega arith; a_lt_b = h.0; b_in_bounds = h.1.0 }
+pub returns-in-Some-Umount : goal.returns-in-Some-Umount
+returns-in-Some-Umount c =
+    by_line (sym (ap line_in (c.in-Some-Umount.is ∙ ap Some c.in-Some-Umount.field-0-is)) ∙ c.parse.ensures) c.umount_line.ensures
 
-pub at_five-requires : goal.at_five-requires
-at_five-requires c =
-    let h = of_five _ _ c.split.ensures _ _ _ _ c.in-Five.is in
-    record { at_in_bounds = omega arith; a_lt_b = h.0; b_lt_c = h.1.0; c_lt_d = h.1.1.0; d_in_bounds = h.1.1.1.0 }
+pub returns-in-Some-Walk : goal.returns-in-Some-Walk
+returns-in-Some-Walk c =
+    by_line (sym (ap line_in (c.in-Some-Walk.is ∙ ap Some c.in-Some-Walk.field-0-is)) ∙ c.parse.ensures) (walks _ _ _ _ c.walk_line.ensures)
 
-pub returns-in-Two : goal.returns-in-Two
-returns-in-Two c =
-    let h = of_two _ _ c.split.ensures _ c.in-Two.is in
-    by_line _ _ _ _ _ _ _ _ h.1 c.at_two.ensures
+pub returns-in-Some-Look : goal.returns-in-Some-Look
+returns-in-Some-Look c =
+    by_line (sym (ap line_in (c.in-Some-Look.is ∙ ap Some c.in-Some-Look.field-0-is)) ∙ c.parse.ensures) (looks _ _ _ _ _ c.look_line.ensures)
 
-pub returns-in-Three : goal.returns-in-Three
-returns-in-Three c =
-    let h = of_three _ _ c.split.ensures _ _ c.in-Three.is in
-    by_line _ _ _ _ _ _ _ _ h.1.1 c.at_three.ensures
-
-pub returns-in-Five : goal.returns-in-Five
-returns-in-Five c =
-    let h = of_five _ _ c.split.ensures _ _ _ _ c.in-Five.is in
-    by_line _ _ _ _ _ _ _ _ h.1.1.1.1 c.at_five.ensures
-
-pub returns-in-Other : goal.returns-in-Other
-returns-in-Other c =
-    let h = of_other _ _ c.split.ensures c.in-Other.is in
-    no_form _ _ _ _ _ _ h c.put_question.ensures
+pub returns-in-None : goal.returns-in-None
+returns-in-None c = by_line (sym (ap line_in c.in-None.is) ∙ c.parse.ensures) (no_form _ _ _ c.put_question.ensures)

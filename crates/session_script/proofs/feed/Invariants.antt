@@ -1,12 +1,13 @@
--- After i bytes, what the rest leads to is what the whole piece leads to; a law for each way round.
+-- After so many bytes, what the rest leads to is what the whole piece leads to.
 use mathlib.Core.Path.{◌≡◌}
-use Prim.Native.Nat.{◌-◌}
 use lib.ListN.{length}
 use Rattle.session_script.proofs.Going.{SoFar}
 use Rattle.session_script.proofs.feed.Given as goal
 
-abbrev pub invariant-loop-i : goal.invariant-loop-i
-invariant-loop-i l = SoFar l.initial.s l.initial.carry l.kept l.piece l.initial.out l.s l.carry l.out l.line l.at l.i × (length l.s ≡ length l.initial.s)
-
-abbrev pub decreases-loop-i : goal.decreases-loop-i
-decreases-loop-i l = length l.piece - l.i
+abbrev pub invariant-loop-b : goal.invariant-loop-b
+invariant-loop-b l = record {
+  so_far : SoFar l.initial.s l.initial.line.carry.now l.initial.line.kept l.piece l.initial.text.out.now l.s l.line.carry.now l.text l.line.kept l.used;
+  counted : l.used ≡ l.b-index;
+  same_carry : l.line.carry.ghost_name ≡ l.initial.line.carry.ghost_name;
+  same_out : l.text.out.ghost_name ≡ l.initial.text.out.ghost_name;
+}

@@ -3,5 +3,4 @@ use Rattle.session_text.proofs.Writes.{backend}
 use Rattle.session_text.proofs.put_backend.Goals as goal
 
 pub returns : goal.returns
-returns c =
-    backend _ _ _ _ _ _ _ _ _ _ _ _ _ _ c.put_byte-i.ensures c.put_byte-j.ensures c.put_decimal-k.ensures c.put_byte-l.ensures c.put_decimal.ensures
+returns c = backend _ _ _ _ _ c.put_byte.ensures c.put_spaced.ensures

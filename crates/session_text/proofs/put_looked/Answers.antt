@@ -3,8 +3,8 @@ use borrow.Author.Rules.{rules}
 use Rattle.session_text.proofs.Numbers.{lookup_of, shows}
 use Rattle.session_text.proofs.put_looked.Goals as goal
 
-pub put_two-requires : goal.put_two-requires
-put_two-requires c = let s = lookup_of _ _ c.looked-a.ensures in search rules
+pub put_numbers-requires : goal.put_numbers-requires
+put_numbers-requires c = let s = lookup_of _ _ c.looked-a.ensures in search rules
 
 pub returns : goal.returns
-returns c = shows (lookup_of _ _ c.looked-a.ensures) c.put_two.ensures
+returns c = shows (lookup_of _ _ c.looked-a.ensures) c.put_numbers.ensures

@@ -3,8 +3,8 @@ use borrow.Author.Rules.{rules}
 use Rattle.session_text.proofs.Numbers.{mount_of, shows}
 use Rattle.session_text.proofs.put_mounted.Goals as goal
 
-pub put_three-requires : goal.put_three-requires
-put_three-requires c = let s = mount_of _ _ c.mounted-a.ensures in search rules
+pub put_numbers-requires : goal.put_numbers-requires
+put_numbers-requires c = let s = mount_of _ _ c.mounted-a.ensures in search rules
 
 pub returns : goal.returns
-returns c = shows (mount_of _ _ c.mounted-a.ensures) c.put_three.ensures
+returns c = shows (mount_of _ _ c.mounted-a.ensures) c.put_numbers.ensures

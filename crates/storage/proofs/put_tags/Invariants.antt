@@ -1,11 +1,6 @@
 -- The loop has written k tags. Assumes nothing.
-use Prim.Native.Nat.{◌-◌}
-use lib.ListN.{length}
 use Rattle.storage.proofs.Slots.{Tags}
 use Rattle.storage.proofs.put_tags.Given as goal
 
 abbrev pub invariant-loop-k : goal.invariant-loop-k
 invariant-loop-k l = Tags l.initial.s l.tags l.s l.k
-
-abbrev pub decreases-loop-k : goal.decreases-loop-k
-decreases-loop-k l = length l.tags - l.k

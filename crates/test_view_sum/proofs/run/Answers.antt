@@ -3,4 +3,4 @@ use Rattle.test_view_sum.proofs.Viewing.{run_is}
 use Rattle.test_view_sum.proofs.run.Goals as goal
 
 pub returns : goal.returns
-returns c = run_is _ _ _ _ _ _ _ c.least-from.ensures c.least.ensures c.with_run.ensures
+returns c = run_is _ _ _ _ _ _ _ c.min-from.ensures c.min.ensures c.with_run.ensures

@@ -1,50 +1,53 @@
--- `utf8::sequence_at` meets its contract: at each `return` the tests say of which row the first byte is. Assumes nothing.
-use mathlib.Core.Path.{sym, ◌∙◌}
+-- At each return the tests say of which row the first byte is.
+use mathlib.Core.Path.{◌∙◌}
 use native.Mathlib.Omega.{arith}
 use Rattle.rules.specs.Utf8.{table, fits}
-use Rattle.utf8.proofs.Table.{sequence_row, sequence_gap}
+use Rattle.utf8.proofs.Table.{row_some, gap_none, end_none}
 use Rattle.utf8.proofs.sequence_at.Goals as goal
+
+pub returns-in_err-b : goal.returns-in_err-b
+returns-in_err-b c = c.from_residual.ensures ∙ end_none c.args.s.now c.args.at c.in_err-b.ensures.lookup.3
 
 pub returns-then-b-lt128 : goal.returns-then-b-lt128
 unfolding table fits
-returns-then-b-lt128 c = sym (sequence_row _ _ c.requires 0 (omega arith))
+returns-then-b-lt128 c = let l = c.in_ok-b.ensures.lookup.3 in row_some _ _ l.0 0 (omega (arith, l.1 0))
 
 pub returns-then-b-lt194 : goal.returns-then-b-lt194
 unfolding table fits
-returns-then-b-lt194 c = sym (sequence_gap _ _ c.requires 1 (omega arith))
+returns-then-b-lt194 c = let l = c.in_ok-b.ensures.lookup.3 in gap_none _ _ l.0 1 (omega (arith, l.1 0))
 
 pub returns-then-b-lt224 : goal.returns-then-b-lt224
 unfolding table fits
-returns-then-b-lt224 c = c.two_bytes.ensures ∙ sym (sequence_row _ _ c.requires 1 (omega arith))
+returns-then-b-lt224 c = let l = c.in_ok-b.ensures.lookup.3 in c.tailed.ensures ∙ row_some _ _ l.0 1 (omega (arith, l.1 0))
 
 pub returns-then-b-lt225 : goal.returns-then-b-lt225
 unfolding table fits
-returns-then-b-lt225 c = c.three_bytes.ensures ∙ sym (sequence_row _ _ c.requires 2 (omega arith))
+returns-then-b-lt225 c = let l = c.in_ok-b.ensures.lookup.3 in c.tailed-then-b-lt225.ensures ∙ row_some _ _ l.0 2 (omega (arith, l.1 0))
 
 pub returns-then-b-lt237 : goal.returns-then-b-lt237
 unfolding table fits
-returns-then-b-lt237 c = c.three_bytes-then-b-lt237.ensures ∙ sym (sequence_row _ _ c.requires 3 (omega arith))
+returns-then-b-lt237 c = let l = c.in_ok-b.ensures.lookup.3 in c.tailed-then-b-lt237.ensures ∙ row_some _ _ l.0 3 (omega (arith, l.1 0))
 
 pub returns-then-b-lt238 : goal.returns-then-b-lt238
 unfolding table fits
-returns-then-b-lt238 c = c.three_bytes-then-b-lt238.ensures ∙ sym (sequence_row _ _ c.requires 4 (omega arith))
+returns-then-b-lt238 c = let l = c.in_ok-b.ensures.lookup.3 in c.tailed-then-b-lt238.ensures ∙ row_some _ _ l.0 4 (omega (arith, l.1 0))
 
 pub returns-then-b-lt240 : goal.returns-then-b-lt240
 unfolding table fits
-returns-then-b-lt240 c = c.three_bytes-then-b-lt240.ensures ∙ sym (sequence_row _ _ c.requires 5 (omega arith))
+returns-then-b-lt240 c = let l = c.in_ok-b.ensures.lookup.3 in c.tailed-then-b-lt240.ensures ∙ row_some _ _ l.0 5 (omega (arith, l.1 0))
 
 pub returns-then-b-lt241 : goal.returns-then-b-lt241
 unfolding table fits
-returns-then-b-lt241 c = c.four_bytes.ensures ∙ sym (sequence_row _ _ c.requires 6 (omega arith))
+returns-then-b-lt241 c = let l = c.in_ok-b.ensures.lookup.3 in c.tailed-then-b-lt241.ensures ∙ row_some _ _ l.0 6 (omega (arith, l.1 0))
 
 pub returns-then-b-lt244 : goal.returns-then-b-lt244
 unfolding table fits
-returns-then-b-lt244 c = c.four_bytes-then-b-lt244.ensures ∙ sym (sequence_row _ _ c.requires 7 (omega arith))
+returns-then-b-lt244 c = let l = c.in_ok-b.ensures.lookup.3 in c.tailed-then-b-lt244.ensures ∙ row_some _ _ l.0 7 (omega (arith, l.1 0))
 
 pub returns-then-b-lt245 : goal.returns-then-b-lt245
 unfolding table fits
-returns-then-b-lt245 c = c.four_bytes-then-b-lt245.ensures ∙ sym (sequence_row _ _ c.requires 8 (omega arith))
+returns-then-b-lt245 c = let l = c.in_ok-b.ensures.lookup.3 in c.tailed-then-b-lt245.ensures ∙ row_some _ _ l.0 8 (omega (arith, l.1 0))
 
 pub returns : goal.returns
 unfolding table fits
-returns c = sym (sequence_gap _ _ c.requires 9 (omega arith))
+returns c = let l = c.in_ok-b.ensures.lookup.3 in gap_none _ _ l.0 9 (omega (arith, l.1 0))

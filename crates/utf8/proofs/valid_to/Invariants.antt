@@ -5,8 +5,8 @@ use lib.ListN.{length, drop}
 use Rattle.rules.specs.Utf8.{valid_to}
 use Rattle.utf8.proofs.valid_to.Given as goal
 
-abbrev pub invariant-loop-i : goal.invariant-loop-i
-invariant-loop-i l = (l.i ≤ length l.s) × (l.i + valid_to (drop l.i l.s) ≡ valid_to l.s)
+abbrev pub invariant-loop-n : goal.invariant-loop-n
+invariant-loop-n l = (l.at ≤ length l.s) × (l.at + valid_to (drop l.at l.s) ≡ valid_to l.s)
 
-abbrev pub decreases-loop-i : goal.decreases-loop-i
-decreases-loop-i l = length l.s - l.i
+abbrev pub decreases-loop-n : goal.decreases-loop-n
+decreases-loop-n l = length l.s - l.at

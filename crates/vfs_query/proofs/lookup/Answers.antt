@@ -1,43 +1,33 @@
 -- The layout rule, then what the find gives, and the mount on it.
-use mathlib.Core.Path.{◌≡◌, sym, ap, ◌∙◌}
-use mathlib.Core.Bool.{true}
-use Rattle.tables.specs.Laid.{laid}
-use Rattle.tables.specs.Answer.{mount_in}
+use mathlib.Core.Path.{sym}
+use Rattle.std.proofs.lemmas.Result.{err_from_is_err_and}
 use Rattle.tables.proofs.Keeps.{laid_is}
-use Rattle.storage.proofs.Laid.{tells_small, laid_by_lem}
-use Rattle.vfs_query.specs.Told.{looked_told}
-use Rattle.vfs_query.proofs.Looks.{cross_noent, cross_inval, cross_mounted, cross_bare}
-use mathlib.Core.Bool.{not}
+use Rattle.storage.proofs.Laid.{told_small_lem}
+use Rattle.vfs_query.proofs.Looks.{cross_refused, cross_mounted, cross_bare}
 use Rattle.vfs_query.proofs.lookup.Goals as goal
 
-pub returns-then-not-is_laid : goal.returns-then-not-is_laid
-unfolding looked_told
-returns-then-not-is_laid c = tells_small _ _ c.is_laid.ensures _ (ap not c.if-not-is_laid.true)
+pub returns-in_err-check_laid : goal.returns-in_err-check_laid
+returns-in_err-check_laid c =
+    let p = err_from_is_err_and c.from_residual.result c.from_residual.ensures.1 in
+    let e = c.in_err-check_laid.ensures in
+    rw (p.1, p.2, e.0) (sym (told_small_lem _ _ e.1))
 
 pub find-requires : goal.find-requires
-find-requires c = laid_is _ (let it : laid c.args.s.now ≡ true = laid_by_lem _ _ c.is_laid.ensures (ap not c.if-not-is_laid.false) in it)
+find-requires c = laid_is _ c.in_ok-check_laid.ensures
+
+pub returns-in_err-x : goal.returns-in_err-x
+returns-in_err-x c =
+    let p = err_from_is_err_and c.from_residual-in_err-x.result c.from_residual-in_err-x.ensures.1 in
+    rw (p.1, p.2) (cross_refused _ _ _ c.in_ok-check_laid.ensures _ c.find.ensures _ c.in_err-x.was)
 
 pub of_node-requires : goal.of_node-requires
-of_node-requires c = laid_is _ (let it : laid c.args.s.now ≡ true = laid_by_lem _ _ c.is_laid.ensures (ap not c.if-not-is_laid.false) in it)
-
-pub root_entry-requires : goal.root_entry-requires
-root_entry-requires c = (let it : laid c.args.s.now ≡ true = laid_by_lem _ _ c.is_laid.ensures (ap not c.if-not-is_laid.false) in it)
+of_node-requires c = laid_is _ c.in_ok-check_laid.ensures
 
 pub pseudo_entry-requires : goal.pseudo_entry-requires
-pseudo_entry-requires c = laid_is _ (let it : laid c.args.s.now ≡ true = laid_by_lem _ _ c.is_laid.ensures (ap not c.if-not-is_laid.false) in it)
+pseudo_entry-requires c = laid_is _ c.in_ok-check_laid.ensures
 
-pub returns-in-Point : goal.returns-in-Point
-unfolding mount_in
-returns-in-Point c =
-    cross_mounted _ _ _ (let it : laid c.args.s.now ≡ true = laid_by_lem _ _ c.is_laid.ensures (ap not c.if-not-is_laid.false) in it) _ c.find.ensures _ c.in-Node.is _ _ (sym (ap mount_in c.in-Point.is) ∙ c.of_node.ensures) c.root_entry.ensures
+pub returns-in-Some : goal.returns-in-Some
+returns-in-Some c = cross_mounted _ _ _ c.in_ok-check_laid.ensures _ c.find.ensures _ c.in_ok-x.was _ _ c.in-Some.ensures c.root_entry.ensures
 
-pub returns-in-Nothing : goal.returns-in-Nothing
-unfolding mount_in
-returns-in-Nothing c =
-    cross_bare _ _ _ (let it : laid c.args.s.now ≡ true = laid_by_lem _ _ c.is_laid.ensures (ap not c.if-not-is_laid.false) in it) _ c.find.ensures _ c.in-Node.is _ (sym (ap mount_in c.in-Nothing.is) ∙ c.of_node.ensures) c.pseudo_entry.ensures
-
-pub returns-in-NoEnt : goal.returns-in-NoEnt
-returns-in-NoEnt c = cross_noent _ _ _ (let it : laid c.args.s.now ≡ true = laid_by_lem _ _ c.is_laid.ensures (ap not c.if-not-is_laid.false) in it) _ c.find.ensures c.in-NoEnt.is
-
-pub returns-in-Inval : goal.returns-in-Inval
-returns-in-Inval c = cross_inval _ _ _ (let it : laid c.args.s.now ≡ true = laid_by_lem _ _ c.is_laid.ensures (ap not c.if-not-is_laid.false) in it) _ c.find.ensures c.in-Inval.is
+pub returns-in-None : goal.returns-in-None
+returns-in-None c = cross_bare _ _ _ c.in_ok-check_laid.ensures _ c.find.ensures _ c.in_ok-x.was _ c.in-None.ensures c.pseudo_entry.ensures

@@ -1,7 +1,6 @@
--- Two bytes are one and one.
-use native.Mathlib.Omega.{arith}
-use Rattle.le.proofs.Lens.{get_add}
+-- The library's number of 2 bytes.
+use Rattle.le.proofs.Words.{value_2}
 use Rattle.le.proofs.fields.get_u16.Goals as goal
 
 pub returns : goal.returns
-returns c = let a = c.args in omega (arith, get_add 1 1 a.s.now a.at)
+returns c = rw c.from_le_bytes.ensures (rw c.bytes_at.ensures (value_2 _ _))

@@ -1,7 +1,6 @@
--- Four bytes are two and two.
-use native.Mathlib.Omega.{arith}
-use Rattle.le.proofs.Lens.{get_add}
+-- The library's number of 4 bytes.
+use Rattle.le.proofs.Words.{value_4}
 use Rattle.le.proofs.fields.get_u32.Goals as goal
 
 pub returns : goal.returns
-returns c = let a = c.args in omega (arith, get_add 2 2 a.s.now a.at)
+returns c = rw c.from_le_bytes.ensures (rw c.bytes_at.ensures (value_4 _ _))

@@ -1,7 +1,6 @@
--- Eight bytes are four and four.
-use native.Mathlib.Omega.{arith}
-use Rattle.le.proofs.Lens.{get_add}
+-- The library's number of 8 bytes.
+use Rattle.le.proofs.Words.{value_8}
 use Rattle.le.proofs.fields.get_u64.Goals as goal
 
 pub returns : goal.returns
-returns c = let a = c.args in omega (arith, get_add 4 4 a.s.now a.at)
+returns c = rw c.from_le_bytes.ensures (rw c.bytes_at.ensures (value_8 _ _))

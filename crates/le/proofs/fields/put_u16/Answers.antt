@@ -1,8 +1,7 @@
--- Two bytes are one and one.
-use Rattle.le.proofs.Lens.{put_both}
+-- The library's 2 bytes of a number, written at the place.
+use mathlib.Core.Path.{◌∙◌}
+use Rattle.le.proofs.Words.{low_put}
 use Rattle.le.proofs.fields.put_u16.Goals as goal
 
 pub returns : goal.returns
-returns c =
-    let a = c.args in
-    put_both 1 1 a.s.now _ _ a.at a.v c.put_u8.ensures c.put_u8-2.ensures
+returns c = c.copy_at.ensures ∙ low_put 2 _ _ _ c.args.v c.to_le_bytes.ensures

@@ -1,8 +1,7 @@
--- Four bytes are two and two.
-use Rattle.le.proofs.Lens.{put_both}
+-- The library's 4 bytes of a number, written at the place.
+use mathlib.Core.Path.{◌∙◌}
+use Rattle.le.proofs.Words.{low_put}
 use Rattle.le.proofs.fields.put_u32.Goals as goal
 
 pub returns : goal.returns
-returns c =
-    let a = c.args in
-    put_both 2 2 a.s.now _ _ a.at a.v c.put_u16.ensures c.put_u16-2.ensures
+returns c = c.copy_at.ensures ∙ low_put 4 _ _ _ c.args.v c.to_le_bytes.ensures

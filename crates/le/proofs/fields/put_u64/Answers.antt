@@ -1,8 +1,7 @@
--- Eight bytes are four and four.
-use Rattle.le.proofs.Lens.{put_both}
+-- The library's 8 bytes of a number, written at the place.
+use mathlib.Core.Path.{◌∙◌}
+use Rattle.le.proofs.Words.{low_put}
 use Rattle.le.proofs.fields.put_u64.Goals as goal
 
 pub returns : goal.returns
-returns c =
-    let a = c.args in
-    put_both 4 4 a.s.now _ _ a.at a.v c.put_u32.ensures c.put_u32-2.ensures
+returns c = c.copy_at.ensures ∙ low_put 8 _ _ _ c.args.v c.to_le_bytes.ensures

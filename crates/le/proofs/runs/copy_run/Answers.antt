@@ -1,15 +1,11 @@
--- The loop has copied i bytes of the run.
-use Rattle.le.specs.Mem.{read}
-use Rattle.le.proofs.Turns.{all_written, copied}
+-- The part that is written over then holds the run.
+use mathlib.Core.Path.{◌∙◌}
+use Rattle.rules.proofs.Fields.{length_read}
+use Rattle.le.proofs.Slices.{part_run, part_written}
 use borrow.Author.Rules.{rules}
 use Rattle.le.proofs.runs.copy_run.Goals as goal
 
-pub loop-i-init : goal.loop-i-init
-unfolding read
-loop-i-init c = search rules
-
-pub loop-i-preserved : goal.loop-i-preserved
-loop-i-preserved c = copied _ _ _ _ _ _ _ c.loop-i.invariant (search rules)
-
 pub returns : goal.returns
-returns c = let a = c.args in all_written _ _ (read a.src.now a.from) _ _ _ c.loop-i.invariant (search rules)
+returns c =
+    let a = c.args in
+    part_written a.dst.now _ _ a.at a.len (search rules) (length_read a.src.now a.from a.len) (c.copy_from_slice.ensures.after ∙ part_run a.src.now a.from a.len (search rules))

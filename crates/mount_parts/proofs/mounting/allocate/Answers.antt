@@ -1,5 +1,6 @@
 -- `mount_parts::mounting::allocate` meets its contract: the search, then its counter.
 use native.Mathlib.Omega.{arith}
+use borrow.Author.Rules.{rules}
 use Rattle.tables.proofs.Keeps.{laid_long}
 use Rattle.mount_parts.proofs.MountWays.{allocates}
 use Rattle.mount_parts.proofs.mounting.allocate.Goals as goal
@@ -11,4 +12,4 @@ pub set_counter-requires : goal.set_counter-requires
 set_counter-requires c = omega (arith, laid_long _ c.requires)
 
 pub returns : goal.returns
-returns c = allocates _ c.requires (λ i. (c.slice_known-1.given i).fits) _ c.search-a.ensures _ c.set_counter.ensures
+returns c = allocates _ c.requires (search rules) _ c.search-a.ensures _ c.set_counter.ensures

@@ -1,9 +1,10 @@
 -- `mount_parts::mounting::mount_at` meets its contract: each way through it by its law.
-use Rattle.mount_parts.proofs.MountWays.{large_mounted, placed_mounted}
+use Rattle.rules.specs.Outcome.{mounted}
+use Rattle.mount_parts.proofs.MountWays.{ends}
 use Rattle.mount_parts.proofs.mounting.mount_at.Goals as goal
 
-pub returns-then-root-gt-VFS_MAX_INO : goal.returns-then-root-gt-VFS_MAX_INO
-returns-then-root-gt-VFS_MAX_INO c = large_mounted _ _ _ _ c.requires.s_value c.if-root-gt-VFS_MAX_INO.true _
+pub returns-in-Ok : goal.returns-in-Ok
+returns-in-Ok c = ends _ _ _ _ _ _ c.in-Ok.ensures (λ u v. mounted c.args.fs_idx u) _
 
-pub returns : goal.returns
-returns c = placed_mounted _ _ _ _ c.if-root-gt-VFS_MAX_INO.false _ _ c.insert_mount-tags.ensures _
+pub returns-in-Err : goal.returns-in-Err
+returns-in-Err c = ends _ _ _ _ _ _ c.in-Err.ensures (λ u v. mounted c.args.fs_idx u) _

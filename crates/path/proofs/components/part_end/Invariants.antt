@@ -1,7 +1,5 @@
--- Eight bytes at a time, none of them the byte; then those that are left. The invariant: the part ends where it ends seen from `at`. Assumes nothing.
-use mathlib.Core.Path.{◌≡◌}
-use Prim.Native.Nat.{◌-◌, ◌≤◌}
-use lib.ListN.{length}
+-- The part ends where it ends seen from `at`.
+use Rattle.std.proofs.Common.{◌≡◌, ◌-◌, ◌≤◌, length}
 use Rattle.path.specs.Steps.{part_end}
 use Rattle.path.proofs.components.part_end.Given as goal
 

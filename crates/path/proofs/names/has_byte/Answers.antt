@@ -1,20 +1,10 @@
--- Eight bytes at a time, none of them the byte; then the last eight.
-use mathlib.Core.Path.{sym, ◌∙◌}
-use Rattle.path.proofs.Together.{none_yet, none_on, one_there, last_eight, holds_any}
-use borrow.Author.Rules.{rules}
+-- The byte is one of the name's.
+use Rattle.std.proofs.Common.{◌≡◌, ◌∙◌, eqb}
+use Rattle.std.specs.List.{list_any}
+use Rattle.path.proofs.Naming.{any_holds}
 use Rattle.path.proofs.names.has_byte.Goals as goal
 
-pub returns-then-n-lt8 : goal.returns-then-n-lt8
-returns-then-n-lt8 c = c.has_by_one.ensures
-
-pub loop-at-init : goal.loop-at-init
-loop-at-init c = none_yet _ _
-
-pub returns-then-any_byte : goal.returns-then-any_byte
-returns-then-any_byte c = sym (holds_any _ _ ∙ one_there _ _ _ c.loop-at.invariant (search rules) (sym c.any_byte.ensures ∙ c.if-any_byte.true))
-
-pub loop-at-preserved : goal.loop-at-preserved
-loop-at-preserved c = none_on _ _ _ c.loop-at.invariant (search rules) (sym c.any_byte.ensures ∙ c.if-any_byte.false)
-
 pub returns : goal.returns
-returns c = c.any_byte-2.ensures ∙ last_eight _ _ _ c.loop-at.invariant (search rules) (search rules) ∙ sym (holds_any _ _)
+returns c =
+    let e : c.contains.result ≡ list_any (λ y. eqb y c.args.b) c.args.name.now = c.contains.ensures.value in
+    e ∙ any_holds _ _

@@ -1,13 +1,11 @@
--- `path::names::is_dot` meets its contract. Assumes nothing.
-use mathlib.Core.Path.{sym}
-use mathlib.Core.List.{[], ◌∷◌}
-use Rattle.rules.specs.Path.{dot}
-use Rattle.rules.proofs.Same.{same_length}
-use Rattle.path.proofs.Naming.{dot_one}
+-- The two texts are compared byte for byte.
+use Rattle.std.proofs.Common.{◌≡◌, eqb, ap, ◌∙◌}
+use lib.Pointwise.{pointwise}
+use Rattle.rules.specs.Bytes.{same}
+use Rattle.rules.proofs.Same.{same_eq_of_slices}
 use Rattle.path.proofs.names.is_dot.Goals as goal
 
-pub returns-then-name-ne1 : goal.returns-then-name-ne1
-returns-then-name-ne1 c = sym (same_length _ (dot ∷ []) c.if-name-ne1.true)
-
 pub returns : goal.returns
-returns c = dot_one _ c.if-name-ne1.false
+returns c =
+    let e : c.eq.result ≡ pointwise eqb c.args.name.now c.as_slice.result.now = c.eq.ensures in
+    e ∙ same_eq_of_slices c.args.name.now c.as_slice.result.now ∙ ap (same c.args.name.now) c.as_slice.ensures

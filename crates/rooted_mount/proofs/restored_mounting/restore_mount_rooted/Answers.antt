@@ -1,13 +1,18 @@
--- `rooted_mount::restored_mounting::restore_mount_rooted` meets its contract: each way through it by its law.
-use borrow.Author.Rules.{rules}
+-- The walk finds the whole path, or the plan has what it lacks; or there is no room.
+use mathlib.Core.Path.{sym}
+use Rattle.std.proofs.lemmas.Result.{err_from_is_err_and}
 use Rattle.tables.proofs.Keeps.{laid_is}
-use Rattle.pseudo_fs.proofs.Walks.{reaches}
-use Rattle.rooted_mount.proofs.PlanWays.{found_leads, restores_way}
+use Rattle.rooted_mount.proofs.PlanWays.{walk_lacks, no_room_back}
 use Rattle.rooted_mount.proofs.restored_mounting.restore_mount_rooted.Goals as goal
 
 pub walk-requires : goal.walk-requires
-walk-requires c = search (laid_is, rules)
+walk-requires c = laid_is _ c.requires.s_value
 
-pub returns-in-Node : goal.returns-in-Node
-returns-in-Node c =
-    restores_way _ _ _ _ c.requires.s_value c.requires.path_value _ _ (found_leads _ _ c.requires.s_value _ (reaches _ _ c.walk.ensures _ c.in-Node.is)) _ _ c.restore_mount_at.ensures
+pub restore_mount_at_end-requires-clause-lacks : goal.restore_mount_at_end-requires-clause-lacks
+restore_mount_at_end-requires-clause-lacks c = walk_lacks _ _ c.requires.s_value _ (sym c.in-Some.ensures)
+
+pub returns-in_err-end : goal.returns-in_err-end
+returns-in_err-end c =
+    let p = err_from_is_err_and c.from_residual.result c.from_residual.ensures.1 in
+    let e = c.in_err-end.ensures in
+    rw (p.1, p.2, e.0) (no_room_back _ _ _ _ c.requires.s_value e.1)

@@ -17,6 +17,6 @@ pub returns : goal.returns
 returns c =
     let a = c.args in
     let mem = a.s.now in
-    (rw (c.first_at.ensures, c.capacity-n.ensures) at c.same_start.ensures)
+    (rw (c.at.ensures, c.capacity-n.ensures) at c.same_start.ensures)
     ∙ sym (child_named a.here a.name.now (node_at (capacity_of mem) mem a.i) (sym c.parent.ensures ∙ c.if-parent-here.false)
     ∙ alike_start _ _ _ _ (λ j. (c.type_inv.s j).fits) (λ j. (c.type_inv.name j).fits) (search rules) (search rules))

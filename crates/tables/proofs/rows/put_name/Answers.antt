@@ -7,5 +7,5 @@ pub returns : goal.returns
 returns c =
     let a = c.args in
     c.copy_run-2.ensures
-    ∙ rw (c.copy_run.ensures, c.put_u8.ensures, c.first_at.ensures, c.last_at-at.ensures, c.before_last-rest.ensures)
+    ∙ rw (c.copy_run.ensures, c.put_u8.ensures, c.at.ensures, c.at-at.ensures, c.saturating_sub-rest.ensures)
     (name_put a.s.now a.n a.i a.name.now)

@@ -7,5 +7,5 @@ pub returns : goal.returns
 returns c =
     let a = c.args in
     c.put_name.ensures
-    ∙ rw (c.put_u64-3.ensures, c.put_u64-2.ensures, c.put_u64.ensures, c.mount_at.ensures, c.parent_at.ensures, c.number_at.ensures)
+    ∙ rw (c.put_u64-3.ensures, c.put_u64-2.ensures, c.put_u64.ensures, c.at-2.ensures, c.at.ensures, c.number_at.ensures)
     (node_put a.s.now a.n a.i a.x a.parent a.name.now)

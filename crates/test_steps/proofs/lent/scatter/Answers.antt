@@ -1,13 +1,14 @@
 -- `test_steps::lent::scatter` meets its contract. The invariant: with the bytes that are left to draw all will stand. Assumes nothing.
-use Rattle.test_steps.proofs.Setting.{left_all, left_more, left_none}
-use borrow.Author.Rules.{rules}
+use Rattle.std.proofs.Common.{ℕ, arith}
+use Rattle.std.proofs.Math.ListN.{length-take, length-drop}
+use Rattle.test_steps.proofs.Setting.{left_all, left_more, left_none, scattered}
 use Rattle.test_steps.proofs.lent.scatter.Goals as goal
 
-pub loop-i-init : goal.loop-i-init
-loop-i-init c = (search rules, search rules, search rules, left_all _ _ _ _ _ _ c.least-from.ensures c.least-count.ensures)
+pub loop-b-init : goal.loop-b-init
+loop-b-init c = left_all _ _ _ (omega (arith, length-take {A = ℕ}, length-drop {A = ℕ}))
 
-pub loop-i-preserved : goal.loop-i-preserved
-loop-i-preserved c = (search rules, search rules, search rules, left_more _ _ _ _ _ _ _ _ _ c.loop-i.invariant.3 _ _ c.loop-i-test.true c.following-x.ensures c.low8.ensures)
+pub loop-b-preserved : goal.loop-b-preserved
+loop-b-preserved c = left_more _ _ _ _ _ c.loop-b.invariant _ _ (omega arith) c.following-x.ensures c.low8.ensures
 
 pub returns : goal.returns
-returns c = left_none _ _ _ _ _ _ _ _ _ c.loop-i.invariant.3 c.loop-i-test.false
+returns c = scattered _ _ _ _ _ _ _ c.least-from.ensures c.least-count.ensures (left_none _ _ _ _ _ c.loop-b.invariant (omega arith))

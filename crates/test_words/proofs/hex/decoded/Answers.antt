@@ -1,24 +1,28 @@
--- `test_words::hex::decoded` meets its contract. The invariant: n bytes stand, and with what is left to spell the whole text will. Assumes nothing.
-use mathlib.Core.Path.{refl}
+-- `test_words::hex::decoded` meets its contract. Assumes nothing.
+use Rattle.std.proofs.Common.{arith, sym, ◌∙◌}
 use Rattle.test_words.proofs.Filling.{rest_all, ended, full, one_more}
-use Rattle.test_words.proofs.Spelling.{percents_past, percents_plain, percents_spelt}
-use borrow.Author.Rules.{rules}
+use Rattle.test_words.proofs.Spelling.{percents_end, percents_plain, percents_spelt, front_long}
 use Rattle.test_words.proofs.hex.decoded.Goals as goal
+use Rattle.test_words.proofs.hex.decoded.Goals.{in-Some, in-None}
 
-pub loop-i-init : goal.loop-i-init
-loop-i-init c = (refl, rest_all _ _ _)
+pub loop-n-init : goal.loop-n-init
+loop-n-init c = rest_all _ _ _
 
-pub returns-then-out-n : goal.returns-then-out-n
-returns-then-out-n c = full _ (search rules) (search rules) c.loop-i.invariant.1
+pub returns-in_default : goal.returns-in_default
+returns-in_default c = ended _ (omega arith) (percents_end _ (omega arith)) c.loop-n.invariant
 
-pub loop-i-preserved-then-p-lt256 : goal.loop-i-preserved-then-p-lt256
-loop-i-preserved-then-p-lt256 c =
-    (search rules, one_more _ _ (search rules) (percents_spelt c.args.w.now c.loop-i.i _ _ _ c.escaped-p.ensures c.byte_at.ensures c.byte_at-in-loop-i.ensures c.if-p-lt256.true) c.loop-i.invariant.1)
+pub slice_bounds-byte-count : goal.slice_bounds-byte-count
+slice_bounds-byte-count c = front_long _ _ (sym c.escaped.ensures ∙ c.in-Some.is)
 
-pub loop-i-preserved : goal.loop-i-preserved
-loop-i-preserved c =
-    (search rules, one_more _ _ (search rules) (percents_plain c.args.w.now c.loop-i.i _ _ _ c.escaped-p.ensures c.byte_at.ensures c.byte_at-in-loop-i.ensures c.loop-i-test.true c.if-p-lt256.false) c.loop-i.invariant.1)
+pub slice_bounds-byte-start : goal.slice_bounds-byte-start
+slice_bounds-byte-start c = front_long _ _ (sym c.escaped.ensures ∙ c.in-Some.is)
+
+pub loop-n-preserved : goal.loop-n-preserved
+loop-n-preserved c =
+    elim c.match-escaped.branch [
+      | in-Some w ↦ rw w.byte-is (one_more _ _ (omega arith) (percents_spelt _ _ (sym c.escaped.ensures ∙ w.in-Some.is)) c.loop-n.invariant)
+      | in-None w ↦ rw w.byte-is (one_more _ _ (omega arith) (percents_plain _ (omega arith) (sym c.escaped.ensures ∙ w.in-None.is)) c.loop-n.invariant)
+    ]
 
 pub returns : goal.returns
-returns c =
-    ended _ (search rules) (percents_past c.args.w.now c.loop-i.i c.loop-i-test.false) c.loop-i.invariant.1
+returns c = full _ (omega arith) (omega arith) c.loop-n.invariant

@@ -1,24 +1,22 @@
--- `test_words::hex::pairs` meets its contract. The invariant: n bytes stand, and with what is left to spell the whole text will. Assumes nothing.
-use mathlib.Core.Path.{refl}
+-- `test_words::hex::pairs` meets its contract. Assumes nothing.
+use Rattle.std.proofs.Common.{◌≡◌, arith, drop, refl, sym, ap, ◌∙◌}
 use Rattle.test_words.proofs.Filling.{rest_all, ended, full, one_more}
-use Rattle.test_words.proofs.Spelling.{pairs_past, pairs_stop, pairs_more}
-use borrow.Author.Rules.{rules}
+use Rattle.test_words.proofs.Spelling.{from_get, bytes_end, bytes_stop, bytes_more}
 use Rattle.test_words.proofs.hex.pairs.Goals as goal
 
-pub loop-i-init : goal.loop-i-init
-loop-i-init c = (refl, rest_all _ _ _)
+pub loop-n-init : goal.loop-n-init
+loop-n-init c =
+    let e : c.unwrap_or-rest.result.now ≡ drop c.args.at c.args.s.now = ap (λ r. r.now) c.unwrap_or-rest.ensures ∙ from_get c.args.s.now c.args.at c.get.result _ c.get.ensures.lookup.0 refl in
+    rw e (rest_all _ _ _)
 
-pub returns-then-p-gt255 : goal.returns-then-p-gt255
-returns-then-p-gt255 c =
-    ended _ (search rules) (pairs_stop c.args.s.now c.loop-i.i _ _ c.pair-p.ensures c.byte_at.ensures c.if-p-gt255.true) c.loop-i.invariant.1
+pub returns-in_default : goal.returns-in_default
+returns-in_default c = ended _ (omega arith) (bytes_end _ (omega arith)) c.loop-n.invariant
 
-pub returns-then-out-n : goal.returns-then-out-n
-returns-then-out-n c = full _ (search rules) (search rules) c.loop-i.invariant.1
+pub returns-in_default-pair : goal.returns-in_default-pair
+returns-in_default-pair c = ended _ (omega arith) (bytes_stop _ (sym c.pair.ensures ∙ c.in_default-pair.is)) c.loop-n.invariant
 
-pub loop-i-preserved : goal.loop-i-preserved
-loop-i-preserved c =
-    (search rules, one_more _ _ (search rules) (pairs_more c.args.s.now c.loop-i.i _ _ c.pair-p.ensures c.byte_at.ensures c.if-p-gt255.false) c.loop-i.invariant.1)
+pub loop-n-preserved : goal.loop-n-preserved
+loop-n-preserved c = one_more _ _ (omega arith) (bytes_more _ _ (omega arith) (sym c.pair.ensures ∙ c.in-Some.is)) c.loop-n.invariant
 
 pub returns : goal.returns
-returns c =
-    ended _ (search rules) (pairs_past c.args.s.now c.loop-i.i c.loop-i-test.false) c.loop-i.invariant.1
+returns c = full _ (omega arith) (omega arith) c.loop-n.invariant

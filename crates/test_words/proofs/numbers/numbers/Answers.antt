@@ -1,40 +1,19 @@
--- `test_words::numbers::numbers` meets its contract. The invariant: k numbers stand, and with those left to find all of them will. Assumes nothing.
-use native.Mathlib.Nat.{le_of_lt}
-use native.Mathlib.Omega.{arith}
-use mathlib.Core.Path.{sym, ap, ◌∙◌}
-use Rattle.decimal.specs.Read.{value_in}
-use Rattle.path.proofs.Words.{end_in}
-use Rattle.test_words.proofs.Finding.{rest_all, rest_full, rest_past, rest_value, rest_bad}
+-- `test_words::numbers::numbers` meets its contract. Assumes nothing.
+use Rattle.std.proofs.Common.{eqb, refl, ap, ◌∙◌, rules, tests}
+use Rattle.std.proofs.lemmas.Iterator.{YieldsList-from_take}
+use Rattle.std.proofs.lemmas.Iterator.Consumers.{YieldsList-at, YieldsList-from_filter_map, YieldsList-from_enumerate, YieldsList-turn, YieldsList-end}
+use Rattle.std.proofs.lemmas.Iterator.Splits.{YieldsList-from_slice_split}
+use Rattle.rules.specs.Session.{shown}
+use Rattle.decimal.specs.Read.{number_to}
+use Rattle.test_words.proofs.Finding.{largest, numbers_found, turn_more, turn_end}
 use Rattle.test_words.proofs.numbers.numbers.Goals as goal
-use Rattle.test_words.proofs.numbers.numbers.Goals.{in-Value, in-Bad}
 
-pub loop-at-init : goal.loop-at-init
-loop-at-init c = rest_all _
+pub loop-k-init : goal.loop-k-init
+unfolding shown
+loop-k-init c = refl
 
-pub returns-then-k-ge8 : goal.returns-then-k-ge8
-returns-then-k-ge8 c = rest_full _ _ _ _ c.if-k-ge8.true c.loop-at.invariant
-
-pub slice_bounds-read-count : goal.slice_bounds-read-count
-slice_bounds-read-count c = omega (arith, (end_in _ _ _ c.part_end-end.ensures (le_of_lt c.loop-at-test.true)).0)
-
-pub slice_bounds-read-start : goal.slice_bounds-read-start
-slice_bounds-read-start c = omega (arith, (end_in _ _ _ c.part_end-end.ensures (le_of_lt c.loop-at-test.true)).0)
-
-pub slice_bounds-read-end : goal.slice_bounds-read-end
-slice_bounds-read-end c = omega (arith, (end_in _ _ _ c.part_end-end.ensures (le_of_lt c.loop-at-test.true)).0, (end_in _ _ _ c.part_end-end.ensures (le_of_lt c.loop-at-test.true)).1)
-
-pub overflow_add-at : goal.overflow_add-at
-overflow_add-at c = omega (arith, (end_in _ _ _ c.part_end-end.ensures (le_of_lt c.loop-at-test.true)).1)
-
-pub loop-at-smaller : goal.loop-at-smaller
-loop-at-smaller c = omega (arith, (end_in _ _ _ c.part_end-end.ensures (le_of_lt c.loop-at-test.true)).0)
-
-pub loop-at-preserved : goal.loop-at-preserved
-loop-at-preserved c =
-    elim c.match-read.branch [
-      | in-Value w ↦ rw (w.r-is, w.k-is) (rest_value _ _ _ _ _ c.part_end-end.ensures _ (sym c.read.ensures ∙ ap value_in w.in-Value.is) (omega (arith, c.if-k-ge8.false)) c.loop-at.invariant)
-      | in-Bad w ↦ rw (w.r-is, w.k-is) (rest_bad _ _ _ _ _ c.part_end-end.ensures (sym c.read.ensures ∙ ap value_in w.in-Bad.is) c.loop-at.invariant)
-    ]
+pub loop-k-preserved : goal.loop-k-preserved
+loop-k-preserved c = turn_more _ _ _ _ _ c.loop-k.invariant (YieldsList-turn (YieldsList-at c.into_iter-k-iterator.ensures.into_iter_gives (YieldsList-from_enumerate (YieldsList-at c.enumerate-k-items.ensures.source (YieldsList-from_take 8 (YieldsList-at c.take.ensures.source (YieldsList-from_filter_map _ (number_to largest) (YieldsList-at c.filter_map-values.ensures.source (YieldsList-from_slice_split _ (λ b. eqb b 32) c.args.line.now c.split.ensures.rest c.split.ensures.done c.split.ensures.closure (λ x b q k. search (rules, tests)))) c.filter_map-values.ensures.closure (λ x r q k. search (rules, tests)))) c.take.ensures.count)) c.enumerate-k-items.ensures.count)) c.loop-k.yielded _ c.loop-k.yielded_by _ _ (c.in-Some.k, c.in-Some.v) c.in-Some.is c.next.ensures.steps)
 
 pub returns : goal.returns
-returns c = rest_past _ _ _ _ c.loop-at-test.false c.loop-at.invariant
+returns c = turn_end _ _ _ c.loop-k.invariant (YieldsList-end (YieldsList-at c.into_iter-k-iterator.ensures.into_iter_gives (YieldsList-from_enumerate (YieldsList-at c.enumerate-k-items.ensures.source (YieldsList-from_take 8 (YieldsList-at c.take.ensures.source (YieldsList-from_filter_map _ (number_to largest) (YieldsList-at c.filter_map-values.ensures.source (YieldsList-from_slice_split _ (λ b. eqb b 32) c.args.line.now c.split.ensures.rest c.split.ensures.done c.split.ensures.closure (λ x b q k. search (rules, tests)))) c.filter_map-values.ensures.closure (λ x r q k. search (rules, tests)))) c.take.ensures.count)) c.enumerate-k-items.ensures.count)) c.loop-k.yielded _ c.loop-k.yielded_by _ _ c.in-None.is c.next.ensures.steps).0 ∙ ap (shown 8) (numbers_found c.args.line.now)

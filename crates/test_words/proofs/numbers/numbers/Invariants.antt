@@ -1,11 +1,7 @@
--- `test_words::numbers::numbers` meets its contract. The invariant: k numbers stand, and with those left to find all of them will. Assumes nothing.
-use Prim.Native.Nat.{◌-◌}
-use lib.ListN.{length}
-use Rattle.test_words.proofs.Finding.{Rest}
+-- `test_words::numbers::numbers` meets its contract. The invariant: the numbers so far stand. Assumes nothing.
+use Rattle.std.proofs.Common.{◌≡◌, map}
+use Rattle.rules.specs.Session.{shown}
 use Rattle.test_words.proofs.numbers.numbers.Given as goal
 
-abbrev pub invariant-loop-at : goal.invariant-loop-at
-invariant-loop-at l = Rest l.line l.r l.k l.at
-
-abbrev pub decreases-loop-at : goal.decreases-loop-at
-decreases-loop-at l = length l.line - l.at
+abbrev pub invariant-loop-k : goal.invariant-loop-k
+invariant-loop-k l = l.r ≡ shown 8 (map (λ p. p.1) l.yielded)

@@ -1,32 +1,31 @@
 -- `vfs::restored_mounting::restore_mount` meets its contract: each way through it by its law.
-use Rattle.vfs.proofs.FirstRows.{Passed, small, too_long_lem, bad_bytes, passed, slash_by}
+use mathlib.Core.Path.{sym}
+use Rattle.std.proofs.lemmas.Result.{err_from_is_err_and}
+use Rattle.vfs.proofs.FirstRows.{stopped, passes}
 use Rattle.vfs.proofs.RestoredMountCalls.{restore_begins, index_by, bad_index, large_back, no_slash_back, slash_back}
-use mathlib.Core.Path.{ap}
-use mathlib.Core.Bool.{not}
 use Rattle.vfs.proofs.restored_mounting.restore_mount.Goals as goal
 
-pub returns-then-not-is_laid : goal.returns-then-not-is_laid
-returns-then-not-is_laid c = small _ _ _ _ _ _ _ (restore_begins _ _ _ _) _ c.is_laid.ensures (ap not c.if-not-is_laid.true)
-
-pub returns-then-is_too_long : goal.returns-then-is_too_long
-returns-then-is_too_long c = too_long_lem _ _ _ _ _ _ _ (restore_begins _ _ _ _) _ c.is_laid.ensures (ap not c.if-not-is_laid.false) _ c.is_too_long.ensures c.if-is_too_long.true
-
-pub returns-then-not-is_utf8 : goal.returns-then-not-is_utf8
-returns-then-not-is_utf8 c = bad_bytes _ _ _ _ _ _ _ (restore_begins _ _ _ _) _ c.is_laid.ensures (ap not c.if-not-is_laid.false) _ c.is_too_long.ensures c.if-is_too_long.false _ c.is_utf8.ensures (ap not c.if-not-is_utf8.true)
+pub returns-in_err-check_first : goal.returns-in_err-check_first
+returns-in_err-check_first c =
+    let p = err_from_is_err_and c.from_residual.result c.from_residual.ensures.1 in
+    rw (p.1, p.2) (stopped _ _ _ _ (restore_begins _ _ _ _) _ c.in_err-check_first.ensures)
 
 pub returns-then-fs_idx-eq-VFS_PSEUDO_FS_IDX : goal.returns-then-fs_idx-eq-VFS_PSEUDO_FS_IDX
-returns-then-fs_idx-eq-VFS_PSEUDO_FS_IDX c = bad_index _ _ _ _ (let it : Passed c.args.s.now c.args.path.now = passed _ _ _ c.is_laid.ensures (ap not c.if-not-is_laid.false) _ c.is_too_long.ensures c.if-is_too_long.false _ c.is_utf8.ensures (ap not c.if-not-is_utf8.false) in it) c.if-fs_idx-eq-VFS_PSEUDO_FS_IDX.true
+returns-then-fs_idx-eq-VFS_PSEUDO_FS_IDX c = bad_index _ _ _ _ (passes _ _ _ c.in_ok-check_first.ensures) c.if-fs_idx-eq-VFS_PSEUDO_FS_IDX.true
 
 pub returns-then-b-gt-VFS_MAX_INO : goal.returns-then-b-gt-VFS_MAX_INO
-returns-then-b-gt-VFS_MAX_INO c = large_back _ _ _ _ (let it : Passed c.args.s.now c.args.path.now = passed _ _ _ c.is_laid.ensures (ap not c.if-not-is_laid.false) _ c.is_too_long.ensures c.if-is_too_long.false _ c.is_utf8.ensures (ap not c.if-not-is_utf8.false) in it) c.if-fs_idx-eq-VFS_PSEUDO_FS_IDX.false c.if-b-gt-VFS_MAX_INO.true
+returns-then-b-gt-VFS_MAX_INO c = large_back _ _ _ _ (passes _ _ _ c.in_ok-check_first.ensures) c.if-fs_idx-eq-VFS_PSEUDO_FS_IDX.false c.if-b-gt-VFS_MAX_INO.true
 
 pub returns-then-not-is_rooted : goal.returns-then-not-is_rooted
-returns-then-not-is_rooted c = no_slash_back _ _ _ _ (let it : Passed c.args.s.now c.args.path.now = passed _ _ _ c.is_laid.ensures (ap not c.if-not-is_laid.false) _ c.is_too_long.ensures c.if-is_too_long.false _ c.is_utf8.ensures (ap not c.if-not-is_utf8.false) in it) c.if-fs_idx-eq-VFS_PSEUDO_FS_IDX.false c.if-b-gt-VFS_MAX_INO.false _ c.is_rooted.ensures (ap not c.if-not-is_rooted.true)
+returns-then-not-is_rooted c =
+    no_slash_back _ _ _ _ (passes _ _ _ c.in_ok-check_first.ensures) c.if-fs_idx-eq-VFS_PSEUDO_FS_IDX.false c.if-b-gt-VFS_MAX_INO.false (sym c.if-not-is_rooted.ensures)
 
 pub restore_mount_rooted-requires : goal.restore_mount_rooted-requires
 restore_mount_rooted-requires c =
-    let p = (let it : Passed c.args.s.now c.args.path.now = passed _ _ _ c.is_laid.ensures (ap not c.if-not-is_laid.false) _ c.is_too_long.ensures c.if-is_too_long.false _ c.is_utf8.ensures (ap not c.if-not-is_utf8.false) in it) in
-    record { s_value = p.laid; path_value = p.fits; path_value_2 = slash_by _ _ c.is_rooted.ensures (ap not c.if-not-is_rooted.false); le_fs_idx = index_by _ c.if-fs_idx-eq-VFS_PSEUDO_FS_IDX.false }
+    let p = passes _ _ _ c.in_ok-check_first.ensures in
+    record { s_value = p.laid; path_value = p.fits; path_value_2 = sym c.if-not-is_rooted.ensures; le_fs_idx = index_by _ c.if-fs_idx-eq-VFS_PSEUDO_FS_IDX.false }
 
 pub returns : goal.returns
-returns c = slash_back _ _ _ _ (let it : Passed c.args.s.now c.args.path.now = passed _ _ _ c.is_laid.ensures (ap not c.if-not-is_laid.false) _ c.is_too_long.ensures c.if-is_too_long.false _ c.is_utf8.ensures (ap not c.if-not-is_utf8.false) in it) c.if-fs_idx-eq-VFS_PSEUDO_FS_IDX.false c.if-b-gt-VFS_MAX_INO.false _ c.is_rooted.ensures (ap not c.if-not-is_rooted.false) _ _ c.restore_mount_rooted.ensures
+returns c =
+    slash_back _ _ _ _ (passes _ _ _ c.in_ok-check_first.ensures) c.if-fs_idx-eq-VFS_PSEUDO_FS_IDX.false c.if-b-gt-VFS_MAX_INO.false (sym c.if-not-is_rooted.ensures) _ _
+    c.restore_mount_rooted.ensures

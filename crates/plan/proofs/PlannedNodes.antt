@@ -1,0 +1,164 @@
+-- The planned nodes: searched, asked for a parent, a part of them, and one more. Assumes nothing.
+use mathlib.Core.Path.{◌≡◌, refl, sym, ap, ◌∙◌}
+use mathlib.Core.Bool.{Bool, true, false, cond, and-false}
+use mathlib.Core.List.{List, [], ◌∷◌, ◌++◌}
+use Rattle.std.specs.Prelude.{None, Some}
+use Prim.Native.Nat.{ℕ, zero, suc, ◌+◌, ◌-◌, ◌≤◌, ◌<◌}
+use native.Mathlib.Nat.{sub-zero, min-eq_left}
+use native.Mathlib.Omega.{arith}
+use native.Mathlib.Decide.{ℕ_discrete}
+use lib.ListN.{length, set, take, length-take}
+use lib.Seq.{get_or-set_same, get_or-set_other, get_or-take}
+use lib.Dec.{eqb}
+use borrow.Author.Tests.{eq-eqb, ne_eqb}
+use Rattle.le.specs.Mem.{read}
+use Rattle.rules.specs.Bytes.{same}
+use Rattle.rules.specs.Numbers.{root_number}
+use Rattle.rules.specs.Tree.{Node, bare, is_child, child_in, node_in, parent_of, parent_in}
+use Rattle.rules.proofs.Same.{same_length}
+use Rattle.rules.proofs.Fields.{read_slice, read_all}
+use Rattle.rules.proofs.Walk.{node_append, node_second}
+use Rattle.path.specs.Steps.{part}
+use Rattle.path.proofs.Places.{part_length}
+use Rattle.tables.specs.Table.{tab}
+use Rattle.tables.specs.Layout.{capacity_of, next_of}
+use Rattle.tables.specs.View.{node_at, nodes_of}
+use Rattle.tables.specs.Answer.{place_in}
+use Rattle.tables.proofs.Tab.{length_tab, tab_next, tab_done, tab_same, tab_append}
+use Rattle.tables.proofs.RowOf.{place_nowhere, node_found}
+use Rattle.plan.specs.declared.PlannedNode.{PlannedNode}
+use Rattle.plan.specs.declared.TheConstants.{UNPLANNED}
+use Rattle.plan.specs.Plan.{note_at, planned_at, planned_from, Within}
+
+-- ---- whether a planned node is the child of a name
+
+-- a planned node, whatever its number is
+abbrev pub node : List ℕ → PlannedNode → Node
+node path n = bare 0 n.parent (part path n.start n.len)
+
+module _ (path : List ℕ) (n : PlannedNode) (here : ℕ) (p : List ℕ) where
+  pub is_else : (n.parent ≡ here → ⊥) → false ≡ is_child here p (node path n)
+  unfolding is_child
+  is_else h = rw (ne_eqb n.parent here h)
+
+  module _ (h : n.start + n.len ≤ length path) where
+    pub is_longer : (n.len ≡ length p → ⊥) → false ≡ is_child here p (node path n)
+    unfolding is_child
+    is_longer d =
+        let k = part_length path n.start n.len h in
+        let q : same (part path n.start n.len) p ≡ false = same_length (part path n.start n.len) p (λ f. d (sym k ∙ f)) in
+        rw (q, and-false)
+
+    pub is_named : n.parent ≡ here → n.len ≡ length p → {r : Bool} → r ≡ same (read path n.start n.len) (read p 0 n.len) → r ≡ is_child here p (node path n)
+    unfolding is_child
+    is_named m k q =
+        let all : read p 0 n.len ≡ p = rw k (read_all p) in
+        q ∙ rw (all, read_slice path n.start n.len h, eq-eqb n.parent here m)
+
+-- ---- the search: what is left to find is what was to find
+
+abbrev pub Seeks : List ℕ → ℕ → List PlannedNode → ℕ → ℕ → List ℕ → ℕ → Type 0
+Seeks path next t count here p j =
+    (j ≤ count) × (child_in (planned_from path next t 0 count) here p ≡ child_in (planned_from path next t j (count - j)) here p)
+
+module _ (path : List ℕ) (next : ℕ) (t : List PlannedNode) (count here : ℕ) (p : List ℕ) where
+  pub seek_begins : Seeks path next t count here p 0
+  seek_begins = (omega arith, rw sub-zero)
+
+  module _ (j : ℕ) (s : Seeks path next t count here p j) where
+    -- a child's number is not asked
+    pub seek_here : j < count → true ≡ is_child here p (node path (note_at t j)) → child_in (planned_from path next t 0 count) here p ≡ Some (next + j)
+    unfolding child_in is_child planned_at planned_from
+    seek_here h e = s.1 ∙ rw (tab_next (planned_at path next t) j count h, ← e)
+
+    pub seek_on : j < count → false ≡ is_child here p (node path (note_at t j)) → Seeks path next t count here p (j + 1)
+    unfolding child_in is_child planned_at planned_from
+    seek_on h e = (omega arith, s.1 ∙ rw (tab_next (planned_at path next t) j count h, ← e))
+
+    pub seek_none : count ≤ j → child_in (planned_from path next t 0 count) here p ≡ None
+    unfolding child_in planned_from
+    seek_none h = s.1 ∙ rw (tab_done (planned_at path next t) j count h)
+
+-- ---- the planned node of a number
+
+module _ (path : List ℕ) (next : ℕ) (t : List PlannedNode) (x : ℕ) where
+  at_before : (j k : ℕ) → x < next + j → node_in (tab (planned_at path next t) j k) x ≡ None
+  unfolding node_in tab planned_at
+  at_before j zero h = refl
+  at_before j (suc k) h = rw (ne_eqb (next + j) x (λ e. omega arith)) (at_before (j + 1) k (omega arith))
+
+  at_behind : (j k : ℕ) → next + (j + k) ≤ x → node_in (tab (planned_at path next t) j k) x ≡ None
+  unfolding node_in tab planned_at
+  at_behind j zero h = refl
+  at_behind j (suc k) h = rw (ne_eqb (next + j) x (λ e. omega arith)) (at_behind (j + 1) k (omega arith))
+
+  at_planned : (j k : ℕ) → next + j ≤ x → x < next + (j + k) → node_in (tab (planned_at path next t) j k) x ≡ Some (planned_at path next t (x - next))
+  unfolding node_in tab planned_at
+  at_planned j zero h l = absurd (omega arith)
+  at_planned j (suc k) h l = go (ℕ_discrete (next + j) x) (λ (m : next + (j + 1) ≤ x). at_planned (j + 1) k m (omega arith))
+    where
+      go : Dec (next + j ≡ x) → (next + (j + 1) ≤ x → node_in (tab (planned_at path next t) (j + 1) k) x ≡ Some (planned_at path next t (x - next)))
+          → cond (eqb (next + j) x) (Some (planned_at path next t j)) (node_in (tab (planned_at path next t) (j + 1) k) x) ≡ Some (planned_at path next t (x - next))
+      go (yes e) ih = let f : x - next ≡ j = omega arith in rw (eq-eqb (next + j) x e, f)
+      go (no d) ih = rw (ne_eqb (next + j) x d) (ih (omega arith))
+
+-- ---- the parent of a node, live or planned
+
+module _ (mem path : List ℕ) (t : List PlannedNode) (count x : ℕ) (d : x ≡ root_number → ⊥) where
+  abbrev all : List Node
+  all = nodes_of mem ++ planned_from path (next_of mem) t 0 count
+
+  pub up_live : (i : ℕ) → place_in (nodes_of mem) x ≡ Some i → (node_at (capacity_of mem) mem i).parent ≡ parent_in all x
+  unfolding parent_in
+  up_live i e =
+      rw (ne_eqb x 1 d, node_append (nodes_of mem) (planned_from path (next_of mem) t 0 count) x (node_at (capacity_of mem) mem i) (node_found mem x i e))
+
+  module _ (e : place_in (nodes_of mem) x ≡ None) where
+    -- among the planned nodes alone
+    up_second : parent_in all x ≡ parent_of (node_in (planned_from path (next_of mem) t 0 count) x)
+    unfolding parent_in
+    up_second = rw (ne_eqb x 1 d, node_second (nodes_of mem) (planned_from path (next_of mem) t 0 count) x (place_nowhere (nodes_of mem) x e).node)
+
+    pub up_before : x < next_of mem → root_number ≡ parent_in all x
+    unfolding planned_from
+    up_before h = sym (up_second ∙ ap parent_of (at_before path (next_of mem) t x 0 count (omega arith)))
+
+    pub up_planned : (y : ℕ) → y ≡ next_of mem → y ≤ x → x - y < count → (note_at t (x - y)).parent ≡ parent_in all x
+    unfolding planned_from planned_at
+    up_planned y q h l = rw q (sym (up_second ∙ ap parent_of (at_planned path (next_of mem) t x 0 count (omega arith) (omega arith))))
+
+    pub up_behind : next_of mem ≤ x → count ≤ x - next_of mem → root_number ≡ parent_in all x
+    unfolding planned_from
+    up_behind h l = sym (up_second ∙ ap parent_of (at_behind path (next_of mem) t x 0 count (omega arith)))
+
+-- ---- one node more
+
+pub planned_length : (path : List ℕ) (next : ℕ) (t : List PlannedNode) (count : ℕ) → length (planned_from path next t 0 count) ≡ count
+unfolding planned_from
+planned_length path next t count = length_tab (planned_at path next t) 0 count
+
+module _ (path : List ℕ) (next : ℕ) (t : List PlannedNode) (c : ℕ) (n : PlannedNode) where
+  stored_below : (j : ℕ) → j < c → planned_at path next (set t c n) j ≡ planned_at path next t j
+  unfolding planned_at
+  stored_below j h =
+      let d : j ≡ c → ⊥ = λ e. omega arith in
+      rw (get_or-set_other t c j n UNPLANNED d)
+
+  pub planned_stored : c < length t → planned_from path next (set t c n) 0 (c + 1) ≡ planned_from path next t 0 c ++ (bare (next + c) n.parent (part path n.start n.len) ∷ [])
+  unfolding planned_from planned_at
+  planned_stored h =
+      tab_append (planned_at path next t) (planned_at path next (set t c n)) c (λ j q. stored_below j q)
+      ∙ rw (get_or-set_same t c n UNPLANNED h)
+
+-- ---- the first of them, as a slice
+
+module _ (path : List ℕ) (next : ℕ) (t : List PlannedNode) (c : ℕ) (h : c ≤ length t) where
+  taken_length : length (take c t) ≡ c
+  taken_length = length-take c t ∙ min-eq_left h
+
+  pub planned_taken : planned_from path next (take c t) 0 (length (take c t)) ≡ planned_from path next t 0 c
+  unfolding planned_from planned_at
+  planned_taken = rw taken_length (tab_same (planned_at path next t) (planned_at path next (take c t)) 0 c (λ j a b. let l : j < c = omega arith in rw (get_or-take c t j UNPLANNED l)))
+
+  pub within_taken : Within path t c → Within path (take c t) (length (take c t))
+  within_taken w = rw taken_length (λ j l. rw (get_or-take c t j UNPLANNED l) (w j l))

@@ -1,0 +1,2 @@
+-- What is found of the path of a mount.
+pub mod PathEnds

@@ -1,0 +1,2 @@
+-- What the contracts say besides the rules: the places of records.
+pub mod Starts
