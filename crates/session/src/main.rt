@@ -131,10 +131,11 @@ impl Session {
         true
     }
 
-    // Reads until the input ends, or a read or a write fails. The turns have a number as in `write_all`.
+    // Reads, with nothing begun, until the input ends, or a read or a write fails. The turns have a number as in `write_all`.
     fn run(&mut self, rt: &HostRuntime, copied: bool)
-        ensures { Ran BUFFER self.old.storage self.old.carry self.old.kept self.new.storage self.new.carry }
+        ensures { Ran BUFFER self.old.storage self.old.carry 0 self.new.storage self.new.carry }
     {
+        self.kept = 0;
         let mut input = [0u8; BUFFER];
         for _ in 0..u64::MAX {
             if !self.turn(rt, &mut input, copied) {
