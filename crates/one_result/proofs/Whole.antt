@@ -51,29 +51,29 @@ use Rattle.one_result.proofs.Apart.{apart, at, not_done, some_back, some_back_le
 
 -- ---- by the number alone
 
-created_apart : Apart (λ (a : VfsResult (Unit {0})). code_alone (created_code a))
+pub created_apart : Apart (λ (a : VfsResult (Unit {0})). code_alone (created_code a))
 created_apart = apart (λ (a : VfsResult (Unit {0})). code_alone (created_code a)) (λ (r : CodeAnswer). result_back r.code tt) go
   where
     go : (a : VfsResult (Unit {0})) → result_back (created_code a) tt ≡ a
     go (Ok x) = refl
     go (Err e) = refused_back tt e
 
-checked_apart : Apart (λ (a : VfsResult (Unit {0})). code_alone (result_code a))
+pub checked_apart : Apart (λ (a : VfsResult (Unit {0})). code_alone (result_code a))
 checked_apart = apart (λ (a : VfsResult (Unit {0})). code_alone (result_code a)) (λ (r : CodeAnswer). result_back r.code tt) go
   where
     go : (a : VfsResult (Unit {0})) → result_back (result_code a) tt ≡ a
     go (Ok x) = refl
     go (Err e) = refused_back tt e
 
-removal_apart : Apart (λ (a : VfsResult (Unit {0})). code_numbers (removal_told a))
+pub removal_apart : Apart (λ (a : VfsResult (Unit {0})). code_numbers (removal_told a))
 removal_apart = result_apart (λ (u : Unit {0}). nothing) code_numbers (λ r. r.code) (λ r. tt) (λ t. refl) (λ u. refl)
 
-state_apart : Apart (λ (a : VfsResult (Unit {0})). code_numbers (state_restored_told a))
+pub state_apart : Apart (λ (a : VfsResult (Unit {0})). code_numbers (state_restored_told a))
 state_apart = result_apart (λ (u : Unit {0}). nothing) code_numbers (λ r. r.code) (λ r. tt) (λ t. refl) (λ u. refl)
 
 -- ---- by the values too
 
-initialized_apart : Apart (λ (a : VfsResult Bool). initialized_numbers (initialized_told a))
+pub initialized_apart : Apart (λ (a : VfsResult Bool). initialized_numbers (initialized_told a))
 initialized_apart = result_apart truth initialized_numbers (λ r. r.code) (λ r. eqb r.initialized 1) (λ t. refl) go
   where
     go : (b : Bool) → eqb (initialized_numbers (tells (truth b))).initialized 1 ≡ b
@@ -83,16 +83,16 @@ initialized_apart = result_apart truth initialized_numbers (λ r. r.code) (λ r.
 abbrev options_back : OptionsAnswer → VfsOptions
 options_back r = record { in_opts = r.in_opts; out_opts = r.out_opts; id_mapping = record { internal = r.internal; external = r.external; range = r.range }; flags = r.flags }
 
-options_apart : Apart (λ (a : VfsResult VfsOptions). options_numbers (options_told a))
+pub options_apart : Apart (λ (a : VfsResult VfsOptions). options_numbers (options_told a))
 options_apart = result_apart (λ (o : VfsOptions). settings (options_in o)) options_numbers (λ r. r.code) options_back (λ t. refl) (λ o. refl)
 
-saved_apart : Apart (λ (a : VfsResult ℕ). wrote_numbers (saved_told a))
+pub saved_apart : Apart (λ (a : VfsResult ℕ). wrote_numbers (saved_told a))
 saved_apart = result_apart wrote wrote_numbers (λ r. r.code) (λ r. r.written) (λ t. refl) (λ n. refl)
 
-listed_apart : Apart (λ (a : VfsResult ℕ). wrote_numbers (listed_told a))
+pub listed_apart : Apart (λ (a : VfsResult ℕ). wrote_numbers (listed_told a))
 listed_apart = result_apart wrote wrote_numbers (λ r. r.code) (λ r. r.written) (λ t. refl) (λ n. refl)
 
-converted_apart : Apart (λ (a : VfsResult VfsInode). inode_numbers (result_code a) (full_of a))
+pub converted_apart : Apart (λ (a : VfsResult VfsInode). inode_numbers (result_code a) (full_of a))
 unfolding full_of
 converted_apart = apart (λ (a : VfsResult VfsInode). inode_numbers (result_code a) (full_of a)) (λ (r : InodeAnswer). result_back r.code (record { 0 = r.inode })) go
   where
@@ -108,21 +108,21 @@ mounted_back r =
     (Ok (record { fs_idx = r.fs_idx; count = r.count; replaced = some_back r.has_replaced r.replaced }))
     (Err (record { why = error_of r.code; count = r.count }))
 
-mounted_apart : Apart (λ (a : Result Mounted MountRefused). mount_numbers (mounted_told a))
+pub mounted_apart : Apart (λ (a : Result Mounted MountRefused). mount_numbers (mounted_told a))
 mounted_apart = apart (λ (a : Result Mounted MountRefused). mount_numbers (mounted_told a)) mounted_back go
   where
     go : (a : Result Mounted MountRefused) → mounted_back (mount_numbers (mounted_told a)) ≡ a
     go (Ok m) = ap (λ (t : Option ℕ). Ok (record { fs_idx = m.fs_idx; count = m.count; replaced = t })) (some_back_lem m.replaced)
     go (Err r) = not_done r.why _ _ ∙ ap (λ (w : VfsError). Err (record { why = w; count = r.count })) (error_back r.why)
 
-restored_apart : Apart (λ (a : VfsResult RestoredMount). restore_mount_numbers (restored_mount_told a))
+pub restored_apart : Apart (λ (a : VfsResult RestoredMount). restore_mount_numbers (restored_mount_told a))
 restored_apart =
     result_apart (λ (x : RestoredMount). restored_mount x.replaced x.displaced) restore_mount_numbers (λ r. r.code)
     (λ (r : RestoreMountAnswer). record { replaced = some_back r.has_replaced r.replaced; displaced = some_back r.has_displaced r.displaced })
     (λ t. refl)
     (λ x i. record { replaced = some_back_lem x.replaced i; displaced = some_back_lem x.displaced i })
 
-unmounted_apart : Apart (λ (a : VfsResult Unmounted). umount_numbers (unmounted_told a))
+pub unmounted_apart : Apart (λ (a : VfsResult Unmounted). umount_numbers (unmounted_told a))
 unmounted_apart =
     result_apart (λ (x : Unmounted). unmounted x.node.0 x.parent.0 x.released) umount_numbers (λ r. r.code)
     (λ (r : UmountAnswer). record { node = record { 0 = r.node }; parent = record { 0 = r.parent }; released = some_back r.has_released r.released })
@@ -131,7 +131,7 @@ unmounted_apart =
 
 -- ---- queries
 
-rootfs_apart : Apart (λ (a : VfsResult (Option Rootfs)). rootfs_numbers (rootfs_told a))
+pub rootfs_apart : Apart (λ (a : VfsResult (Option Rootfs)). rootfs_numbers (rootfs_told a))
 rootfs_apart = result_apart rootfs_answer rootfs_numbers (λ r. r.code) back (λ t. refl) go
   where
     back : RootfsAnswer → Option Rootfs
@@ -141,7 +141,7 @@ rootfs_apart = result_apart rootfs_answer rootfs_numbers (λ r. r.code) back (λ
     go None = refl
     go (Some b) = refl
 
-routed_apart : Apart (λ (a : VfsResult Routed). route_numbers (routed_told a))
+pub routed_apart : Apart (λ (a : VfsResult Routed). route_numbers (routed_told a))
 routed_apart = result_apart route_answer route_numbers (λ r. r.code) back (λ t. refl) go
   where
     back : RouteAnswer → Routed
@@ -151,10 +151,10 @@ routed_apart = result_apart route_answer route_numbers (λ r. r.code) back (λ t
     go (Tree x) = refl
     go (Backend t k x) = refl
 
-remapped_apart : Apart (λ (a : VfsResult Remapped). ids_numbers (remapped_told a))
+pub remapped_apart : Apart (λ (a : VfsResult Remapped). ids_numbers (remapped_told a))
 remapped_apart = result_apart ids_answer ids_numbers (λ r. r.code) (λ (r : IdsAnswer). record { uid = r.uid; gid = r.gid }) (λ t. refl) (λ x. refl)
 
-walked_apart : Apart (λ (a : VfsResult (Option NodeNumber)). walk_numbers (path_walk_told a))
+pub walked_apart : Apart (λ (a : VfsResult (Option NodeNumber)). walk_numbers (path_walk_told a))
 walked_apart = result_apart _ walk_numbers (λ r. r.code) back (λ t. refl) go
   where
     back : WalkAnswer → Option NodeNumber
@@ -164,7 +164,7 @@ walked_apart = result_apart _ walk_numbers (λ r. r.code) back (λ t. refl) go
     go None = refl
     go (Some x) = refl
 
-looked_apart : Apart (λ (a : VfsResult Entry). lookup_numbers (looked_told a))
+pub looked_apart : Apart (λ (a : VfsResult Entry). lookup_numbers (looked_told a))
 unfolding entry_answer
 looked_apart =
     result_apart entry_answer lookup_numbers (λ r. r.code)
