@@ -43,10 +43,10 @@ fn number(n: usize) {
     io::print_decimal(STDOUT_FILENO, n as u64);
 }
 
-// A space, and a number of one digit.
+// A space, and a number of one digit, by one write.
 fn digit(n: u32) {
-    io::write_all(STDOUT_FILENO, b" ");
-    io::print_decimal(STDOUT_FILENO, n as u64);
+    let text = [b' ', b'0' + (n % 10) as u8];
+    io::write_all(STDOUT_FILENO, &text);
 }
 
 fn components(s: &[u8]) {
