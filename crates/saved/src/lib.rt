@@ -113,7 +113,9 @@ fn is_listed(before: &[Kept], number: u64) -> bool
     number == rules::ROOT_ID || before.iter().rev().any(|r| r.number == number)
 }
 
-// Whether a record before has the parent and the name of the record at a place: only those with its key are read (R129 k).
+// Whether a record before has the parent and the name of the record at a place: only those with its key are read (R129 k). Not
+// inlined: among the variables of its callers the search would count in memory, and take up to four times as long.
+#[inline(never)]
 fn is_used(b: &[u8], at: usize, before: &[Kept]) -> bool
     requires keeps { KeepsRecords b.now before.now }
     requires at_value { at ≡ start_of b.now (length before.now) }
