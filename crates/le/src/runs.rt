@@ -2,34 +2,13 @@
 ghost use Rattle.std.specs.Prelude.{◌≡◌, ◌+◌, ◌≤◌, length, replicate};
 ghost use Rattle.le.specs.Mem.{read, write, same};
 
-// Whether `len` bytes of a at p and of b at q are equal, a byte at a time.
-fn same_bytes(a: &[u8], p: usize, b: &[u8], q: usize, len: usize) -> bool
-    requires len_in_bounds { p + len ≤ length a.now }
-    requires len_in_bounds_2 { q + len ≤ length b.now }
-    ensures { result ≡ same (read a.now p len) (read b.now q len) }
-{
-    for i in 0..len {
-        if a[p + i] != b[q + i] {
-            return false;
-        }
-    }
-    true
-}
-
-// Whether `len` bytes of a at p and of b at q are equal (R45), eight bytes at a time and the rest by one.
+// Whether `len` bytes of a at p and of b at q are equal (R45).
 pub fn same_at(a: &[u8], p: usize, b: &[u8], q: usize, len: usize) -> bool
     requires len_in_bounds { p + len ≤ length a.now }
     requires len_in_bounds_2 { q + len ≤ length b.now }
     ensures { result ≡ same (read a.now p len) (read b.now q len) }
 {
-    let mut i = 0;
-    while 8 <= len - i {
-        if crate::fields::get_u64(a, p + i) != crate::fields::get_u64(b, q + i) {
-            return false;
-        }
-        i += 8;
-    }
-    same_bytes(a, p + i, b, q + i, len - i)
+    a[p..p + len] == b[q..q + len]
 }
 
 // Copies `len` bytes of src at `from` into dst at a place (R48, R64, R120).
@@ -55,9 +34,7 @@ pub fn shift_down(s: &mut [u8], to: usize, by: usize, len: usize)
     ensures { s.new ≡ write s.old to (read s.old (to + by) len) }
 {
     let from = to + by;
-    for i in 0..len {
-        s[to + i] = s[from + i];
-    }
+    s.copy_within(from..from + len, to);
 }
 
 // Writes one byte `len` times at a place (R64).
