@@ -1,19 +1,20 @@
 -- The name of a row, copied from its two cells. Assumes nothing.
 use mathlib.Core.Path.{◌≡◌, refl, sym, ap, ◌∙◌}
 use mathlib.Core.List.{List, ◌∷◌, ◌++◌}
-use Prim.Native.Nat.{ℕ, zero, suc, ◌+◌, ◌-◌, ◌/◌, ◌%◌, ◌≤◌, ◌<◌, min}
+use Prim.Native.Nat.{ℕ, zero, suc, ◌+◌, ◌-◌, ◌/◌, ◌%◌, ◌≤◌, ◌<◌, min, max}
 use native.Mathlib.Nat.{suc-add}
 use native.Mathlib.Decide.{dec_le}
 use native.Mathlib.Omega.{arith}
 use lib.ListN.{length, take, length-append}
 use lib.Seq.{take_all}
-use Rattle.rules.proofs.Fields.{length_read, bytes_back}
+use Rattle.rules.proofs.Fields.{length_read, bytes_back, read_add}
 use Rattle.le.specs.Mem.{read, bytes_of, get, write, Bytes}
 use Rattle.le.proofs.Lens.{get_one, get_split, take_read, write_append}
 use Rattle.tables.specs.Layout.{last_at, first_at}
 use Rattle.tables.specs.View.{node_at}
 use Rattle.tables.proofs.Cells.{name_at}
 use Rattle.row_name.specs.Copied.{Copied, EveryNameShort}
+use Rattle.row_name.proofs.Runs.{over}
 
 -- the first w of k bytes, which are all of them where w is larger
 take_least : (mem : List ℕ) (p k w : ℕ) → take w (read mem p k) ≡ read mem p (min w k)
@@ -95,16 +96,30 @@ module _ (n : ℕ) (mem : List ℕ) (i : ℕ) where
   -- ---- its l bytes into d at a place
 
   module _ (l : ℕ) (d : List ℕ) (to : ℕ) (e : l ≡ length name) where
-    -- the bytes before the last seven, and those
-    pub copied : (f g : List ℕ) → f ≡ write d to (read mem (first_at n i) (l - 7)) → g ≡ write f (to + (l - 7)) (read mem (last_at n i + 1) (l - (l - 7))) → Copied name d to l g
-    copied f g w v =
-        let m : min l 7 ≡ l - (l - 7) = omega arith in
+    -- the last bytes are all of it
+    pub copied_short : l ≤ 7 → (f : List ℕ) → f ≡ write d to (read mem (last_at n i + 1) l) → Copied name d to l f
+    unfolding read
+    copied_short h f w =
+        let z : l - 7 ≡ 0 = omega arith in
+        let m : min l 7 ≡ l = omega arith in
+        let k : name ≡ read mem (last_at n i + 1) l = two l e ∙ rw (z, m) in
+        record { count = e; bytes = w ∙ ap (write d to) (sym k) }
+
+    -- the bytes before the last seven, or eight where they are fewer, and the last seven over what is too much
+    pub copied_long : 7 < l → (f g : List ℕ) → f ≡ write d to (read mem (first_at n i) (max (l - 7) 8)) → g ≡ write f (to + (l - 7)) (read mem (last_at n i + 1) 7) → Copied name d to l g
+    copied_long h f g w v =
+        let m : min l 7 ≡ 7 = omega arith in
+        let r : max (l - 7) 8 ≡ (l - 7) + (max (l - 7) 8 - (l - 7)) = omega arith in
         let p : List ℕ = read mem (first_at n i) (l - 7) in
-        let q : List ℕ = read mem (last_at n i + 1) (l - (l - 7)) in
+        let o : List ℕ = read mem (first_at n i + (l - 7)) (max (l - 7) 8 - (l - 7)) in
+        let q : List ℕ = read mem (last_at n i + 1) 7 in
         let k : name ≡ p ++ q = two l e ∙ rw m in
-        let one : write (write d to p) (to + (l - 7)) q ≡ write d to (p ++ q) =
-        ap (λ (k : ℕ). write (write d to p) (to + k) q) (sym (length_read mem (first_at n i) (l - 7))) ∙ sym (write_append d to p q) in
-        record { count = e; bytes = v ∙ ap (λ (x : List ℕ). write x (to + (l - 7)) q) w ∙ one ∙ ap (write d to) (sym k) }
+        let apart : (x : List ℕ) → write (write d to p) (to + (l - 7)) x ≡ write d to (p ++ x) =
+        λ x. ap (λ (k : ℕ). write (write d to p) (to + k) x) (sym (length_read mem (first_at n i) (l - 7))) ∙ sym (write_append d to p x) in
+        let both : f ≡ write (write d to p) (to + (l - 7)) o =
+        w ∙ ap (λ (k : ℕ). write d to (read mem (first_at n i) k)) r ∙ ap (write d to) (read_add mem (first_at n i) (l - 7) (max (l - 7) 8 - (l - 7))) ∙ sym (apart o) in
+        let short : length o ≤ length q = omega (arith, length_read mem (first_at n i + (l - 7)) (max (l - 7) 8 - (l - 7)), length_read mem (last_at n i + 1) 7) in
+        record { count = e; bytes = v ∙ ap (λ (x : List ℕ). write x (to + (l - 7)) q) both ∙ over o q (write d to p) (to + (l - 7)) short ∙ apart q ∙ ap (write d to) (sym k) }
 
 pub every_name_short : EveryNameShort
 every_name_short n mem i = name_short n mem i _ refl

@@ -2,7 +2,7 @@
 #![tactic(auto)]
 
 ghost use Rattle.std.specs.Prelude.{◌≡◌, ◌+◌, ◌≤◌, ◌<◌, length};
-ghost use Rattle.le.specs.Mem.{get};
+ghost use Rattle.le.specs.Mem.{read, get, write};
 ghost use Rattle.tables.specs.Layout.{capacity_of, count_of, last_at, first_at};
 ghost use Rattle.tables.specs.View.{node_at};
 ghost use Rattle.tables.specs.Laid.{Bounds};
@@ -38,7 +38,32 @@ pub fn first_at(s: &[u8], i: usize) -> usize
     tables::places::FIRSTS.at(n, i)
 }
 
-// Copies the name of row i into the lent bytes at a place: its length. Its last seven bytes stand apart from those before them (R120).
+// Copies `len` bytes of src at `from` into dst at a place, one by one: for a few a call of memmove takes longer (R120).
+fn copy_few(dst: &mut [u8], at: usize, src: &[u8], from: usize, len: usize)
+    requires len_in_bounds { at + len ≤ length dst.old }
+    requires len_in_bounds_2 { from + len ≤ length src.now }
+    ensures { dst.new ≡ write dst.old at (read src.now from len) }
+{
+    for i in 0..len {
+        dst[at + i] = src[from + i];
+    }
+}
+
+// Copies `len` bytes of src at `from` into dst at a place, eight of them as one number (R120).
+fn copy_front(dst: &mut [u8], at: usize, src: &[u8], from: usize, len: usize)
+    requires len_in_bounds { at + len ≤ length dst.old }
+    requires len_in_bounds_2 { from + len ≤ length src.now }
+    ensures { dst.new ≡ write dst.old at (read src.now from len) }
+{
+    if len == 8 {
+        le::fields::put_u64(dst, at, le::fields::get_u64(src, from));
+    } else {
+        le::runs::copy_run(dst, at, src, from, len);
+    }
+}
+
+// Copies the name of row i into the lent bytes at a place: its length. Its last seven bytes stand apart from those before them, of which
+// eight are copied at least: what is too much is written over (R120).
 pub fn copy_name(s: &[u8], i: usize, out: &mut [u8], to: usize) -> usize
     requires bounds { Bounds s.now }
     requires i_bound { i < count_of s.now }
@@ -46,9 +71,12 @@ pub fn copy_name(s: &[u8], i: usize, out: &mut [u8], to: usize) -> usize
     ensures { Copied (node_at (capacity_of s.now) s.now i).name out.old to result out.new }
 {
     let len = name_len(s, i);
-    let before = len.saturating_sub(7);
     let at = tables::places::LASTS.at(tables::header::capacity(s), i);
-    le::runs::copy_run(out, to, s, first_at(s, i), before);
-    le::runs::copy_run(out, to + before, s, at + 1, len - before);
+    if len <= 7 {
+        copy_few(out, to, s, at + 1, len);
+        return len;
+    }
+    copy_front(out, to, s, first_at(s, i), (len - 7).max(8));
+    le::runs::copy_run(out, to + (len - 7), s, at + 1, 7);
     len
 }
