@@ -2,10 +2,10 @@
 use mathlib.Core.Path.{◌≡◌, refl, sym, ap, ◌∙◌}
 use mathlib.Core.Bool.{Bool, true, false, cond, ◌&&◌, and-true, and-false, false≢true, and-eq-true_iff}
 use mathlib.Core.List.{List, [], ◌∷◌, ◌++◌}
-use Prim.Native.Nat.{ℕ, zero, suc, ◌+◌, ◌≤◌, ◌<◌, zero-le, suc-le-suc}
+use Prim.Native.Nat.{ℕ, zero, suc, ◌+◌, ◌-◌, ◌≤◌, ◌<◌, zero-le, suc-le-suc}
 use native.Mathlib.Nat.{zero-add, suc-add, lt_irrefl, lt_of_lt_of_le, le_of_suc-le-suc, not-suc-le-zero}
 use native.Mathlib.Omega.{arith}
-use lib.ListN.{length, get_or, drop, drop_of_length-le, length-drop, replicate}
+use lib.ListN.{length, get_or, drop, drop_of_length-le, length-drop, replicate, length-replicate}
 use lib.Seq.{drop-drop}
 use lib.Dec.{leb, eqb, eqb-suc-zero}
 use borrow.Author.Tests.{le-leb, lt-leb}
@@ -63,6 +63,14 @@ unfolding fits
 fits_long [] s e = zero-le
 fits_long (r ∷ rs) [] e = absurd (false≢true e)
 fits_long (r ∷ rs) (b ∷ s) e = suc-le-suc (fits_long rs s ((and-eq-true_iff (within r b) (fits rs s)).0 e).1)
+
+-- where fewer bytes are left than ranges, they don't fit
+pub tails_short : (q r : Range) (s : List ℕ) (at n : ℕ) → length s - at < n + 1 → fits (q ∷ replicate n r) (drop at s) ≡ false
+tails_short q r s at n h = go (fits (q ∷ replicate n r) (drop at s)) refl
+  where
+    go : (t : Bool) → fits (q ∷ replicate n r) (drop at s) ≡ t → t ≡ false
+    go true e = absurd (omega (arith, fits_long (q ∷ replicate n r) (drop at s) e, length-drop at s, length-replicate n r))
+    go false e = refl
 
 first_row_le : (rows : List (List Range)) (s : List ℕ) → first_row rows s ≤ length s
 unfolding first_row

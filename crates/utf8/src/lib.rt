@@ -17,17 +17,21 @@ fn is_in(s: &[u8], at: usize, low: u8, high: u8) -> bool
 }
 
 // The length of a sequence of N bytes, where the second lies between low and high and those behind it are tail bytes.
+#[inline(always)]
 fn tailed<const N: usize>(s: &[u8], at: usize, low: u8, high: u8) -> Option<usize>
     requires two_or_more { 2 ≤ N }
     requires four_or_less { N ≤ 4 }
     requires at_in_bounds { at ≤ length s.now }
     ensures { result ≡ then_some (fits (low ‥ high ∷ replicate (N - 2) (0x80 ‥ 0xBF)) (drop at s.now)) N }
 {
+    if s.len() - at < N - 1 {
+        return None;
+    }
     let whole = is_in(s, at, low, high) && (1..N - 1).all(|k| is_in(s, at + k, 0x80, 0xBF));
     whole.then_some(N)
 }
 
-// The length of the well-formed sequence that starts at `at`, where one does.
+// The length of the well-formed sequence that starts at `at`, where one does. The rows with the most letters are tested first.
 fn sequence_at(s: &[u8], at: usize) -> Option<usize>
     ensures { result ≡ sequence_in (drop at s.now) }
 {
@@ -36,17 +40,17 @@ fn sequence_at(s: &[u8], at: usize) -> Option<usize>
     if b < 0x80 {
         return Some(1);
     }
-    if b < 0xC2 {
-        return None;
+    if 0xC2 <= b && b < 0xE0 {
+        return tailed::<2>(s, next, 0x80, 0xBF);
+    }
+    if 0xE1 <= b && b < 0xED {
+        return tailed::<3>(s, next, 0x80, 0xBF);
     }
     if b < 0xE0 {
-        return tailed::<2>(s, next, 0x80, 0xBF);
+        return None;
     }
     if b < 0xE1 {
         return tailed::<3>(s, next, 0xA0, 0xBF);
-    }
-    if b < 0xED {
-        return tailed::<3>(s, next, 0x80, 0xBF);
     }
     if b < 0xEE {
         return tailed::<3>(s, next, 0x80, 0x9F);

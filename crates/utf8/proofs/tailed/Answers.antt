@@ -10,9 +10,15 @@ use Rattle.std.proofs.Common.{rules}
 use Rattle.std.proofs.lemmas.Iterator.{YieldsList-from_range}
 use Rattle.std.proofs.lemmas.Iterator.Search.{all_from_yields_List}
 use Rattle.rules.specs.Utf8.{◌‥◌, fits}
-use Rattle.utf8.proofs.Table.{fits_all, tails_yes, tails_no}
+use Rattle.utf8.proofs.Table.{fits_all, tails_short, tails_yes, tails_no}
 use Rattle.utf8.proofs.tailed.Goals as goal
 use Rattle.utf8.proofs.tailed.Goals.{then-is_in, else-is_in}
+
+pub returns-then-s-at : goal.returns-then-s-at
+returns-then-s-at g c =
+    let a = c.args in
+    let z = tails_short (a.low ‥ a.high) (0x80 ‥ 0xBF) a.s.now a.at (g.row.N - 2) (omega arith) in
+    rw z
 
 pub returns : goal.returns
 returns g c =
