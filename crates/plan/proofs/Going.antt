@@ -21,8 +21,7 @@ use Rattle.tables.specs.Layout.{next_of}
 use Rattle.tables.specs.View.{nodes_of, view}
 use Rattle.tables.specs.Laid.{Bounds}
 use Rattle.plan.specs.declared.PlannedNode.{PlannedNode}
-use Rattle.plan.specs.declared.TheConstants.{UNPLANNED}
-use Rattle.plan.specs.Plan.{note_at, planned_from, Within, room_of, plan_told, Plans}
+use Rattle.plan.specs.Plan.{planned_parent, planned_start, no_node, note_at, planned_from, Within, room_of, plan_told, Plans}
 use Rattle.plan.proofs.Nodes.{makes_grows}
 use Rattle.plan.proofs.Spare.{planned_is, fits, lacks}
 use Rattle.plan.proofs.PlannedNodes.{planned_length, planned_stored, planned_taken, within_taken}
@@ -127,9 +126,10 @@ module _ (mem path : List ℕ) where
             record { answer = lacks mem path d (omega (arith, ap (λ (q : Made). length q.nodes) after)); named = λ k h. absurd (omega arith); few = omega arith; sized = g.sized }
 
   -- one node more
-  module _ (t : List PlannedNode) (count node at : ℕ) (g : Going mem path t count node at) (start len on : ℕ) (s : StepsOver path at (Normal start (part path start len)) start len on) where
+  module _ (t : List PlannedNode) (count node at : ℕ) (g : Going mem path t count node at) (start len on : ℕ) (s : StepsOver path at (Normal start (part path start len)) start len on)
+      (n : PlannedNode) (under : planned_parent n ≡ node) (begun : planned_start n ≡ start) (long : n.len ≡ len) where
     abbrev more : List PlannedNode
-    more = set t count (record { parent = node; start = start; len = len })
+    more = set t count n
 
     pub goes_new : None ≡ child_in (nodes_of mem ++ planned_from path (next_of mem) t 0 count) node (part path start (on - start))
         → count < room_of mem → room_of mem ≤ 1024 → (x : ℕ) → x ≡ next_of mem + count → Going mem path more (count + 1) x on
@@ -137,14 +137,14 @@ module _ (mem path : List ℕ) where
     goes_new e l r x q =
         record {
           few = omega arith;
-          sized = length-set t count (record { parent = node; start = start; len = len }) ∙ g.sized;
+          sized = length-set t count n ∙ g.sized;
           named = λ k h. names k (ℕ_discrete k count) h;
           short = rest_names Short (Normal start (part path start len)) (components on (drop on path)) (rw s.parts at g.short);
           rest =
-              rw (q, planned_stored path (next_of mem) t count (record { parent = node; start = start; len = len }) (omega (arith, g.sized)))
+              rw (q, planned_stored path (next_of mem) t count n (omega (arith, g.sized)), under, begun, long)
               (sym (ap (λ (m : Made). makes (nodes_of mem) (next_of mem) m (components on (drop on path))) (makes_it t count node at g start len on s e)) ∙ after t count node at g start len on s e);
         }
       where
-        names : (k : ℕ) → Dec (k ≡ count) → k < count + 1 → (note_at more k).start + (note_at more k).len ≤ length path
-        names k (yes f) h = rw (f, get_or-set_same t count (record { parent = node; start = start; len = len }) UNPLANNED (omega (arith, g.sized))) (omega (arith, s.end, s.within))
-        names k (no d) h = rw (get_or-set_other t count k (record { parent = node; start = start; len = len }) UNPLANNED d) (g.named k (omega arith))
+        names : (k : ℕ) → Dec (k ≡ count) → k < count + 1 → planned_start (note_at more k) + (note_at more k).len ≤ length path
+        names k (yes f) h = rw (f, get_or-set_same t count n no_node (omega (arith, g.sized)), begun, long) (omega (arith, s.end, s.within))
+        names k (no d) h = rw (get_or-set_other t count k n no_node d) (g.named k (omega arith))

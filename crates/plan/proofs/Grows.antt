@@ -21,7 +21,7 @@ use Rattle.tables.proofs.Spells.{cell_back}
 use Rattle.tables.proofs.Refine.{head_append, view_append}
 use Rattle.tables.proofs.Keeps.{laid_is, length_append, keeps_append}
 use Rattle.plan.specs.declared.PlannedNode.{PlannedNode}
-use Rattle.plan.specs.Plan.{note_at, planned_at, planned_from}
+use Rattle.plan.specs.Plan.{planned_parent, planned_start, note_at, planned_at, planned_from}
 use Rattle.plan.specs.Apply.{append_all}
 use Rattle.plan.proofs.Fresh.{Fresh}
 
@@ -96,11 +96,11 @@ module _ (s₀ path : List ℕ) (t : List PlannedNode) (count : ℕ) where
     done h = rw (tab_done (planned_at path (next_of s₀) t) j count h) at w.rest
 
     pub goes_on : (r : List ℕ) → j < count → count_of s₀ + count < capacity_of s₀ → next_of s₀ + count ≤ 2 ^ 56
-        → r ≡ append_node (note_at t j).parent (part path (note_at t j).start (note_at t j).len) s → Writing s₀ path t count r (j + 1)
+        → r ≡ append_node (planned_parent (note_at t j)) (part path (planned_start (note_at t j)) (note_at t j).len) s → Writing s₀ path t count r (j + 1)
     unfolding append_all planned_from planned_at
     goes_on r h c x e =
-        let a = (note_at t j).parent in
-        let p = part path (note_at t j).start (note_at t j).len in
+        let a = planned_parent (note_at t j) in
+        let p = part path (planned_start (note_at t j)) (note_at t j).len in
         rw e
         (record {
           so_far = omega arith;

@@ -27,33 +27,32 @@ use Rattle.tables.specs.Answer.{place_in}
 use Rattle.tables.proofs.Tab.{length_tab, tab_next, tab_done, tab_same, tab_append}
 use Rattle.tables.proofs.RowOf.{place_nowhere, node_found}
 use Rattle.plan.specs.declared.PlannedNode.{PlannedNode}
-use Rattle.plan.specs.declared.TheConstants.{UNPLANNED}
-use Rattle.plan.specs.Plan.{note_at, planned_at, planned_from, Within}
+use Rattle.plan.specs.Plan.{planned_parent, planned_start, no_node, note_at, planned_at, planned_from, Within}
 
 -- ---- whether a planned node is the child of a name
 
 -- a planned node, whatever its number is
 abbrev pub node : List ℕ → PlannedNode → Node
-node path n = bare 0 n.parent (part path n.start n.len)
+node path n = bare 0 (planned_parent n) (part path (planned_start n) n.len)
 
 module _ (path : List ℕ) (n : PlannedNode) (here : ℕ) (p : List ℕ) where
-  pub is_else : (n.parent ≡ here → ⊥) → false ≡ is_child here p (node path n)
+  pub is_else : (planned_parent n ≡ here → ⊥) → false ≡ is_child here p (node path n)
   unfolding is_child
-  is_else h = rw (ne_eqb n.parent here h)
+  is_else h = rw (ne_eqb (planned_parent n) here h)
 
-  module _ (h : n.start + n.len ≤ length path) where
+  module _ (h : planned_start n + n.len ≤ length path) where
     pub is_longer : (n.len ≡ length p → ⊥) → false ≡ is_child here p (node path n)
     unfolding is_child
     is_longer d =
-        let k = part_length path n.start n.len h in
-        let q : same (part path n.start n.len) p ≡ false = same_length (part path n.start n.len) p (λ f. d (sym k ∙ f)) in
+        let k = part_length path (planned_start n) n.len h in
+        let q : same (part path (planned_start n) n.len) p ≡ false = same_length (part path (planned_start n) n.len) p (λ f. d (sym k ∙ f)) in
         rw (q, and-false)
 
-    pub is_named : n.parent ≡ here → n.len ≡ length p → {r : Bool} → r ≡ same (read path n.start n.len) (read p 0 n.len) → r ≡ is_child here p (node path n)
+    pub is_named : planned_parent n ≡ here → n.len ≡ length p → {r : Bool} → r ≡ same (read path (planned_start n) n.len) (read p 0 n.len) → r ≡ is_child here p (node path n)
     unfolding is_child
     is_named m k q =
         let all : read p 0 n.len ≡ p = rw k (read_all p) in
-        q ∙ rw (all, read_slice path n.start n.len h, eq-eqb n.parent here m)
+        q ∙ rw (all, read_slice path (planned_start n) n.len h, eq-eqb (planned_parent n) here m)
 
 -- ---- the search: what is left to find is what was to find
 
@@ -123,7 +122,7 @@ module _ (mem path : List ℕ) (t : List PlannedNode) (count x : ℕ) (d : x ≡
     unfolding planned_from
     up_before h = sym (up_second ∙ ap parent_of (at_before path (next_of mem) t x 0 count (omega arith)))
 
-    pub up_planned : (y : ℕ) → y ≡ next_of mem → y ≤ x → x - y < count → (note_at t (x - y)).parent ≡ parent_in all x
+    pub up_planned : (y : ℕ) → y ≡ next_of mem → y ≤ x → x - y < count → planned_parent (note_at t (x - y)) ≡ parent_in all x
     unfolding planned_from planned_at
     up_planned y q h l = rw q (sym (up_second ∙ ap parent_of (at_planned path (next_of mem) t x 0 count (omega arith) (omega arith))))
 
@@ -142,13 +141,13 @@ module _ (path : List ℕ) (next : ℕ) (t : List PlannedNode) (c : ℕ) (n : Pl
   unfolding planned_at
   stored_below j h =
       let d : j ≡ c → ⊥ = λ e. omega arith in
-      rw (get_or-set_other t c j n UNPLANNED d)
+      rw (get_or-set_other t c j n no_node d)
 
-  pub planned_stored : c < length t → planned_from path next (set t c n) 0 (c + 1) ≡ planned_from path next t 0 c ++ (bare (next + c) n.parent (part path n.start n.len) ∷ [])
+  pub planned_stored : c < length t → planned_from path next (set t c n) 0 (c + 1) ≡ planned_from path next t 0 c ++ (bare (next + c) (planned_parent n) (part path (planned_start n) n.len) ∷ [])
   unfolding planned_from planned_at
   planned_stored h =
       tab_append (planned_at path next t) (planned_at path next (set t c n)) c (λ j q. stored_below j q)
-      ∙ rw (get_or-set_same t c n UNPLANNED h)
+      ∙ rw (get_or-set_same t c n no_node h)
 
 -- ---- the first of them, as a slice
 
@@ -158,7 +157,7 @@ module _ (path : List ℕ) (next : ℕ) (t : List PlannedNode) (c : ℕ) (h : c 
 
   pub planned_taken : planned_from path next (take c t) 0 (length (take c t)) ≡ planned_from path next t 0 c
   unfolding planned_from planned_at
-  planned_taken = rw taken_length (tab_same (planned_at path next t) (planned_at path next (take c t)) 0 c (λ j a b. let l : j < c = omega arith in rw (get_or-take c t j UNPLANNED l)))
+  planned_taken = rw taken_length (tab_same (planned_at path next t) (planned_at path next (take c t)) 0 c (λ j a b. let l : j < c = omega arith in rw (get_or-take c t j no_node l)))
 
   pub within_taken : Within path t c → Within path (take c t) (length (take c t))
-  within_taken w = rw taken_length (λ j l. rw (get_or-take c t j UNPLANNED l) (w j l))
+  within_taken w = rw taken_length (λ j l. rw (get_or-take c t j no_node l) (w j l))

@@ -1,5 +1,6 @@
 -- The nodes that planned nodes stand for, and what a plan must say.
-use Rattle.std.specs.Prelude.{ℕ, ◌+◌, ◌-◌, ◌^◌, ◌≤◌, ◌<◌, min, cond, List, ◌≡◌, length, get_or, Result, Ok, Err}
+use Rattle.std.specs.Prelude.{ℕ, ◌+◌, ◌-◌, ◌^◌, ◌≤◌, ◌<◌, min, cond, List, [], ◌≡◌, length, get_or, Result, Ok, Err}
+use Rattle.std.specs.Int.{w16, w64, from_le_bytes}
 use Rattle.rules.specs.Numbers.{max_nodes}
 use Rattle.rules.specs.Tree.{Node, Made, bare}
 use Rattle.rules.specs.Instance.{Instance}
@@ -12,15 +13,25 @@ use Rattle.tables.specs.Layout.{capacity_of, count_of, next_of}
 use Rattle.tables.specs.View.{view}
 use Rattle.plan.specs.declared.Planned.{Planned}
 use Rattle.plan.specs.declared.PlannedNode.{PlannedNode}
-use Rattle.plan.specs.declared.TheConstants.{UNPLANNED}
+
+-- the parent's number of a planned node, and where its name starts in the path, of their bytes
+unfoldable pub planned_parent : PlannedNode → ℕ
+planned_parent n = from_le_bytes w64 n.parent
+
+unfoldable pub planned_start : PlannedNode → ℕ
+planned_start n = from_le_bytes w16 n.start
+
+-- no node: what is read of it is 0
+abbrev pub no_node : PlannedNode
+no_node = record { parent = []; start = []; len = 0 }
 
 -- the j-th of the planned nodes; past the last one that of no node
 abbrev pub note_at : List PlannedNode → ℕ → PlannedNode
-note_at t j = get_or t j UNPLANNED
+note_at t j = get_or t j no_node
 
 -- planned node j: its number is the next number and j more (R49)
 unfoldable pub planned_at : List ℕ → ℕ → List PlannedNode → ℕ → Node
-planned_at path next t j = bare (next + j) (note_at t j).parent (part path (note_at t j).start (note_at t j).len)
+planned_at path next t j = bare (next + j) (planned_parent (note_at t j)) (part path (planned_start (note_at t j)) (note_at t j).len)
 
 -- k planned nodes from the j-th on
 unfoldable pub planned_from : List ℕ → ℕ → List PlannedNode → ℕ → ℕ → List Node
@@ -28,7 +39,7 @@ planned_from path next t j k = tab (planned_at path next t) j k
 
 -- the names of the first k stand within the path
 abbrev pub Within : List ℕ → List PlannedNode → ℕ → Type 0
-Within path t k = (j : ℕ) → j < k → (note_at t j).start + (note_at t j).len ≤ length path
+Within path t k = (j : ℕ) → j < k → planned_start (note_at t j) + (note_at t j).len ≤ length path
 
 -- how many nodes can still be made: by N, and by the numbers up to 2^56 (R67)
 abbrev pub room_of : List ℕ → ℕ

@@ -9,49 +9,76 @@ ghost use Rattle.path.specs.Steps.{part};
 ghost use Rattle.tables.specs.Layout.{capacity_of, count_of, next_of};
 ghost use Rattle.tables.specs.View.{nodes_of};
 ghost use Rattle.tables.specs.Laid.{Bounds};
-ghost use Rattle.plan.specs.Plan.{planned_from, Within, room_of, Plans};
+ghost use Rattle.plan.specs.Plan.{planned_parent, planned_start, planned_from, Within, room_of, Plans};
 ghost use Rattle.plan.specs.Apply.{append_all};
 
 use path::components::{Component, next_component};
 use rules::codes::{VfsError, VfsResult};
 
-// A node to make: its parent's number, where its name starts in the path, and how long that is.
+// A node to make: its parent's number, where its name starts in the path, and how long that is. The first two stand as bytes, so that an array of them has no gaps.
 #[derive(Clone, Copy)]
 pub struct PlannedNode {
-    pub parent: u64,
-    pub start: u16,
+    pub parent: [u8; 8],
+    pub start: [u8; 2],
     pub len: u8,
 }
 
 // What stands in a plan's array before any node is planned.
 pub const UNPLANNED: PlannedNode = PlannedNode {
-    parent: 0,
-    start: 0,
+    parent: [0; 8],
+    start: [0; 2],
     len: 0,
 };
 
 impl PlannedNode {
+    // The node to make under that parent, with that name.
+    fn new(parent: u64, start: u16, len: u8) -> PlannedNode
+        ensures parent { planned_parent result ≡ parent }
+        ensures start { planned_start result ≡ start }
+        ensures len { result.len ≡ len }
+    {
+        PlannedNode {
+            parent: parent.to_le_bytes(),
+            start: start.to_le_bytes(),
+            len,
+        }
+    }
+
+    // Its parent's number.
+    fn parent(self) -> u64
+        ensures { result ≡ planned_parent self }
+    {
+        u64::from_le_bytes(self.parent)
+    }
+
+    // Where its name starts in the path.
+    fn start(self) -> usize
+        ensures { result ≡ planned_start self }
+    {
+        u16::from_le_bytes(self.start) as usize
+    }
+
     // Its name, a part of the path.
     fn name<'a>(self, path: &'a [u8]) -> &'a [u8]
-        requires { self.start + self.len ≤ length path.now }
-        ensures part { result.now ≡ part path.now self.start self.len }
+        requires { planned_start self + self.len ≤ length path.now }
+        ensures part { result.now ≡ part path.now (planned_start self) self.len }
         ensures short { length result.now ≤ 255 }
     {
-        let start = self.start as usize;
+        let start = self.start();
         let end = start + self.len as usize;
         &path[start..end]
     }
 
     // Whether it is the child of that name (R45).
     fn is_child(self, path: &[u8], here: u64, name: &[u8]) -> bool
-        requires { self.start + self.len ≤ length path.now }
-        ensures { result ≡ is_child here name.now (bare 0 self.parent (part path.now self.start self.len)) }
+        requires { planned_start self + self.len ≤ length path.now }
+        ensures { result ≡ is_child here name.now (bare 0 (planned_parent self) (part path.now (planned_start self) self.len)) }
     {
         let len = self.len as usize;
-        if self.parent != here || len != name.len() {
+        if self.parent() != here || len != name.len() {
             return false;
         }
-        le::runs::same_at(path, self.start as usize, name, 0, len)
+        le::runs::same_at(path, self.start(), name, 0, len)
     }
 }
 
@@ -120,7 +147,7 @@ fn up(s: &[u8], planned: &[PlannedNode], x: u64) -> u64
     }
     let next = tables::header::next(s);
     if next <= x && x - next < planned.len() as u64 {
-        return planned[(x - next) as usize].parent;
+        return planned[(x - next) as usize].parent();
     }
     rules::ROOT_ID
 }
@@ -152,11 +179,7 @@ pub fn plan_mount(
                 } else if count == most {
                     return Err(VfsError::NoRoom);
                 } else {
-                    nodes[count] = PlannedNode {
-                        parent: node,
-                        start: start as u16,
-                        len: len as u8,
-                    };
+                    nodes[count] = PlannedNode::new(node, start as u16, len as u8);
                     node = tables::header::next(s) + count as u64;
                     count += 1;
                 }
@@ -175,6 +198,6 @@ pub fn apply_plan(s: &mut [u8], path: &[u8], planned: &[PlannedNode])
     ensures { s.new ≡ append_all (planned_from path.now (next_of s.old) planned.now 0 (length planned.now)) s.old }
 {
     for n in planned {
-        tables::rows::append(s, n.parent, n.name(path));
+        tables::rows::append(s, n.parent(), n.name(path));
     }
 }

@@ -37,6 +37,19 @@ fn mount_at_end(
     mount_at(s, fs_idx, count, end.node, b)
 }
 
+// Rows 4, 5, 7 and 8 of a path that lacks a node: what it lacks is planned, in an array that no other mount has on its stack (R71, R72, R74, R75).
+#[inline(never)]
+fn mount_new(s: &mut [u8], path: &[u8], b: Backend) -> Result<Mounted, MountRefused>
+    requires s_value { laid s.old ≡ true }
+    requires path_value { too_long path.now ≡ false }
+    requires path_value_2 { rooted path.now ≡ true }
+    ensures { Follows (rooted_rule (view s.old) (request_of path.now b)) (rooted_mem (request_of path.now b) s.old) (mounted_told result) s.new }
+{
+    let mut nodes = [UNPLANNED; rules::MAX_NODES];
+    let end = plan_end(s, path, &mut nodes)?;
+    mount_at_end(s, path, end, b)
+}
+
 // Rows 4, 5, 7 and 8, of a path with leading slash: nothing is planned where the walk finds the whole path (R71, R72, R74, R75).
 pub fn mount_rooted(s: &mut [u8], path: &[u8], b: Backend) -> Result<Mounted, MountRefused>
     requires s_value { laid s.old ≡ true }
@@ -47,7 +60,5 @@ pub fn mount_rooted(s: &mut [u8], path: &[u8], b: Backend) -> Result<Mounted, Mo
     if let Some(node) = walk(s, path) {
         return mount_at_end(s, path, PathEnd { lacking: &[], node }, b);
     }
-    let mut nodes = [UNPLANNED; rules::MAX_NODES];
-    let end = plan_end(s, path, &mut nodes)?;
-    mount_at_end(s, path, end, b)
+    mount_new(s, path, b)
 }

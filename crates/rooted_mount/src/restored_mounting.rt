@@ -34,6 +34,20 @@ fn restore_mount_at_end(
     restore_mount_at(s, fs_idx, end.node, b)
 }
 
+// Rows 4, 7 and 8 of a path that lacks a node: what it lacks is planned, in an array that no other restored mount has on its stack (R91 to R95).
+#[inline(never)]
+fn restore_mount_new(s: &mut [u8], fs_idx: u8, path: &[u8], b: Backend) -> VfsResult<RestoredMount>
+    requires s_value { laid s.old ≡ true }
+    requires path_value { too_long path.now ≡ false }
+    requires path_value_2 { rooted path.now ≡ true }
+    requires le_fs_idx { 1 ≤ fs_idx }
+    ensures { Follows (restore_mount_rest (view s.old) fs_idx (request_of path.now b)) (restore_mount_rest_mem fs_idx (request_of path.now b) s.old) (restored_mount_told result) s.new }
+{
+    let mut nodes = [UNPLANNED; rules::MAX_NODES];
+    let end = plan_end(s, path, &mut nodes)?;
+    restore_mount_at_end(s, fs_idx, path, end, b)
+}
+
 // Rows 4, 7 and 8, of a path with leading slash: nothing is planned where the walk finds the whole path (R91 to R95).
 pub fn restore_mount_rooted(
     s: &mut [u8],
@@ -50,7 +64,5 @@ pub fn restore_mount_rooted(
     if let Some(node) = walk(s, path) {
         return restore_mount_at_end(s, fs_idx, path, PathEnd { lacking: &[], node }, b);
     }
-    let mut nodes = [UNPLANNED; rules::MAX_NODES];
-    let end = plan_end(s, path, &mut nodes)?;
-    restore_mount_at_end(s, fs_idx, path, end, b)
+    restore_mount_new(s, fs_idx, path, b)
 }

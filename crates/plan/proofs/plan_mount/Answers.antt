@@ -38,13 +38,13 @@ pub returns-then-count-most : goal.returns-then-count-most
 returns-then-count-most c =
     stops _ _ _ _ _ _ c.loop-c.invariant _ _ _ (step_of _ _ c.in-Some.ensures (ap Some c.in-Normal.is)) (rw (sliced _ _ _ _ _ _ c.loop-c.invariant c.requires.bounds) at c.in_default-find.ensures) c.requires.bounds (c.if-count-most.true ∙ c.room-most.ensures)
 
-pub overflow_cast-nodes : goal.overflow_cast-nodes
-overflow_cast-nodes c =
+pub overflow_cast-start : goal.overflow_cast-start
+overflow_cast-start c =
     let w = name_short _ _ _ _ _ _ c.loop-c.invariant _ _ _ (step_of _ _ c.in-Some.ensures (ap Some c.in-Normal.is)) (within_limits _ c.requires.path_value).0 in
     omega (arith, w.0)
 
-pub overflow_cast-nodes-else-count-most : goal.overflow_cast-nodes-else-count-most
-overflow_cast-nodes-else-count-most c =
+pub overflow_cast-len : goal.overflow_cast-len
+overflow_cast-len c =
     let w = name_short _ _ _ _ _ _ c.loop-c.invariant _ _ _ (step_of _ _ c.in-Some.ensures (ap Some c.in-Normal.is)) (within_limits _ c.requires.path_value).0 in
     omega (arith, w.1)
 
@@ -64,7 +64,8 @@ loop-c-smaller c =
 
 pub loop-c-preserved : goal.loop-c-preserved
 loop-c-preserved c =
-    goes_new _ _ _ _ _ _ c.loop-c.invariant _ _ _ (step_of _ _ c.in-Some.ensures (ap Some c.in-Normal.is)) (rw (sliced _ _ _ _ _ _ c.loop-c.invariant c.requires.bounds) at c.in_default-find.ensures) (omega arith) (omega arith) _ (rw c.next.ensures)
+    goes_new _ _ _ _ _ _ c.loop-c.invariant _ _ _ (step_of _ _ c.in-Some.ensures (ap Some c.in-Normal.is)) _ c.new.ensures.parent c.new.ensures.start c.new.ensures.len
+    (rw (sliced _ _ _ _ _ _ c.loop-c.invariant c.requires.bounds) at c.in_default-find.ensures) (omega arith) (omega arith) _ (rw c.next.ensures)
 
 pub returns : goal.returns
 returns c = ends _ _ _ _ _ _ c.loop-c.invariant c.requires.bounds (step_of _ _ c.in_default.ensures refl)

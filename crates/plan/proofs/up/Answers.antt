@@ -17,7 +17,7 @@ pub returns-in-Some : goal.returns-in-Some
 returns-in-Some c = λ path. c.parent.ensures ∙ up_live _ _ _ _ _ c.if-x-eq-ROOT_ID.false _ (sym c.in-Some.ensures)
 
 pub returns-then-x-next : goal.returns-then-x-next
-returns-then-x-next c = λ path. up_planned _ _ _ _ _ c.if-x-eq-ROOT_ID.false (sym c.in_default.ensures) _ c.next-next.ensures (omega arith) (omega arith)
+returns-then-x-next c = λ path. c.parent-then-x-next.ensures ∙ up_planned _ _ _ _ _ c.if-x-eq-ROOT_ID.false (sym c.in_default.ensures) _ c.next-next.ensures (omega arith) (omega arith)
 
 pub returns : goal.returns
 returns c =
