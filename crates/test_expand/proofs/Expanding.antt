@@ -1,8 +1,9 @@
 -- Laws of cells that a line names: which is named, and the line by its front. Assumes nothing.
-use Rattle.std.proofs.Common.{ℕ, ◌+◌, ◌-◌, ◌≤◌, ◌<◌, ◌≡◌, ◌≢◌, ◌⊎◌, refl, sym, ap, ◌∙◌, min, List, [], ◌∷◌, ◌++◌, length, get_or, take, drop, Some, None, arith}
+use Rattle.std.proofs.Common.{ℕ, ◌+◌, ◌-◌, ◌≤◌, ◌<◌, ◌≡◌, ◌≢◌, ◌⊎◌, refl, sym, ap, ◌∙◌, min, List, [], ◌∷◌, ◌++◌, length, get_or, take, drop, set, Some, None, arith}
 use Rattle.std.proofs.lemmas.Bool.Decides.{nat_tests}
 use Rattle.std.proofs.Math.ListN.{length-drop, length-take}
 use Rattle.std.proofs.lemmas.List.{take_min}
+use lib.Seq.{take-nil}
 use borrow.Rule.Slice.PartMut.{put_mid}
 use Rattle.rules.specs.Session.{decimal}
 use Rattle.le.proofs.Writes.{write_over, write_part, take_write}
@@ -45,6 +46,15 @@ wrote_run was s n now e f =
       within = omega arith;
       bytes = rw (t, l) (sym (write_over was (take (length was) s) (omega arith)));
     }
+
+-- one byte, where there is room for it
+pub wrote_none : (was : List ℕ) (b : ℕ) → length was ≡ 0 → Wrote was 0 (length was) (take (length was) (b ∷ [])) 0 was
+wrote_none [] b h = record { end = refl; within = omega arith; bytes = refl }
+wrote_none (a ∷ was) b h = absurd (omega arith)
+
+pub wrote_one : (was : List ℕ) (b : ℕ) → 0 < length was → Wrote was 0 (length was) (take (length was) (b ∷ [])) 1 (set was 0 b)
+wrote_one [] b h = absurd (omega arith)
+wrote_one (a ∷ was) b h = rw (take-nil (length was)) (record { end = refl; within = omega arith; bytes = refl })
 
 -- a decimal that was written apart is put as it is
 pub wrote_decimal : (was text out now : List ℕ) (k r v : ℕ) → length was ≡ 20 → Wrote was 0 20 (decimal v) k text

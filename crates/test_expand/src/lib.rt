@@ -1,12 +1,15 @@
 // A line with the numbers of cells in place of their names, `$a` to `$h`.
 #![tactic(auto)]
 
-ghost use Rattle.std.specs.Prelude.{◌≡◌, length, get_or, take};
+ghost use Rattle.std.specs.Prelude.{◌≡◌, [], ◌∷◌, length, get_or, take};
 ghost use Rattle.rules.specs.Session.{decimal};
 ghost use Rattle.decimal.specs.Wrote.{Wrote};
 ghost use Rattle.test_expand.specs.Cells.{cell_named, expanded_by};
 
 use decimal::inner::Text;
+
+// How many cells a program has, `$a` to `$h` in a line.
+pub const CELLS: usize = 8;
 
 // The cell that a `$` and a letter at the front name.
 #[tactic(auto, using(crate::proofs::Expanding::short_names_none, crate::proofs::Expanding::letter_names, crate::proofs::Expanding::other_names_none))]
@@ -35,6 +38,17 @@ fn put_run(out: &mut [u8], s: &[u8]) -> usize
     n
 }
 
+// Writes one byte at the front, where there is room for it, and answers how many.
+fn put_byte(out: &mut [u8], b: u8) -> usize
+    ensures { Wrote out.old 0 (length out.old) (take (length out.old) (b ∷ [])) result out.new }
+{
+    if out.is_empty() {
+        return 0;
+    }
+    out[0] = b;
+    1
+}
+
 // Writes a number as a decimal at the front, as much of it as there is room for, and answers how many bytes (R152).
 #[tactic(auto, using(decimal::proofs::Texts::length_decimal))]
 fn put_number(out: &mut [u8], v: u64) -> usize
@@ -59,7 +73,7 @@ pub fn expanded(line: &[u8], cells: &[u64], out: &mut [u8]) -> usize
         let room = &mut out[n..];
         let (len, behind) = match named(rest) {
             Some(k) => (put_number(room, number_at(cells, k)), &rest[2..]),
-            None => (put_run(room, &[*first]), others),
+            None => (put_byte(room, *first), others),
         };
         n += len;
         rest = behind;

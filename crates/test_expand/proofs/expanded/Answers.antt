@@ -18,7 +18,7 @@ pub loop-rest-preserved : goal.loop-rest-preserved
 loop-rest-preserved c =
     elim c.match-named.branch [
       | in-Some w ↦ rw (w.out-is, w.len-is) (part_more _ _ _ _ _ _ c.loop-rest.auto.out (line_number _ _ _ _ (sym c.named.ensures ∙ w.in-Some.is) w.number_at.ensures) w.put_number.ensures c.loop-rest.invariant)
-      | in-None w ↦ rw (w.out-is, w.len-is) (part_more _ _ _ _ _ _ c.loop-rest.auto.out (line_plain _ _ (omega arith) (sym c.named.ensures ∙ w.in-None.is)) w.put_run.ensures c.loop-rest.invariant)
+      | in-None w ↦ rw (w.out-is, w.len-is) (part_more _ _ _ _ _ _ c.loop-rest.auto.out (line_plain _ _ (omega arith) (sym c.named.ensures ∙ w.in-None.is)) w.put_byte.ensures c.loop-rest.invariant)
     ]
 
 pub returns : goal.returns
