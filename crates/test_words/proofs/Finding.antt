@@ -1,23 +1,36 @@
 -- Laws of the numbers among words: the first of them, as stores into zeros. Assumes nothing.
-use Rattle.std.proofs.Common.{ℕ, zero, suc, ◌+◌, ◌<◌, ◌≡◌, refl, sym, ap, ◌∙◌, List, [], ◌∷◌, ◌++◌, length, take, set, eqb, arith, map, get_or}
-use Rattle.std.specs.List.{slice_split, filter_map, enumerate_from}
+use Rattle.std.proofs.Common.{ℕ, zero, suc, ◌+◌, ◌<◌, ◌≡◌, refl, sym, ap, ◌∙◌, List, [], ◌∷◌, ◌++◌, length, take, set, arith, map, get_or, ◌≤◌, ◌⊎◌, Option, None, Some, MatchOption, Bor, slice_range}
+use Rattle.std.specs.List.{filter_map, enumerate_from}
 use Rattle.std.proofs.lemmas.List.FromFn.{length-enumerate_from, get_or-enumerate_from}
 use Rattle.std.proofs.Math.ListN.{length-take}
 use Rattle.rules.specs.Path.{parts_by}
-use Rattle.rules.specs.Session.{words, shown}
+use Rattle.rules.specs.Session.{space, words, shown}
+use Rattle.path.specs.Steps.{part_length, part_end}
+use Rattle.path.proofs.Words.{behind, first_part}
 use Rattle.decimal.specs.Read.{number_to}
 use Rattle.decimal.proofs.Steps.{of_width}
-use Rattle.test_words.specs.Among.{numbers_of}
+use Rattle.test_words.specs.Among.{words_left, numbers_of}
+use Rattle.test_words.proofs.Spelling.{from, from_drop}
 
 -- the largest number of 64 bits
 abbrev pub largest : ℕ
 largest = 18446744073709551615
 
--- the words as `split` gives them
-words_split : (s : List ℕ) → slice_split (λ b. eqb b 32) s ≡ words s
-unfolding parts_by
-words_split [] = refl
-words_split (b ∷ s) = rw (words_split s)
+-- a word more, up to the next space, and what is left behind that
+left_behind : (b : List ℕ) (o : Option (Bor (List ℕ)))
+    → MatchOption o ((length b < 1) ⊎ (length b < length b)) (λ x. (1 ≤ length b) × (length b ≤ length b) × (x.now ≡ slice_range b 1 (length b)) × (length x.now + 1 ≡ length b)) → behind space b ≡ words_left o
+left_behind [] None h = refl
+left_behind (a ∷ b) None h = absurd (omega arith)
+left_behind [] (Some x) h = absurd (omega (arith, h.0))
+left_behind (a ∷ b) (Some x) h = ap (parts_by space) (sym (h.2 ∙ from_drop 1 (a ∷ b)))
+
+pub words_more : (s : List ℕ) (end : ℕ) (o : Option (Bor (List ℕ))) → end ≡ part_end space s 0
+    → MatchOption o ((length (from end s) < 1) ⊎ (length (from end s) < length (from end s))) (λ x. (1 ≤ length (from end s)) × (length (from end s) ≤ length (from end s)) × (x.now ≡ slice_range (from end s) 1 (length (from end s))) × (length x.now + 1 ≡ length (from end s)))
+    → words s ≡ take end s ∷ words_left o
+unfolding part_end
+words_more s end o e h =
+    let k : part_length space s ≡ end = omega (arith, e) in
+    first_part space s ∙ rw (k, ← from_drop end s) (ap (λ (ws : List (List ℕ)). take end s ∷ ws) (left_behind (from end s) o h))
 
 -- their numbers as `filter_map` gives them
 numbers_filtered : (ws : List (List ℕ)) → filter_map (number_to largest) ws ≡ numbers_of ws
@@ -25,8 +38,8 @@ unfolding numbers_of
 numbers_filtered [] = refl
 numbers_filtered (w ∷ ws) = rw (of_width 64 largest refl w, numbers_filtered ws)
 
-pub numbers_found : (s : List ℕ) → filter_map (number_to largest) (slice_split (λ b. eqb b 32) s) ≡ numbers_of (words s)
-numbers_found s = ap (filter_map (number_to largest)) (words_split s) ∙ numbers_filtered (words s)
+pub numbers_found : (s : List ℕ) → filter_map (number_to largest) (words s) ≡ numbers_of (words s)
+numbers_found s = numbers_filtered (words s)
 
 -- ---- the first k numbers
 
