@@ -9,7 +9,7 @@ use test_steps::loops::{Loops, Turn};
 use test_words::numbers::{least, low8};
 
 // How many variables a script has, `a` to `h`; a line names one by its number, modulo this.
-pub const VARIABLES: usize = 8;
+pub const VARIABLES: usize = test_expand::CELLS;
 
 // How many bytes a script has, of each kind.
 pub const BYTES: usize = 851968;
@@ -72,7 +72,8 @@ impl Run {
 
     // The text of a line, behind the first `"`; it stays as it was where the line has none.
     fn put_text(&mut self, line: &[u8]) {
-        if let Some(mark) = line.iter().position(|b| *b == b'"') {
+        let mark = part_end(line, 0, b'"');
+        if mark < line.len() {
             self.text_len = test_words::hex::decoded(word(&line[mark + 1..]), &mut self.text);
         }
     }
@@ -144,5 +145,5 @@ impl Run {
 
 // The bytes up to the first space.
 fn word(s: &[u8]) -> &[u8] {
-    s.split(|b| *b == b' ').next().unwrap_or(s)
+    &s[..part_end(s, 0, b' ')]
 }
