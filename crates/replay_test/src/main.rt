@@ -4,6 +4,8 @@
 mod calls;
 mod told;
 
+use path::components::part_end;
+
 // The descriptors of standard input and output.
 const STDIN_FILENO: i32 = 0;
 
@@ -24,13 +26,11 @@ fn replay(input: &[u8]) {
 
 // Line after line, all on the same lent bytes.
 fn lines(input: &[u8], storage: &mut [u8], bytes: &mut [u8], out: &mut [u8]) {
-    for text in input.split_inclusive(|b| *b == b'\n') {
-        line(
-            text.strip_suffix(b"\n").unwrap_or(text),
-            storage,
-            bytes,
-            out,
-        );
+    let mut at = 0;
+    while at < input.len() {
+        let end = part_end(input, at, b'\n');
+        line(&input[at..end], storage, bytes, out);
+        at = end + 1;
     }
 }
 
@@ -38,11 +38,8 @@ fn lines(input: &[u8], storage: &mut [u8], bytes: &mut [u8], out: &mut [u8]) {
 fn line(line: &[u8], storage: &mut [u8], bytes: &mut [u8], out: &mut [u8]) {
     io::write_all(STDOUT_FILENO, line);
     io::write_all(STDOUT_FILENO, b" =");
-    let text = line
-        .iter()
-        .position(|b| *b == b'x')
-        .map_or(line.len(), |x| x + 1);
-    let n = test_words::hex::pairs(line, text, bytes);
+    let x = part_end(line, 0, b'x');
+    let n = test_words::hex::pairs(line, x + 1, bytes);
     let letter = test_words::hex::byte_at(line, 0);
     let numbers = test_words::numbers::numbers(line);
     calls::call(letter, numbers, storage, &bytes[..n], out);
