@@ -95,10 +95,8 @@ pub appended_as : {l m : Text} {a b : ℕ} {xs ys : List ℕ} → a ≤ b → xs
 appended_as {l} {m} {a} {b} h e f = record { same_slice = f.same_slice; same_length = f.same_length; wrote = subst (λ (xs : List ℕ). Wrote l.out.now l.at b xs m.at m.out.now) e (wrote_wider h f.wrote) }
 
 -- a number: its one digit, or its last one behind the others
-pub appended_one : {l m : Text} (n : ℕ) → n < 10 → Appended l 1 ((48 + n % 10) ∷ []) m → Appended l (length (decimal n)) (decimal n) m
-appended_one n h f =
-    let k : n % 10 ≡ n = omega arith in
-    rw (decimal_small n h, ← k) f
+pub appended_one : {l m : Text} (n : ℕ) → n < 10 → Appended l 1 ((48 + n) ∷ []) m → Appended l (length (decimal n)) (decimal n) m
+appended_one n h f = rw (decimal_small n h) f
 
 pub appended_next : {l m k : Text} (n : ℕ) → 10 ≤ n → n < 10 ^ 20 → Appended l (length (decimal (n / 10))) (decimal (n / 10)) m → Appended m 1 ((48 + n % 10) ∷ []) k
     → Appended l (length (decimal n)) (decimal n) k

@@ -33,9 +33,11 @@ impl<'a> Text<'a> {
         requires { HasRoom self.old (length (decimal n)) }
         ensures { Appended self.old (length (decimal n)) (decimal n) self.new }
     {
-        if 10 <= n {
-            self.put_decimal(n / 10);
+        if n < 10 {
+            self.put_byte((48 + n) as u8);
+            return;
         }
+        self.put_decimal(n / 10);
         self.put_byte((48 + n % 10) as u8);
     }
 }

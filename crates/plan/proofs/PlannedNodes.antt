@@ -4,11 +4,11 @@ use mathlib.Core.Bool.{Bool, true, false, cond, and-false}
 use mathlib.Core.List.{List, [], ◌∷◌, ◌++◌}
 use Rattle.std.specs.Prelude.{None, Some}
 use Prim.Native.Nat.{ℕ, zero, suc, ◌+◌, ◌-◌, ◌≤◌, ◌<◌}
-use native.Mathlib.Nat.{sub-zero, min-eq_left}
+use native.Mathlib.Nat.{add-zero, sub-zero, min-eq_left}
 use native.Mathlib.Omega.{arith}
 use native.Mathlib.Decide.{ℕ_discrete}
-use lib.ListN.{length, set, take, length-take}
-use lib.Seq.{get_or-set_same, get_or-set_other, get_or-take}
+use lib.ListN.{length, get_or, set, take, drop, length-take, length-drop}
+use lib.Seq.{get_or-set_same, get_or-set_other, get_or-take, get_or-drop, drop-drop, take-length}
 use lib.Dec.{eqb}
 use borrow.Author.Tests.{eq-eqb, ne_eqb}
 use Rattle.le.specs.Mem.{read}
@@ -77,6 +77,48 @@ module _ (path : List ℕ) (next : ℕ) (t : List PlannedNode) (count here : ℕ
     pub seek_none : count ≤ j → child_in (planned_from path next t 0 count) here p ≡ None
     unfolding child_in planned_from
     seek_none h = s.1 ∙ rw (tab_done (planned_at path next t) j count h)
+
+-- ---- the search by what is left: the end of the planned nodes, which decides
+
+pub record Left (path : List ℕ) (next : ℕ) (t : List PlannedNode) (here : ℕ) (p : List ℕ) (rest : List PlannedNode) : Type 0 where
+  pub few : length rest ≤ length t
+  pub end : rest ≡ drop (length t - length rest) t
+  pub seeks : Seeks path next t (length t) here p (length t - length rest)
+
+module _ (path : List ℕ) (next : ℕ) (t : List PlannedNode) (here : ℕ) (p : List ℕ) where
+  pub left_all : Left path next t here p t
+  left_all =
+      let n : length t - length t ≡ 0 = omega arith in
+      record { few = omega arith; end = rw n; seeks = rw n (seek_begins path next t (length t) here p) }
+
+  module _ (rest : List PlannedNode) (s : Left path next t here p rest) where
+    pub left_none : length rest < 1 → None ≡ child_in (planned_from path next t 0 (length t)) here p
+    left_none h = sym (seek_none path next t (length t) here p (length t - length rest) s.seeks (omega arith))
+
+    module _ (h : 1 ≤ length rest) where
+      first : get_or rest 0 no_node ≡ note_at t (length t - length rest)
+      first = ap (λ (l : List PlannedNode). get_or l 0 no_node) s.end ∙ get_or-drop (length t - length rest) t 0 no_node ∙ ap (note_at t) (add-zero (length t - length rest))
+
+      before : length t - length rest < length t
+      before = omega (arith, s.few)
+
+      pub left_within : Within path t (length t) → planned_start (get_or rest 0 no_node) + (get_or rest 0 no_node).len ≤ length path
+      left_within w = rw first (w (length t - length rest) before)
+
+      pub left_here : true ≡ is_child here p (node path (get_or rest 0 no_node)) → Some (next + (length t - length rest)) ≡ child_in (planned_from path next t 0 (length t)) here p
+      left_here e = sym (seek_here path next t (length t) here p (length t - length rest) s.seeks before (rw first at e))
+
+      -- the one behind it
+      pub left_next : (others : List PlannedNode) → others ≡ take (length rest - 1) (drop 1 rest) → false ≡ is_child here p (node path (get_or rest 0 no_node)) → Left path next t here p others
+      left_next others o e =
+          let a : others ≡ drop 1 rest = o ∙ ap (λ (k : ℕ). take k (drop 1 rest)) (sym (length-drop 1 rest)) ∙ take-length (drop 1 rest) in
+          let n : length others ≡ length rest - 1 = ap length a ∙ length-drop 1 rest in
+          let j : length t - length others ≡ length t - length rest + 1 = omega (arith, n, h, s.few) in
+          record {
+            few = omega (arith, n, s.few);
+            end = a ∙ ap (drop 1) s.end ∙ drop-drop 1 (length t - length rest) t ∙ ap (λ (k : ℕ). drop k t) (sym j);
+            seeks = rw j (seek_on path next t (length t) here p (length t - length rest) s.seeks before (rw first at e));
+          }
 
 -- ---- the planned node of a number
 

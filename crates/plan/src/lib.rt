@@ -78,7 +78,7 @@ impl PlannedNode {
         if self.parent() != here || len != name.len() {
             return false;
         }
-        le::runs::same_at(path, self.start(), name, 0, len)
+        le::runs::same_at(path, self.start(), name, 0, name.len())
     }
 }
 
@@ -99,7 +99,7 @@ pub fn room(s: &[u8]) -> usize
     numbers.min(nodes as u64) as usize
 }
 
-// The first planned child of that name (R45).
+// The first planned child of that name (R45). What is left is a slice, whose start goes on by one node: a place of 11 times the turn costs more than all else in it.
 fn find_planned(
     path: &[u8],
     planned: &[PlannedNode],
@@ -111,10 +111,12 @@ fn find_planned(
     requires within { Within path.now planned.now (length planned.now) }
     ensures { result ≡ child_in (planned_from path.now next planned.now 0 (length planned.now)) here name.now }
 {
-    for (j, n) in planned.iter().enumerate() {
+    let mut rest = planned;
+    while let [n, others @ ..] = rest {
         if n.is_child(path, here, name) {
-            return Some(next + j as u64);
+            return Some(next + (planned.len() - rest.len()) as u64);
         }
+        rest = others;
     }
     None
 }

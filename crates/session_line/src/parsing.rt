@@ -61,6 +61,7 @@ impl<'a> Fields<'a> {
     }
 
     // The next field as a number of at most max, and the fields behind it (R148, R149).
+    #[inline(always)]
     #[tactic(auto, using(crate::proofs::Forms::at_most))]
     fn number(self, max: u64) -> Option<(u64, Fields<'a>)>
         ensures read { number_next result ≡ number_first max (left self.entry) }

@@ -24,7 +24,7 @@ kept_by true u kept e = omega arith
 kept_by false true kept e = omega (arith, ltb-true kept 8192 e)
 kept_by false false kept e = omega arith
 
-kept_most : (kept b : ℕ) → byte_kept kept b ≤ 8193
+pub kept_most : (kept b : ℕ) → byte_kept kept b ≤ 8193
 unfolding byte_kept
 kept_most kept b = kept_by (eqb b 10) _ kept refl
 

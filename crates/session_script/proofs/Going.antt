@@ -1,8 +1,8 @@
 -- A piece: where its bytes so far have led, and the laws of `feed` and `finish`, a law for each return. Assumes nothing.
-use Prim.Native.Nat.{ℕ, suc, ◌+◌, ◌-◌, ◌≤◌, ◌<◌}
+use Prim.Native.Nat.{ℕ, zero, suc, ◌+◌, ◌-◌, ◌≤◌, ◌<◌}
 use native.Mathlib.Omega.{arith}
 use native.Mathlib.Numerals.{add-one}
-use native.Mathlib.Nat.{zero-add}
+use native.Mathlib.Nat.{zero-add, add-zero}
 use mathlib.Core.Path.{◌≡◌, refl, sym, ap, ◌∙◌}
 use mathlib.Core.Bool.{true, false, true≢false}
 use mathlib.Core.List.{List, [], ◌∷◌, ◌++◌}
@@ -11,19 +11,23 @@ use lib.Seq.{drop-cons}
 use lib.Dec.{eqb, ltb}
 use borrow.Author.Tests.{lt-ltb, le-ltb, le-leb, lt-leb, eq-eqb, ne_eqb}
 use Rattle.std.specs.Prelude.{Result, Ok, Err}
+use Rattle.path.specs.Steps.{part, between, part_end}
+use Rattle.path.proofs.Places.{here as byte_here}
+use Rattle.path.proofs.Words.{end_in, end_here, end_more}
 use Rattle.rules.specs.Instance.{Instance}
 use Rattle.rules.specs.declared.codes.VfsError.{VfsError}
 use Rattle.rules.specs.declared.codes.VfsError.TheVariants.{Small}
 use Rattle.decimal.specs.declared.inner.Text.{Text}
 use Rattle.rules.specs.Session.{reply_to}
 use Rattle.le.specs.Mem.{write}
-use Rattle.le.proofs.Lens.{length-write, write_append}
+use Rattle.le.proofs.Lens.{write_append}
 use Rattle.tables.specs.View.{view}
 use Rattle.tables.specs.Laid.{laid}
 use Rattle.session_calls.specs.Answered.{line_text}
-use Rattle.session_script.specs.Step.{Answers, by_bytes, by_rules, end_text, byte_text, byte_kept, Ended, Took}
+use Rattle.session_script.specs.Step.{Answers, by_bytes, by_rules, end_text, byte_text, byte_carry, byte_kept, joined_carry, joined_kept, Ended, Joined, Took}
 use Rattle.session_script.specs.Feed.{FeedGoing, start, feed_step, fed, accepts, goes, went, viewed, Feeds, last_text, last_next, end_accepts, Finishes}
-use Rattle.session_script.proofs.Carry.{length_carry, accepts_true, accepts_short, accepts_many}
+use Rattle.session_script.proofs.Bytes.{carry_none, kept_none, carry_more, kept_more, took_join}
+use Rattle.session_script.proofs.Carry.{length_carry, kept_most, accepts_true}
 use Rattle.session_script.specs.declared.Fed.{Fed}
 
 -- how far a piece has come
@@ -77,6 +81,7 @@ pub record SoFar (mem₀ carry₀ : List ℕ) (kept₀ : ℕ) (piece out₀ mem 
   pub wide : length carry ≡ length carry₀
   pub fits : 8192 ≤ length carry₀
   pub few : kept₀ ≤ 8193
+  pub most : line ≤ 8193
   pub long : length t.out.now ≡ length out₀
   pub rest : fed (List ℕ) by_bytes (length out₀) (drop i piece) (here (List ℕ) mem carry line i text) ≡ fed (List ℕ) by_bytes (length out₀) piece (start (List ℕ) mem₀ carry₀ kept₀)
   pub rules : laid mem₀ ≡ true → fed Instance by_rules (length out₀) (drop i piece) (here Instance (view mem) carry line i text) ≡ fed Instance by_rules (length out₀) piece (start Instance (view mem₀) carry₀ kept₀)
@@ -94,6 +99,7 @@ module _ (mem₀ carry₀ : List ℕ) (kept₀ : ℕ) (piece out₀ : List ℕ) 
     wide = refl;
     fits = h;
     few = k;
+    most = k;
     long = ap length o;
     rest = refl;
     rules = λ l. refl;
@@ -121,6 +127,7 @@ module _ (mem₀ carry₀ : List ℕ) (kept₀ : ℕ) (piece out₀ : List ℕ) 
           wide = ap length f.begun ∙ length_carry carry line b ∙ v.wide;
           fits = v.fits;
           few = v.few;
+          most = rw k (kept_most line b);
           long = f.text.same_length ∙ v.long;
           rest =
               sym (fed_byte (List ℕ) by_bytes (length out₀) b (drop (i + 1) piece) (drop i piece) (here (List ℕ) mem carry line i v.text) (here (List ℕ) after carried many (i + 1) (v.text ++ more)) d z
@@ -164,6 +171,33 @@ module _ (mem₀ carry₀ : List ℕ) (kept₀ : ℕ) (piece out₀ : List ℕ) 
         let n : length out₀ - length v.text < 64 = omega (arith, v.place, v.long) in
         lt-ltb (length out₀ - length v.text) 64 n in
         ends (fed_full (List ℕ) by_bytes (length out₀) _ _ (drop i piece) (here (List ℕ) mem carry line i v.text) d z) (λ l. fed_full Instance by_rules (length out₀) _ _ (drop i piece) (here Instance (view mem) carry line i v.text) d z)
+
+  so_far_at : {mem carry carry_here : List ℕ} {t : Text} {line line_here i i_here : ℕ} → carry_here ≡ carry → line_here ≡ line → i_here ≡ i
+      → SoFar mem₀ carry₀ kept₀ piece out₀ mem carry t line i → SoFar mem₀ carry₀ kept₀ piece out₀ mem carry_here t line_here i_here
+  so_far_at e f g v = rw (e, f, g) v
+
+  -- bytes with no line end among them
+  module _ (mem : List ℕ) (t : Text) (room : 64 ≤ length t.out.now - t.at) where
+    pub so_far_joined : (n : ℕ) (carry : List ℕ) (line i : ℕ) → SoFar mem₀ carry₀ kept₀ piece out₀ mem carry t line i → i + n ≤ part_end 10 piece i
+        → SoFar mem₀ carry₀ kept₀ piece out₀ mem (joined_carry carry line (part piece i n)) t (joined_kept line (part piece i n)) (i + n)
+    so_far_joined zero carry line i v h = so_far_at (carry_none carry line) (kept_none carry line v.most) (add-zero i) v
+    so_far_joined (suc n) carry line i v h =
+        let b : ℕ = get_or piece i 0 in
+        let w : i < length piece = omega (arith, end_in 10 piece i refl v.inside, h) in
+        let no : b ≡ 10 → ⊥ = λ e. omega (arith, end_here 10 piece i w e, h) in
+        let d : part piece i (suc n) ≡ b ∷ part piece (i + 1) n = ap (take (suc n)) (byte_here piece i w) in
+        let m : SoFar mem₀ carry₀ kept₀ piece out₀ mem (byte_carry carry line b) t (byte_kept line b) (i + 1) =
+        so_far_more mem carry t line i v w room b refl t mem _ _ (took_join mem carry line t b no) in
+        so_far_at (ap (joined_carry carry line) d ∙ carry_more carry line b no _) (ap (joined_kept line) d ∙ kept_more carry line b no _) (omega arith)
+        (so_far_joined n (byte_carry carry line b) (byte_kept line b) (i + 1) m (omega (arith, end_more 10 piece i w no, h)))
+
+  -- the bytes up to where the line ends, or the piece
+  module _ (mem carry : List ℕ) (t : Text) (line i : ℕ) (v : SoFar mem₀ carry₀ kept₀ piece out₀ mem carry t line i) (room : 64 ≤ length t.out.now - t.at) (end : ℕ) (e : end ≡ part_end 10 piece i)
+      (carried : List ℕ) (many : ℕ) (f : Joined carry line (between piece i end) carried many) where
+    pub joins : SoFar mem₀ carry₀ kept₀ piece out₀ mem carried t many end
+    joins =
+        let n : i + (end - i) ≡ end = omega (arith, end_in 10 piece i e v.inside) in
+        so_far_at f.begun f.keeps_many (sym n) (so_far_joined mem t room (end - i) carry line i v (omega (arith, n, e)))
 
   pub refuses : accepts carry₀ kept₀ ≡ false → Feeds mem₀ carry₀ kept₀ piece out₀ (Err Small) mem₀ carry₀ out₀
   unfolding goes start viewed

@@ -1,10 +1,11 @@
 -- One byte of a session: it ends the begun line or joins it.
-use Rattle.std.specs.Prelude.{ℕ, ◌+◌, cond, true, List, [], ◌∷◌, ◌++◌, ◌≡◌, take, set, eqb, ltb}
+use Rattle.std.specs.Prelude.{ℕ, ◌+◌, ◌-◌, min, cond, true, List, [], ◌∷◌, ◌++◌, ◌≡◌, length, take, set, eqb, ltb}
 use Rattle.rules.specs.Numbers.{max_line}
 use Rattle.rules.specs.Bytes.{ascii}
 use Rattle.rules.specs.Instance.{Instance}
 use Rattle.rules.specs.Session.{reply_to}
 use Rattle.rules.specs.Whole.{line_end}
+use Rattle.le.specs.Mem.{write}
 use Rattle.tables.specs.View.{view}
 use Rattle.tables.specs.Laid.{laid}
 use Rattle.decimal.specs.declared.inner.Text.{Text}
@@ -52,6 +53,16 @@ byte_carry carry kept b = cond (eqb b line_end) carry (cond (ltb kept max_line) 
 unfoldable pub byte_kept : ℕ → ℕ → ℕ
 byte_kept kept b = cond (eqb b line_end) 0 (cond (ltb kept max_line) (kept + 1) (max_line + 1))
 
+-- ---- bytes with no line end among them
+
+-- as many as the limit lets are kept behind those that are (R150)
+unfoldable pub joined_carry : List ℕ → ℕ → List ℕ → List ℕ
+joined_carry carry kept bytes = write carry kept (take (max_line - kept) bytes)
+
+-- how many are kept then; 8,193 says that the line is over the limit (R150)
+unfoldable pub joined_kept : ℕ → List ℕ → ℕ
+joined_kept kept bytes = min (kept + length bytes) (max_line + 1)
+
 -- ---- contracts
 
 -- the begun line answered: the text, the bytes exactly, what they stand for, and the layout rule kept
@@ -60,6 +71,11 @@ pub record Ended (mem carry : List ℕ) (kept : ℕ) (was now : Text) (after : L
   pub bytes : after ≡ end_next (List ℕ) by_bytes mem carry kept
   pub stands : laid mem ≡ true → view after ≡ end_next Instance by_rules (view mem) carry kept
   pub keeps : laid mem ≡ true → laid after ≡ true
+
+-- bytes joined: the carry and the number kept exactly
+pub record Joined (carry : List ℕ) (kept : ℕ) (bytes carried : List ℕ) (many : ℕ) : Type 0 where
+  pub begun : carried ≡ joined_carry carry kept bytes
+  pub keeps_many : many ≡ joined_kept kept bytes
 
 -- one byte taken: the text, the bytes, the carry and the number kept exactly, what the bytes stand for, and the layout rule kept
 pub record Took (mem carry : List ℕ) (kept b : ℕ) (was now : Text) (after carried : List ℕ) (many : ℕ) : Type 0 where

@@ -2,6 +2,7 @@
 #![tactic(auto)]
 
 ghost use Rattle.std.specs.Prelude.{◌≡◌, ◌≤◌, false, length, MatchResult};
+ghost use Rattle.rules.specs.Whole.{line_end};
 ghost use Rattle.decimal.specs.Text.{HasRoom};
 ghost use Rattle.session_script.specs.Step.{Ended};
 ghost use Rattle.session_script.specs.Feed.{accepts, Feeds, Finishes};
@@ -48,25 +49,31 @@ fn end_line(s: &mut [u8], carry: &[u8], kept: usize, text: &mut Text)
 }
 
 impl BegunLine<'_> {
-    ghost use Rattle.session_script.specs.Step.{Took};
+    ghost use Rattle.session_script.specs.Step.{Joined, Took};
 
-    // One more byte: it ends the line, or joins it (R150, R151).
-    fn take_byte(&mut self, s: &mut [u8], b: u8, text: &mut Text)
+    // Bytes with no line end among them join it, as many as the limit lets (R150, R151).
+    fn join(&mut self, bytes: &[u8])
+        requires in_bounds { 8192 ≤ length self.old.carry.now }
+        requires kept_bound { self.old.kept ≤ 8193 }
+        ensures same_carry { self.new.carry.ghost_name ≡ self.old.carry.ghost_name }
+        ensures joined { Joined self.old.carry.now self.old.kept bytes.now self.new.carry.now self.new.kept }
+    {
+        let at = self.kept.min(rules::MAX_LINE);
+        let fit = bytes.len().min(rules::MAX_LINE - at);
+        le::runs::copy_at(self.carry, at, &bytes[..fit]);
+        self.kept = (self.kept + bytes.len()).min(OVER);
+    }
+
+    // A line end ends it: it is answered, and the next one is begun (R137, R150, R151).
+    fn end(&mut self, s: &mut [u8], text: &mut Text)
         requires in_bounds { 8192 ≤ length self.old.carry.now }
         requires room { HasRoom text.old 64 }
         ensures same_carry { self.new.carry.ghost_name ≡ self.old.carry.ghost_name }
-        ensures took { Took s.old self.old.carry.now self.old.kept b text.old text.new s.new self.new.carry.now self.new.kept }
+        ensures took { Took s.old self.old.carry.now self.old.kept line_end text.old text.new s.new self.new.carry.now self.new.kept }
     {
         let carry = &mut *self.carry;
-        if b == LINE_END {
-            end_line(s, carry, self.kept, text);
-            self.kept = 0;
-        } else if self.kept < rules::MAX_LINE {
-            carry[self.kept] = b;
-            self.kept += 1;
-        } else {
-            self.kept = OVER;
-        }
+        end_line(s, carry, self.kept, text);
+        self.kept = 0;
     }
 }
 
@@ -82,7 +89,7 @@ fn check_begun(carry: &[u8], kept: usize) -> VfsResult<()>
     Ok(())
 }
 
-// Takes the bytes of a piece, one after another, until they are used up or the output has room for no more line; every line that ends is answered (R137, R150, R151).
+// Takes the bytes of a piece, in their order, until they are used up or the output has room for no more line; every line that ends is answered (R137, R150, R151).
 pub fn feed(
     s: &mut [u8],
     carry: &mut [u8],
@@ -96,12 +103,15 @@ pub fn feed(
     let mut line = BegunLine { carry, kept };
     let mut text = Text { out, at: 0 };
     let mut used = 0;
-    for b in piece {
-        if text.room() < ROOM {
-            break;
+    while used < piece.len() && ROOM <= text.room() {
+        if piece[used] == LINE_END {
+            line.end(s, &mut text);
+            used += 1;
+        } else {
+            let end = path::components::part_end(piece, used, LINE_END);
+            line.join(&piece[used..end]);
+            used = end;
         }
-        line.take_byte(s, *b, &mut text);
-        used += 1;
     }
     Ok(Fed {
         used,

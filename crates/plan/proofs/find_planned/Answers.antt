@@ -1,17 +1,27 @@
--- After j planned nodes that are not the child, those that are left decide.
-use mathlib.Core.Path.{sym}
-use Rattle.plan.proofs.PlannedNodes.{seek_begins, seek_here, seek_on, seek_none}
-use borrow.Author.Rules.{rules}
+-- What is left is the end of the planned nodes, and decides.
+use mathlib.Core.Path.{refl}
+use native.Mathlib.Omega.{arith}
+use lib.ListN.{length-take, length-drop}
+use Rattle.plan.proofs.PlannedNodes.{left_all, left_within, left_here, left_next, left_none}
 use Rattle.plan.proofs.find_planned.Goals as goal
 
-pub loop-j-init : goal.loop-j-init
-loop-j-init c = seek_begins _ _ _ _ _ _
+pub loop-rest-init : goal.loop-rest-init
+loop-rest-init c = left_all _ _ _ _ _
+
+pub is_child-requires : goal.is_child-requires
+is_child-requires c = left_within _ _ _ _ _ _ c.loop-rest.invariant c.in-len1-up.len_at_least c.requires.within
+
+pub overflow_sub-result : goal.overflow_sub-result
+overflow_sub-result c = c.loop-rest.invariant.few
 
 pub returns-then-is_child : goal.returns-then-is_child
-returns-then-is_child c = sym (seek_here _ _ _ _ _ _ _ c.loop-j.invariant (search rules) c.if-is_child.ensures)
+returns-then-is_child c = left_here _ _ _ _ _ _ c.loop-rest.invariant c.in-len1-up.len_at_least c.if-is_child.ensures
 
-pub loop-j-preserved : goal.loop-j-preserved
-loop-j-preserved c = seek_on _ _ _ _ _ _ _ c.loop-j.invariant (search rules) c.if-is_child.ensures
+pub loop-rest-smaller : goal.loop-rest-smaller
+loop-rest-smaller c = simp (length-take, length-drop) (omega (arith, c.in-len1-up.len_at_least))
+
+pub loop-rest-preserved : goal.loop-rest-preserved
+loop-rest-preserved c = left_next _ _ _ _ _ _ c.loop-rest.invariant c.in-len1-up.len_at_least _ refl c.if-is_child.ensures
 
 pub returns : goal.returns
-returns c = sym (seek_none _ _ _ _ _ _ _ c.loop-j.invariant (search rules))
+returns c = left_none _ _ _ _ _ _ c.loop-rest.invariant (omega arith)

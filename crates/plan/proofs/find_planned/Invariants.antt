@@ -1,7 +1,10 @@
--- After j planned nodes that are not the child, those that are left decide.
+-- What is left is the end of the planned nodes, and decides.
 use lib.ListN.{length}
-use Rattle.plan.proofs.PlannedNodes.{Seeks}
+use Rattle.plan.proofs.PlannedNodes.{Left}
 use Rattle.plan.proofs.find_planned.Given as goal
 
-abbrev pub invariant-loop-j : goal.invariant-loop-j
-invariant-loop-j l = Seeks l.path l.next l.planned (length l.planned) l.here l.name l.j
+abbrev pub invariant-loop-rest : goal.invariant-loop-rest
+invariant-loop-rest l = Left l.path l.next l.planned l.here l.name l.rest
+
+abbrev pub decreases-loop-rest : goal.decreases-loop-rest
+decreases-loop-rest l = length l.rest
